@@ -1,0 +1,53 @@
+-- What can be stored, as facts. proofs/Storable.antt gets them from the computed test.
+use Prim.Native.Nat.{ℕ, zero, suc, _^_, _<_, _≤_}
+use mathlib.Core.Path.{_≡_}
+use mathlib.Core.Logic.{_⊎_}
+use mathlib.Core.Bool.{Bool, true}
+use mathlib.Core.List.{List, [], _∷_}
+use lib.ListN.{length}
+use Rattle.format.specs.Utf8.{wellFormed}
+use Rattle.format.specs.Datatype.{Datatype, fixedPoint, floatingPoint, time, string, bitField, opaque, compound, reference, enumeration, variableLength, array, Members, noMembers, member, EnumMember, typeSize, memberCount}
+use Rattle.format.specs.Message.{bitWidths, floatWidths, timeWidths, offsetWidth}
+
+-- each number fits its width
+unfoldable pub Fit : (widths numbers : List ℕ) → Type 0
+Fit [] [] = Unit {0}
+Fit [] (n ∷ ns) = ⊥
+Fit (w ∷ ws) [] = ⊥
+Fit (w ∷ ws) (n ∷ ns) = (n < 256 ^ w) × Fit ws ns
+
+unfoldable pub NoNul : List ℕ → Type 0
+NoNul [] = Unit {0}
+NoNul (b ∷ s) = (0 < b) × NoNul s
+
+unfoldable pub AllBelow : ℕ → List ℕ → Type 0
+AllBelow k [] = Unit {0}
+AllBelow k (d ∷ ds) = (d < k) × AllBelow k ds
+
+-- names valid and without NUL, values of n bytes
+unfoldable pub StorableEnum : ℕ → List EnumMember → Type 0
+StorableEnum n [] = Unit {0}
+StorableEnum n (m ∷ ms) = NoNul (m .name) × (wellFormed (m .name) ≡ true) × (length (m .value) ≡ n) × StorableEnum n ms
+
+-- a sequence without padding and charset, or a string with both
+unfoldable pub StorableVariable : (isString padding charset : ℕ) → Type 0
+StorableVariable i a c = ((i ≡ 0) × (a ≡ 0) × (c ≡ 0)) ⊎ ((x : ℕ) × (y : ℕ) × (i ≡ 1) × (a ≡ suc x) × (c ≡ suc y) × (x < 3) × (y < 2))
+
+unfoldable mutual
+  -- storable, and carried by an edition
+  pub Storable : (edition : ℕ) → Datatype → Type 0
+  Storable e (fixedPoint n o s f q) = (0 < n) × (n < 2 ^ 32) × (o < 2) × (s < 2) × Fit bitWidths (f ∷ q ∷ [])
+  Storable e (floatingPoint n o f q el es ml ms x) = (0 < n) × (n ≤ 536870911) × (o < 3) × Fit floatWidths (f ∷ q ∷ el ∷ es ∷ ml ∷ ms ∷ x ∷ [])
+  Storable e (time n o q) = (0 < n) × (n < 2 ^ 32) × (o < 2) × Fit timeWidths (q ∷ [])
+  Storable e (string n a c) = (0 < n) × (n < 2 ^ 32) × (a < 3) × (c < 2)
+  Storable e (bitField n o f q) = (0 < n) × (n < 2 ^ 32) × (o < 2) × Fit bitWidths (f ∷ q ∷ [])
+  Storable e (opaque n g) = (0 < n) × (n < 2 ^ 32) × (length g < 256)
+  Storable e (compound n ms) = (0 < n) × (n < 2 ^ 32) × (memberCount ms < 2 ^ 16) × StorableMembers e n ms
+  Storable e (reference n k) = (0 < n) × (n < 2 ^ 32) × (k < 2)
+  Storable e (enumeration n t ms) = (0 < n) × (n < 2 ^ 32) × (length ms < 2 ^ 16) × StorableEnum (typeSize t) ms × Storable e t
+  Storable e (variableLength i a c t) = StorableVariable i a c × Storable e t
+  Storable e (array ds t) = (1 < e) × (length ds < 256) × (0 < typeSize (array ds t)) × AllBelow (2 ^ 32) ds × Storable e t
+
+  pub StorableMembers : (edition size : ℕ) → Members → Type 0
+  StorableMembers e n noMembers = Unit {0}
+  StorableMembers e n (member b o t ms) = NoNul b × (wellFormed b ≡ true) × (o < 256 ^ offsetWidth e n) × Storable e t × StorableMembers e n ms

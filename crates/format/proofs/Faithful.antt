@@ -1,0 +1,298 @@
+-- What is read is sound, whatever the bytes: no type of size 0 in it, valid names, known codes, and pool bytes that are bytes.
+use Prim.Native.Nat.{ℕ, zero, suc, _+_, _-_, _*_, _/_, _^_, _<_, _≤_, min}
+use mathlib.Core.Path.{_≡_, refl, ap, _∙_}
+use mathlib.Core.Bool.{Bool, true, false, _&&_}
+use mathlib.Core.List.{List, [], _∷_, _++_}
+use mathlib.Core.Option.{Option, none, some}
+use native.Mathlib.Omega.{arith}
+use lib.ListN.{length, getD, take, drop, length-take, length-drop}
+use lib.Seq.{take-take}
+use lib.Dec.{leb, ltb, eqb}
+use borrow.Author.Tests.{lt-ltb, leb-true, ltb-true, ne-eqb}
+use Rattle.format.specs.declared.Header.{Header}
+use Rattle.format.specs.Bytes.{AllBytes, dimensionBytes, dimensionsFrom, numberFrom}
+use Rattle.format.specs.Bits.{lowBits, highBits, bitAt, floatOrder}
+use Rattle.format.specs.Utf8.{mended, wellFormed}
+use Rattle.format.specs.Datatype.{Datatype, fixedPoint, floatingPoint, time, string, bitField, opaque, compound, reference, enumeration, variableLength, array, Members, noMembers, member, EnumMember, enumNames, enumValues, typeSize, depth, rowCount, poolBytes, memberPool}
+use Rattle.format.specs.Message.{validNames, validMemberNames, validEnumNames, permutationBytes, message, storable, carried}
+use Rattle.format.specs.Outcome.{Outcome, gives, refuses}
+use Rattle.format.specs.Reading.{Answer, got, refused, Reader, inner, readName, readMembers, readNames, readValues, readVariable, readArray, readProperties, sized, readType, Read, readOutcome, readingInto, reading}
+use Rattle.format.specs.Slots.{firstZero, memberFirstZero, zeroClass, orElse}
+use Rattle.format.specs.Table.{Kind, isFixedPoint, isFloatingPoint, isTime, isString, isBitField, isOpaque, isCompound, isReference, isEnumeration, isVariableLength, isArray, isUnknown, known, knownMembers, allBelow, WithinLimits, maxRows, maxPool}
+use Rattle.format.proofs.Booleans.{and-true}
+use Rattle.format.proofs.Bits.{bit-lt, float-order-lt, low-lt}
+use Rattle.format.proofs.Bytes.{bytes-take, bytes-drop, bytes-append, bytes-dimensions, number-below}
+use Rattle.format.proofs.Counts.{counts}
+use Rattle.format.proofs.Demand3.{ReadsBack, reads-back}
+use Rattle.format.proofs.Sure.{Sure, met, nothing, sure-then, sure-moved, sure-require, sure-bytes, sure-number, sure-numbers, sure-skip, sure-piece, sure-name, sure-header, sure-row}
+use Rattle.format.proofs.Utf8.{mended-is-well-formed, mended-bytes}
+use Rattle.format.proofs.Zeros.{dimensions-below}
+
+-- sound in all but the type's own size
+pub record Inside (t : Datatype) : Type 0 where
+  pub sizes : 0 < typeSize t → firstZero t ≡ none
+  pub names : validNames t ≡ true
+  pub codes : known t ≡ true
+  pub bytes : AllBytes (poolBytes t)
+
+pub record Sound (t : Datatype) : Type 0 where
+  pub sizes : firstZero t ≡ none
+  pub names : validNames t ≡ true
+  pub codes : known t ≡ true
+  pub bytes : AllBytes (poolBytes t)
+
+pub record SoundMembers (ms : Members) : Type 0 where
+  pub sizes : memberFirstZero ms ≡ none
+  pub names : validMemberNames ms ≡ true
+  pub codes : knownMembers ms ≡ true
+  pub bytes : AllBytes (memberPool ms)
+
+not-zero : (c n : ℕ) → 0 < n → zeroClass c n ≡ none
+unfolding zeroClass
+not-zero c n h = rw (ne-eqb n 0 (λ e. omega arith))
+
+no-bytes : AllBytes []
+unfolding AllBytes
+no-bytes = tt
+
+abbrev Reads-sound : Reader Datatype → Type 0
+Reads-sound rd = (v at : ℕ) (s : List ℕ) (r p : ℕ) → AllBytes s → Sure (λ t at′ s′ r′ p′. Sound t × AllBytes s′) (rd v at s r p)
+
+sound-inner : (rd : Reader Datatype) → Reads-sound rd → Reads-sound (inner rd)
+unfolding inner
+sound-inner rd h v at s r p b = sure-moved {Q = λ t s′ r′ p′. Sound t × AllBytes s′} at (h (length s) 0 s r p b)
+
+sound-name : (ver v at : ℕ) (s : List ℕ) (r p : ℕ) → AllBytes s
+    → Sure (λ b at′ s′ r′ p′. (wellFormed b ≡ true) × AllBytes b × AllBytes s′) (readName ver v at s r p)
+unfolding readName
+sound-name ver v at s r p h =
+    sure-then (sure-row v at s r p) λ u a1 s1 r1 p1 h1.
+    sure-then (sure-name v a1 s1 r1 p1) λ b a2 s2 r2 p2 h2.
+    sure-then (sure-piece v a2 s2 r2 p2 _) λ w a3 s3 r3 p3 h3.
+    sure-then (sure-skip v a3 s3 r3 p3 _) λ x a4 s4 r4 p4 h4.
+    let both = h2 .2 (h1 .2 h) in
+    met (mended-is-well-formed b, mended-bytes b (both .0), h4 .2 (h3 .2 (both .1)))
+
+members-sound : (b : List ℕ) (o : ℕ) (t : Datatype) (ms : Members) → wellFormed b ≡ true → AllBytes b → Sound t → SoundMembers ms → SoundMembers (member b o t ms)
+unfolding firstZero validNames known poolBytes orElse
+members-sound b o t ms h k x y =
+    record {
+      sizes = rw (x .sizes) (y .sizes);
+      names = rw (h, x .names, y .names);
+      codes = rw (x .codes, y .codes);
+      bytes = bytes-append b _ k (bytes-append (poolBytes t) _ (x .bytes) (y .bytes));
+    }
+
+no-members-sound : SoundMembers noMembers
+unfolding firstZero validNames known poolBytes
+no-members-sound = record { sizes = refl; names = refl; codes = refl; bytes = no-bytes }
+
+sound-members : (ver size n : ℕ) (rd : Reader Datatype) → Reads-sound rd → (v at : ℕ) (s : List ℕ) (r p : ℕ) → AllBytes s
+    → Sure (λ ms at′ s′ r′ p′. SoundMembers ms × AllBytes s′) (readMembers rd ver size n v at s r p)
+unfolding readMembers
+sound-members ver size zero rd h v at s r p b = met (no-members-sound, b)
+sound-members ver size (suc n) rd h v at s r p b =
+    sure-then (sound-name ver v at s r p b) λ g a1 s1 r1 p1 h1.
+    sure-then (sure-number v a1 s1 r1 p1 _) λ o a2 s2 r2 p2 h2.
+    sure-then (sure-bytes v a2 s2 r2 p2 _) λ y a3 s3 r3 p3 h3.
+    sure-then (sound-inner rd h v a3 s3 r3 p3 (h3 .3 (h2 .2 (h1 .2)) .1)) λ t a4 s4 r4 p4 h4.
+    sure-then (sound-members ver size n rd h v a4 s4 r4 p4 (h4 .1)) λ ms a5 s5 r5 p5 h5.
+    met (members-sound g o t ms (h1 .0) (h1 .1) (h4 .0) (h5 .0), h5 .1)
+
+-- names that are valid, and bytes
+data Valid : List (List ℕ) → Type 0 where
+  no-names : Valid []
+  one-name : {b : List ℕ} {bs : List (List ℕ)} → wellFormed b ≡ true → AllBytes b → Valid bs → Valid (b ∷ bs)
+
+sound-names : (ver n v at : ℕ) (s : List ℕ) (r p : ℕ) → AllBytes s → Sure (λ bs at′ s′ r′ p′. Valid bs × AllBytes s′) (readNames ver n v at s r p)
+unfolding readNames
+sound-names ver zero v at s r p h = met (no-names, h)
+sound-names ver (suc n) v at s r p h =
+    sure-then (sound-name ver v at s r p h) λ b a1 s1 r1 p1 h1.
+    sure-then (sound-names ver n v a1 s1 r1 p1 (h1 .2)) λ bs a2 s2 r2 p2 h2.
+    met (one-name (h1 .0) (h1 .1) (h2 .0), h2 .1)
+
+abbrev EnumSound : List EnumMember → Type 0
+EnumSound ms = (validEnumNames ms ≡ true) × AllBytes (enumNames ms) × AllBytes (enumValues ms)
+
+sound-values : (n : ℕ) (bs : List (List ℕ)) → Valid bs → (v at : ℕ) (s : List ℕ) (r p : ℕ) → AllBytes s
+    → Sure (λ ms at′ s′ r′ p′. EnumSound ms × AllBytes s′) (readValues n bs v at s r p)
+unfolding readValues validEnumNames enumNames enumValues
+sound-values n [] no-names v at s r p h = met ((refl, no-bytes, no-bytes), h)
+sound-values n (b ∷ bs) (one-name e f w) v at s r p h =
+    sure-then (sure-bytes v at s r p n) λ x a1 s1 r1 p1 h1.
+    sure-then (sure-piece v a1 s1 r1 p1 x) λ u a2 s2 r2 p2 h2.
+    sure-then (sound-values n bs w v a2 s2 r2 p2 (h2 .2 (h1 .3 h .1))) λ ms a3 s3 r3 p3 h3.
+    met ((and-true _ _ e (h3 .0 .0), bytes-append b _ f (h3 .0 .1), bytes-append x _ (h1 .3 h .0) (h3 .0 .2)), h3 .1)
+
+abbrev Gives-inside : Answer Datatype → Type 0
+Gives-inside x = Sure (λ t at′ s′ r′ p′. Inside t × AllBytes s′) x
+
+-- each class, from the codes that were checked and the types inside
+fixed-inside : (n o s f q : ℕ) → o < 3 → s < 2 → Inside (fixedPoint n o s f q)
+unfolding firstZero validNames known poolBytes typeSize
+fixed-inside n o s f q h k = record { sizes = not-zero 0 n; names = refl; codes = and-true _ _ (lt-ltb o 3 h) (lt-ltb s 2 k); bytes = no-bytes }
+
+float-inside : (n o f q el es ml ms x : ℕ) → o < 3 → Inside (floatingPoint n o f q el es ml ms x)
+unfolding firstZero validNames known poolBytes typeSize
+float-inside n o f q el es ml ms x h = record { sizes = not-zero 1 n; names = refl; codes = lt-ltb o 3 h; bytes = no-bytes }
+
+time-inside : (n o q : ℕ) → o < 3 → Inside (time n o q)
+unfolding firstZero validNames known poolBytes typeSize
+time-inside n o q h = record { sizes = not-zero 2 n; names = refl; codes = lt-ltb o 3 h; bytes = no-bytes }
+
+string-inside : (n a c : ℕ) → a < 3 → c < 2 → Inside (string n a c)
+unfolding firstZero validNames known poolBytes typeSize
+string-inside n a c h k = record { sizes = not-zero 3 n; names = refl; codes = and-true _ _ (lt-ltb a 3 h) (lt-ltb c 2 k); bytes = no-bytes }
+
+bit-inside : (n o f q : ℕ) → o < 3 → Inside (bitField n o f q)
+unfolding firstZero validNames known poolBytes typeSize
+bit-inside n o f q h = record { sizes = not-zero 4 n; names = refl; codes = lt-ltb o 3 h; bytes = no-bytes }
+
+opaque-inside : (n : ℕ) (g : List ℕ) → AllBytes g → Inside (opaque n g)
+unfolding firstZero validNames known poolBytes typeSize
+opaque-inside n g h = record { sizes = not-zero 5 n; names = refl; codes = refl; bytes = h }
+
+compound-inside : (n : ℕ) (ms : Members) → SoundMembers ms → Inside (compound n ms)
+unfolding firstZero validNames known poolBytes typeSize orElse
+compound-inside n ms h = record { sizes = λ k. rw (not-zero 6 n k) (h .sizes); names = h .names; codes = h .codes; bytes = h .bytes }
+
+reference-inside : (n k : ℕ) → k < 2 → Inside (reference n k)
+unfolding firstZero validNames known poolBytes typeSize
+reference-inside n k h = record { sizes = not-zero 7 n; names = refl; codes = lt-ltb k 2 h; bytes = no-bytes }
+
+enumeration-inside : (n : ℕ) (t : Datatype) (ms : List EnumMember) → Sound t → EnumSound ms → Inside (enumeration n t ms)
+unfolding firstZero validNames known poolBytes typeSize orElse
+enumeration-inside n t ms h k =
+    record {
+      sizes = λ l. rw (not-zero 8 n l) (h .sizes);
+      names = and-true _ _ (k .0) (h .names);
+      codes = h .codes;
+      bytes = bytes-append (poolBytes t) _ (h .bytes) (bytes-append (enumNames ms) _ (k .1) (k .2));
+    }
+
+variable-inside : (i a c : ℕ) (t : Datatype) → i < 2 → a < 4 → c < 3 → Sound t → Inside (variableLength i a c t)
+unfolding firstZero validNames known poolBytes typeSize
+variable-inside i a c t hi ha hc h =
+    record {
+      sizes = λ l. h .sizes;
+      names = h .names;
+      codes = and-true _ _ (lt-ltb i 2 hi) (and-true _ _ (lt-ltb a 4 ha) (and-true _ _ (lt-ltb c 3 hc) (h .codes)));
+      bytes = h .bytes;
+    }
+
+array-inside : (ds : List ℕ) (t : Datatype) → allBelow 4294967296 ds ≡ true → Sound t → Inside (array ds t)
+unfolding firstZero validNames known poolBytes orElse
+array-inside ds t k h =
+    record {
+      sizes = λ l. rw (not-zero 10 (typeSize (array ds t)) l) (h .sizes);
+      names = h .names;
+      codes = and-true _ _ k (h .codes);
+      bytes = bytes-append (dimensionBytes ds) _ (bytes-dimensions ds) (h .bytes);
+    }
+
+sound-variable : (rd : Reader Datatype) → Reads-sound rd → (h : Header) (c : Bool) (v at : ℕ) (s : List ℕ) (r p : ℕ) → AllBytes s
+    → Gives-inside (readVariable rd h c v at s r p)
+unfolding readVariable
+sound-variable rd i h true v at s r p b =
+    sure-then (sure-require v at s r p _ _) λ u a1 s1 r1 p1 h1.
+    sure-then (sure-require v a1 s1 r1 p1 _ _) λ u a2 s2 r2 p2 h2.
+    sure-then (sound-inner rd i v a2 s2 r2 p2 (h2 .3 (h1 .3 b))) λ t a3 s3 r3 p3 h3.
+    met (variable-inside 1 (suc (highBits 4 (h .f0))) (suc (lowBits 4 (h .f1))) t (omega arith) (omega (arith, leb-true (highBits 4 (h .f0)) 2 (h1 .0))) (omega (arith, leb-true (lowBits 4 (h .f1)) 1 (h2 .0))) (h3 .0), h3 .1)
+sound-variable rd i h false v at s r p b =
+    sure-then (sound-inner rd i v at s r p b) λ t a1 s1 r1 p1 h1.
+    met (variable-inside 0 0 0 t (omega arith) (omega arith) (omega arith) (h1 .0), h1 .1)
+
+sound-array : (rd : Reader Datatype) → Reads-sound rd → (ver v at : ℕ) (s : List ℕ) (r p : ℕ) → AllBytes s → Gives-inside (readArray rd ver v at s r p)
+unfolding readArray
+sound-array rd i ver v at s r p b =
+    sure-then (sure-bytes v at s r p _) λ x a1 s1 r1 p1 h1.
+    sure-then (sure-bytes v a1 s1 r1 p1 _) λ g a2 s2 r2 p2 h2.
+    let read = h2 .3 (h1 .3 b .1) in
+    sure-then (sure-piece v a2 s2 r2 p2 _) λ w a3 s3 r3 p3 h3.
+    sure-then (sound-inner rd i v a3 s3 r3 p3 (h3 .2 (read .1))) λ t a4 s4 r4 p4 h4.
+    met (array-inside _ t (dimensions-below (getD x 0 0) g (read .0)) (h4 .0), h4 .1)
+
+sound-properties : (rd : Reader Datatype) → Reads-sound rd → (h : Header) (c : Kind) (v at : ℕ) (s : List ℕ) (r p : ℕ) → AllBytes s
+    → Gives-inside (readProperties rd h c v at s r p)
+unfolding readProperties
+sound-properties rd i h isFixedPoint v at s r p b =
+    sure-then (sure-numbers v at s r p _) λ x a1 s1 r1 p1 h1.
+    met (fixed-inside (h .size) (bitAt 0 (h .f0)) (bitAt 3 (h .f0)) _ _ (omega (arith, bit-lt 0 (h .f0))) (bit-lt 3 (h .f0)), h1 .2 b)
+sound-properties rd i h isFloatingPoint v at s r p b =
+    sure-then (sure-numbers v at s r p _) λ x a1 s1 r1 p1 h1.
+    met (float-inside (h .size) (floatOrder (h .f0)) _ _ _ _ _ _ _ (float-order-lt (h .f0)), h1 .2 b)
+sound-properties rd i h isTime v at s r p b =
+    sure-then (sure-numbers v at s r p _) λ x a1 s1 r1 p1 h1.
+    met (time-inside (h .size) (bitAt 0 (h .f0)) _ (omega (arith, bit-lt 0 (h .f0))), h1 .2 b)
+sound-properties rd i h isString v at s r p b =
+    sure-then (sure-require v at s r p _ _) λ u a1 s1 r1 p1 h1.
+    sure-then (sure-require v a1 s1 r1 p1 _ _) λ u a2 s2 r2 p2 h2.
+    met (string-inside (h .size) (lowBits 4 (h .f0)) (highBits 4 (h .f0)) (omega (arith, leb-true (lowBits 4 (h .f0)) 2 (h1 .0))) (omega (arith, leb-true (highBits 4 (h .f0)) 1 (h2 .0))), h2 .3 (h1 .3 b))
+sound-properties rd i h isBitField v at s r p b =
+    sure-then (sure-numbers v at s r p _) λ x a1 s1 r1 p1 h1.
+    met (bit-inside (h .size) (bitAt 0 (h .f0)) _ _ (omega (arith, bit-lt 0 (h .f0))), h1 .2 b)
+sound-properties rd i h isOpaque v at s r p b =
+    sure-then (sure-bytes v at s r p _) λ g a1 s1 r1 p1 h1.
+    sure-then (sure-piece v a1 s1 r1 p1 g) λ w a2 s2 r2 p2 h2.
+    sure-then (sure-skip v a2 s2 r2 p2 _) λ w a3 s3 r3 p3 h3.
+    let read = h1 .3 b in
+    met (opaque-inside (h .size) g (read .0), h3 .2 (h2 .2 (read .1)))
+sound-properties rd i h isCompound v at s r p b =
+    sure-then (sure-require v at s r p _ _) λ u a1 s1 r1 p1 h1.
+    sure-then (sure-require v a1 s1 r1 p1 _ _) λ u a2 s2 r2 p2 h2.
+    sure-then (sound-members _ _ _ rd i v a2 s2 r2 p2 (h2 .3 (h1 .3 b))) λ ms a3 s3 r3 p3 h3.
+    met (compound-inside (h .size) ms (h3 .0), h3 .1)
+sound-properties rd i h isReference v at s r p b =
+    sure-then (sure-require v at s r p _ _) λ u a1 s1 r1 p1 h1.
+    met (reference-inside (h .size) (lowBits 4 (h .f0)) (omega (arith, leb-true (lowBits 4 (h .f0)) 1 (h1 .0))), h1 .3 b)
+sound-properties rd i h isEnumeration v at s r p b =
+    sure-then (sound-inner rd i v at s r p b) λ t a1 s1 r1 p1 h1.
+    sure-then (sound-names _ _ v a1 s1 r1 p1 (h1 .1)) λ bs a2 s2 r2 p2 h2.
+    sure-then (sound-values _ bs (h2 .0) v a2 s2 r2 p2 (h2 .1)) λ ms a3 s3 r3 p3 h3.
+    met (enumeration-inside (h .size) t ms (h1 .0) (h3 .0), h3 .1)
+sound-properties rd i h isVariableLength v at s r p b = sound-variable rd i h _ v at s r p b
+sound-properties rd i h isArray v at s r p b =
+    sure-then (sure-require v at s r p _ _) λ u a1 s1 r1 p1 h1.
+    sure-then (sure-require v a1 s1 r1 p1 _ _) λ u a2 s2 r2 p2 h2.
+    sound-array rd i _ v a2 s2 r2 p2 (h2 .3 (h1 .3 b))
+sound-properties rd i h isUnknown v at s r p b = nothing
+
+sound-type : (l k : ℕ) → Reads-sound (readType l k)
+unfolding readType sized
+sound-type l zero v at s r p b = nothing
+sound-type l (suc k) v at s r p b =
+    sure-then (sure-row v at s r p) λ u a1 s1 r1 p1 h1.
+    sure-then (sure-header v a1 s1 r1 p1 l) λ h a2 s2 r2 p2 h2.
+    sure-then (sound-properties (readType l k) (sound-type l k) h _ v a2 s2 r2 p2 (h2 .2 (h1 .2 b))) λ t a3 s3 r3 p3 h3.
+    sure-then (sure-require v a3 s3 r3 p3 _ _) λ w a4 s4 r4 p4 h4.
+    let i = h3 .0 in
+    met (record { sizes = i .sizes (ltb-true 0 _ (h4 .0)); names = i .names; codes = i .codes; bytes = i .bytes }, h4 .3 (h3 .1))
+
+-- what every reading gives, whatever the bytes
+pub record Faithful (n m : ℕ) (t : Datatype) : Type 0 where
+  pub within : WithinLimits t
+  pub table-holds : 16 * rowCount t ≤ n
+  pub pool-holds : length (poolBytes t) ≤ m
+  pub sound : Sound t
+
+from-answer : (n m : ℕ) (x : Answer Datatype) (y : Read)
+    → Sure (λ t at′ s′ r′ p′. (min (n / 16) maxRows ≡ rowCount t + r′) × (min m maxPool ≡ length (poolBytes t) + p′) × (depth t ≤ 32)) x
+    → Sure (λ t at′ s′ r′ p′. Sound t × AllBytes s′) x → readOutcome x ≡ gives y → Faithful n m (y .type)
+unfolding readOutcome
+from-answer n m (refused e) y h k q = absurd (let z : _≡_ {A = ℕ} 0 1 = cc in omega arith)
+from-answer n m (got t at s r p) y (met h) (met k) q =
+    let e : t ≡ y .type = cc in
+    rw (← e) (record { within = record { levels = h .2; rows-fit = omega arith; pool-fits = omega arith }; table-holds = omega arith; pool-holds = omega arith; sound = k .0 })
+
+pub reading-faithful : (l n m : ℕ) (s : List ℕ) (y : Read) → AllBytes s → reading l n m s ≡ gives y → Faithful n m (y .type)
+unfolding reading readingInto
+reading-faithful l n m s y b e =
+    from-answer n m _ y (counts l 32 (length s) 0 s (min (n / 16) maxRows) (min m maxPool)) (sound-type l 32 (length s) 0 s _ _ b) e
+
+-- a storable type that was read and is written again in an edition that carries it reads as the same type, in the same room
+pub read-again : (e l n m : ℕ) (s behind : List ℕ) (y : Read) → AllBytes s → reading l n m s ≡ gives y → 0 < e → e ≤ 3 → storable (y .type) ≡ true → carried e (y .type) ≡ true
+    → ReadsBack 3 n m (y .type) (message e (y .type) ++ behind) (length (message e (y .type)))
+read-again e l n m s behind y b h lo hi st ca =
+    let f = reading-faithful l n m s y b h in
+    reads-back e 3 n m (y .type) behind lo hi (omega arith) hi st ca (f .within) (f .table-holds) (f .pool-holds)

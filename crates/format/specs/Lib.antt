@@ -1,0 +1,11 @@
+pub mod Bytes
+pub mod Bits
+pub mod Utf8
+pub mod Outcome
+pub mod Datatype
+pub mod Table
+pub mod Message
+pub mod Reading
+pub mod Sizes
+pub mod Slots
+pub mod Ownership

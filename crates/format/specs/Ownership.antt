@@ -1,0 +1,125 @@
+-- Which places of a record a field owns, and when two records are the same.
+use Prim.Native.Nat.{ℕ, zero, suc, _+_, _-_, _*_, _<_, _≤_}
+use mathlib.Core.Path.{_≡_}
+use mathlib.Core.Logic.{_⊎_}
+use mathlib.Core.Bool.{Bool, true, false, cond, not, _&&_, _||_}
+use mathlib.Core.List.{List, [], _∷_, _++_}
+use lib.ListN.{length, getD}
+use lib.Dec.{leb, ltb, eqb}
+use Rattle.refusal.specs.declared.Refusal.the-variants.{OutsideRecord, HeapHeld, WrongLength}
+use Rattle.format.specs.Datatype.{Datatype, fixedPoint, floatingPoint, time, string, bitField, opaque, compound, reference, enumeration, variableLength, array, Members, noMembers, member, typeSize, product, maxSize}
+use Rattle.format.specs.Outcome.{Outcome, gives, refuses, whenGiven, unless}
+use Rattle.format.specs.Slots.{firstZero, unlessZero}
+use Rattle.format.specs.Table.{typeOf}
+
+unfoldable mutual
+  -- "A field is a type other than a compound or an array, reached through these only: the outermost type itself, a member's or an
+  -- entry's." The field lies at a place of the record; entry k of an array at k base sizes.
+  pub FieldAt : Datatype → (field : Datatype) (place : ℕ) → Type 0
+  FieldAt (fixedPoint n o s f q) x p = (x ≡ fixedPoint n o s f q) × (p ≡ 0)
+  FieldAt (floatingPoint n o f q el es ml ms b) x p = (x ≡ floatingPoint n o f q el es ml ms b) × (p ≡ 0)
+  FieldAt (time n o q) x p = (x ≡ time n o q) × (p ≡ 0)
+  FieldAt (string n a c) x p = (x ≡ string n a c) × (p ≡ 0)
+  FieldAt (bitField n o f q) x p = (x ≡ bitField n o f q) × (p ≡ 0)
+  FieldAt (opaque n g) x p = (x ≡ opaque n g) × (p ≡ 0)
+  FieldAt (compound n ms) x p = MemberFieldAt ms x p
+  FieldAt (reference n k) x p = (x ≡ reference n k) × (p ≡ 0)
+  FieldAt (enumeration n t ms) x p = (x ≡ enumeration n t ms) × (p ≡ 0)
+  FieldAt (variableLength i a c t) x p = (x ≡ variableLength i a c t) × (p ≡ 0)
+  FieldAt (array ds t) x p = (k : ℕ) × (q : ℕ) × (k < product ds) × (p ≡ k * typeSize t + q) × FieldAt t x q
+
+  pub MemberFieldAt : Members → (field : Datatype) (place : ℕ) → Type 0
+  MemberFieldAt noMembers x p = ⊥
+  MemberFieldAt (member b o t ms) x p = ((q : ℕ) × (p ≡ o + q) × FieldAt t x q) ⊎ MemberFieldAt ms x p
+
+-- "all other types own all their bytes": place i is one of a field's bytes; overlaps are united
+pub record Owned (t : Datatype) (i : ℕ) : Type 0 where
+  pub field : Datatype
+  pub place : ℕ
+  pub reached : FieldAt t field place
+  pub from : place ≤ i
+  pub below : i < place + typeSize field
+
+-- a test holds at a place behind the start of one of the first n entries
+unfoldable pub inEntries : (ℕ → Bool) → (stride n i : ℕ) → Bool
+inEntries f stride zero i = false
+inEntries f stride (suc n) i = (leb (n * stride) i && f (i - n * stride)) || inEntries f stride n i
+
+unfoldable mutual
+  -- the same as a test: "A compound owns its members' bytes at their offsets, overlaps united; an array owns its base's at each stride"
+  pub owned : Datatype → ℕ → Bool
+  owned (fixedPoint n o s f q) i = ltb i n
+  owned (floatingPoint n o f q el es ml ms x) i = ltb i n
+  owned (time n o q) i = ltb i n
+  owned (string n a c) i = ltb i n
+  owned (bitField n o f q) i = ltb i n
+  owned (opaque n g) i = ltb i n
+  owned (compound n ms) i = memberOwned ms i
+  owned (reference n k) i = ltb i n
+  owned (enumeration n t ms) i = ltb i n
+  owned (variableLength x a c t) i = ltb i 16
+  owned (array ds t) i = inEntries (owned t) (typeSize t) (product ds) i
+
+  pub memberOwned : Members → ℕ → Bool
+  memberOwned noMembers i = false
+  memberOwned (member b o t ms) i = (leb o i && owned t (i - o)) || memberOwned ms i
+
+unfoldable mutual
+  -- refusal 16: "a member ends past its compound, or an array's true size passes 4,294,967,295", in any row
+  pub outside : Datatype → Bool
+  outside (fixedPoint n o s f q) = false
+  outside (floatingPoint n o f q el es ml ms x) = false
+  outside (time n o q) = false
+  outside (string n a c) = false
+  outside (bitField n o f q) = false
+  outside (opaque n g) = false
+  outside (compound n ms) = memberOutside n ms
+  outside (reference n k) = false
+  outside (enumeration n t ms) = outside t
+  outside (variableLength i a c t) = outside t
+  outside (array ds t) = ltb maxSize (typeSize t * product ds) || outside t
+
+  pub memberOutside : (size : ℕ) → Members → Bool
+  memberOutside n noMembers = false
+  memberOutside n (member b o t ms) = ltb n (o + typeSize t) || (outside t || memberOutside n ms)
+
+unfoldable mutual
+  -- refusal 17: "holding, at any level, a variable-length type or region reference"
+  pub heapHeld : Datatype → Bool
+  heapHeld (fixedPoint n o s f q) = false
+  heapHeld (floatingPoint n o f q el es ml ms x) = false
+  heapHeld (time n o q) = false
+  heapHeld (string n a c) = false
+  heapHeld (bitField n o f q) = false
+  heapHeld (opaque n g) = false
+  heapHeld (compound n ms) = memberHeapHeld ms
+  heapHeld (reference n k) = eqb k 1
+  heapHeld (enumeration n t ms) = heapHeld t
+  heapHeld (variableLength i a c t) = true
+  heapHeld (array ds t) = heapHeld t
+
+  pub memberHeapHeld : Members → Bool
+  memberHeapHeld noMembers = false
+  memberHeapHeld (member b o t ms) = heapHeld t || memberHeapHeld ms
+
+-- the records agree at each of n places from i on that a field owns
+unfoldable pub agreeFrom : Datatype → (a b : List ℕ) (i n : ℕ) → Bool
+agreeFrom t a b i zero = true
+agreeFrom t a b i (suc n) = (not (owned t i) || eqb (getD a i 0) (getD b i 0)) && agreeFrom t a b (suc i) n
+
+-- "both records are looked at in the same places"
+unfoldable pub agree : Datatype → (a b : List ℕ) → Bool
+agree t a b = agreeFrom t a b 0 (typeSize t)
+
+-- "A type is admitted to comparison if none of refusals 1, 12, 16 and 17 meets it"
+unfoldable pub admitting : {A : Type 0} → Datatype → Outcome A → Outcome A
+admitting t x = unlessZero (firstZero t) (unless (not (outside t)) OutsideRecord (unless (not (heapHeld t)) HeapHeld x))
+
+-- "a whole record has exactly the type's size in bytes"; true is same
+unfoldable pub comparingRecords : (a b : List ℕ) → Datatype → Outcome Bool
+comparingRecords a b t =
+    admitting t (unless (eqb (length a) (typeSize t) && eqb (length b) (typeSize t)) WrongLength (gives (agree t a b)))
+
+-- refusals 1, 12, 16, 17 and 18, in this order, then same or not
+unfoldable pub comparing : (table pool a b : List ℕ) → Outcome Bool
+comparing table pool a b = whenGiven (typeOf table pool) (comparingRecords a b)
