@@ -1,0 +1,80 @@
+use Rattle.names.proofs.Storing.{sets-take, all-past, all-in}
+use mathlib.Core.Path.{_≡_, refl, ap, _∙_}
+use mathlib.Core.List.{List}
+use Prim.Native.Nat.{ℕ, _+_, _-_, _≤_}
+use native.Mathlib.Omega.{arith}
+use lib.ListN.{length, take, set, getD}
+use lib.Seq.{sets, length-sets}
+use Rattle.names.proofs.store.Statement.{statement}
+use Rattle.names.proofs.store.Tie as tie
+
+abbrev Inv-loop : tie.InvT-loop
+Inv-loop pool₀ pos room n bytes i₀ pool i = (i ≤ n) × (pool ≡ sets pool₀ pos (take i bytes))
+
+abbrev μ-loop : tie.MeasureT-loop
+μ-loop pool₀ pos room n bytes i₀ pool i = n - i
+
+add-if1 : tie.Need-add-if1 Inv-loop μ-loop
+add-if1 c = omega arith
+
+add-result : tie.Need-add-result Inv-loop μ-loop
+add-result c = omega arith
+
+returns : tie.Need-returns Inv-loop μ-loop
+returns c = search all-past
+
+loop-holds : tie.Need-loop-holds Inv-loop μ-loop
+loop-holds c = (omega arith, refl)
+
+array-read-pool : tie.Need-array-read-pool Inv-loop μ-loop
+array-read-pool c = omega arith
+
+add-pool : tie.Need-add-pool Inv-loop μ-loop
+add-pool c = omega arith
+
+slice-write-pool : tie.Need-slice-write-pool Inv-loop μ-loop
+slice-write-pool c = let a = c .before .before .before .args in omega (arith, ap length (c .before .loop .inv .1), length-sets (a .pool .now) (a .pos) (take (c .before .loop .i) (a .t4)))
+
+add-i : tie.Need-add-i Inv-loop μ-loop
+add-i c = omega arith
+
+loop-less : tie.Need-loop-less Inv-loop μ-loop
+loop-less c = omega arith
+
+loop-again : tie.Need-loop-again Inv-loop μ-loop
+loop-again c =
+    let l = c .before .loop in
+    let a = c .before .before .before .args in (
+      omega arith,
+      ap (λ (p : List ℕ). set p (a .pos + l .i) (getD (a .t4) (l .i) 0)) (l .inv .1)
+          ∙ sets-take (a .t4) (a .pool .now) (a .pos) (l .i) (omega arith),
+    )
+
+add-result-2 : tie.Need-add-result-2 Inv-loop μ-loop
+add-result-2 c = omega arith
+
+same-length : tie.Need-same-length Inv-loop μ-loop
+same-length c = ap length (c .before .loop .inv .1) ∙ simp length-sets
+
+returns-2 : tie.Need-returns-2 Inv-loop μ-loop
+returns-2 c = search all-in
+
+pub store-spec : {M : Type 1} → statement M
+store-spec =
+    tie.close
+    (tie.spec
+    Inv-loop
+    μ-loop
+    add-if1
+    add-result
+    returns
+    loop-holds
+    array-read-pool
+    add-pool
+    slice-write-pool
+    add-i
+    loop-less
+    loop-again
+    add-result-2
+    same-length
+    returns-2)

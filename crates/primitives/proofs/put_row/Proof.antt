@@ -1,0 +1,77 @@
+use Prim.Native.Nat.{ℕ, _+_, _-_, _*_, _≤_, _<_}
+use mathlib.Core.Path.{_≡_, refl, ap, _∙_}
+use mathlib.Core.List.{List}
+use native.Mathlib.Omega.{arith}
+use lib.ListN.{length, take, set, getD}
+use lib.Seq.{sets, length-sets, take-all}
+use Rattle.primitives.proofs.Laws.{sets-take}
+use Rattle.primitives.proofs.put_row.Statement.{statement}
+use Rattle.primitives.proofs.put_row.Tie as tie
+
+abbrev Inv-loop : tie.InvT-loop
+Inv-loop table₀ row words at i₀ table i = ((i ≤ 16) × (length words ≡ 16)) × (table ≡ sets table₀ (row * 16) (take i words))
+
+abbrev μ-loop : tie.MeasureT-loop
+μ-loop table₀ row words at i₀ table i = 16 - i
+
+mul-at : tie.Need-mul-at Inv-loop μ-loop
+mul-at c = omega arith
+
+loop-holds : tie.Need-loop-holds Inv-loop μ-loop
+loop-holds c = ((omega arith, c .pre .1), refl)
+
+mul-table : tie.Need-mul-table Inv-loop μ-loop
+mul-table c = omega arith
+
+array-read-table : tie.Need-array-read-table Inv-loop μ-loop
+array-read-table c = omega arith
+
+add-table : tie.Need-add-table Inv-loop μ-loop
+add-table c = omega arith
+
+mul-table-2 : tie.Need-mul-table-2 Inv-loop μ-loop
+mul-table-2 c = omega arith
+
+slice-write-table : tie.Need-slice-write-table Inv-loop μ-loop
+slice-write-table c = let a = c .before .before .args in omega (arith, ap length (c .before .loop .inv .1), length-sets (a .table .now) (a .row * 16) (take (c .before .loop .i) (a .t3)))
+
+add-i : tie.Need-add-i Inv-loop μ-loop
+add-i c = omega arith
+
+loop-less : tie.Need-loop-less Inv-loop μ-loop
+loop-less c = omega arith
+
+loop-again : tie.Need-loop-again Inv-loop μ-loop
+loop-again c =
+    let a = c .before .before .args in
+    let l = c .before .loop in
+    let short : l .i < length (a .t3) = omega arith in
+    ((omega arith, l .inv .0 .1), ap (λ (x : List ℕ). set x (a .row * 16 + l .i) (getD (a .t3) (l .i) 0)) (l .inv .1) ∙ sets-take (a .t3) (a .table .now) (a .row * 16) (l .i) short)
+
+same-length : tie.Need-same-length Inv-loop μ-loop
+same-length c = ap length (c .before .loop .inv .1) ∙ simp length-sets
+
+returns : tie.Need-returns Inv-loop μ-loop
+returns c =
+    let a = c .before .before .args in
+    let l = c .before .loop in
+    l .inv .1 ∙ ap (sets (a .table .now) (a .row * 16)) (take-all (l .i) (a .t3) (omega arith))
+
+pub put-row-spec : {M : Type 1} → statement M
+put-row-spec =
+    tie.close
+    (tie.spec
+    Inv-loop
+    μ-loop
+    mul-at
+    loop-holds
+    mul-table
+    array-read-table
+    add-table
+    mul-table-2
+    slice-write-table
+    add-i
+    loop-less
+    loop-again
+    same-length
+    returns)

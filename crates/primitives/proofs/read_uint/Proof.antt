@@ -1,0 +1,78 @@
+use Prim.Native.Nat.{_+_, _-_, _^_, _≤_, _<_}
+use mathlib.Core.Path.{_≡_, refl}
+use native.Mathlib.Omega.{arith}
+use lib.ListN.{take, drop}
+use borrow.Author.Needs.{needs}
+use Rattle.format.specs.Bytes.{numberFrom}
+use Rattle.primitives.proofs.Laws.{number-more, number-ended, byte-room, byte-more}
+use Rattle.primitives.proofs.read_uint.Statement.{statement}
+use Rattle.primitives.proofs.read_uint.Tie as tie
+
+abbrev Inv-loop : tie.InvT-loop
+Inv-loop «data» offset width value₀ i₀ value i = (i ≤ width) × ((value < 256 ^ i) × (value ≡ numberFrom (take i (drop (offset + (width - i)) «data»))))
+
+abbrev μ-loop : tie.MeasureT-loop
+μ-loop «data» offset width value₀ i₀ value i = width - i
+
+loop-holds : tie.Need-loop-holds Inv-loop μ-loop
+unfolding numberFrom
+loop-holds c = (omega arith, (omega arith, refl))
+
+add-i : tie.Need-add-i Inv-loop μ-loop
+add-i c = omega arith
+
+mul-value : tie.Need-mul-value Inv-loop μ-loop
+mul-value c = omega (arith, byte-room (c .before .loop .i) (omega arith))
+
+sub-wide32 : tie.Need-sub-wide32 Inv-loop μ-loop
+sub-wide32 c = omega arith
+
+add-wide32 : tie.Need-add-wide32 Inv-loop μ-loop
+add-wide32 c = omega arith
+
+shared-slice-read-wide32 : tie.Need-shared-slice-read-wide32 Inv-loop μ-loop
+shared-slice-read-wide32 c = omega arith
+
+wide32-requires : tie.Need-wide32-requires Inv-loop μ-loop
+wide32-requires c κs = search needs
+
+add-value : tie.Need-add-value Inv-loop μ-loop
+add-value c = omega (arith, byte-room (c .before .before .before .loop .i) (omega arith))
+
+loop-less : tie.Need-loop-less Inv-loop μ-loop
+loop-less c = omega arith
+
+loop-again : tie.Need-loop-again Inv-loop μ-loop
+loop-again c =
+    let a = c .before .before .before .before .before .args in
+    let l = c .before .before .before .loop in (
+      omega arith,
+      (
+        byte-more (l .i) (l .value) (c .wide32 .result) (c .wide32 .ensures .1) (l .inv .1 .0),
+        rw (c .wide32 .ensures .0) (number-more (a .«data» .now) (a .offset) (a .width) (l .i) (l .value) (omega arith) (omega arith) (l .inv .1 .1)),
+      ),
+    )
+
+returns : tie.Need-returns Inv-loop μ-loop
+returns c =
+    let a = c .before .before .before .args in
+    let l = c .before .loop in
+    number-ended (a .«data» .now) (a .offset) (a .width) (l .i) (l .value) (omega arith) (l .inv .1 .1)
+
+pub read-uint-spec : {M : Type 1} → statement M
+read-uint-spec =
+    tie.close
+    (tie.spec
+    Inv-loop
+    μ-loop
+    loop-holds
+    add-i
+    mul-value
+    sub-wide32
+    add-wide32
+    shared-slice-read-wide32
+    wide32-requires
+    add-value
+    loop-less
+    loop-again
+    returns)

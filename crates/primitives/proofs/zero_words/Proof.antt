@@ -1,0 +1,62 @@
+use Prim.Native.Nat.{ℕ, _-_, _≤_, _<_}
+use mathlib.Core.Path.{_≡_, refl, ap, _∙_}
+use mathlib.Core.List.{List}
+use native.Mathlib.Omega.{arith}
+use lib.ListN.{length, set, length-set}
+use lib.Seq.{sets}
+use Rattle.format.specs.Bytes.{zeros}
+use Rattle.primitives.proofs.Laws.{zeros-more, zeros-all, zeros-none}
+use Rattle.primitives.proofs.zero_words.Statement.{statement}
+use Rattle.primitives.proofs.zero_words.Tie as tie
+
+abbrev Inv-loop : tie.InvT-loop
+Inv-loop table₀ from i₀ table i = ((from ≤ i) × (i ≤ length table₀)) × ((length table ≡ length table₀) × (table ≡ sets table₀ from (zeros (i - from))))
+
+abbrev μ-loop : tie.MeasureT-loop
+μ-loop table₀ from i₀ table i = length table₀ - i
+
+loop-holds : tie.Need-loop-holds Inv-loop μ-loop
+loop-holds c = let a = c .args in ((omega arith, omega arith), (refl, zeros-none (a .table .now) (a .from)))
+
+mul-table : tie.Need-mul-table Inv-loop μ-loop
+mul-table c = omega arith
+
+slice-write-table : tie.Need-slice-write-table Inv-loop μ-loop
+slice-write-table c = omega arith
+
+add-i : tie.Need-add-i Inv-loop μ-loop
+add-i c = omega arith
+
+loop-less : tie.Need-loop-less Inv-loop μ-loop
+loop-less c = omega arith
+
+loop-again : tie.Need-loop-again Inv-loop μ-loop
+loop-again c =
+    let a = c .before .before .args in
+    let i = c .before .loop .i in
+    let n : i < length (a .table .now) = omega arith in
+    ((omega arith, omega arith), (simp length-set (c .before .loop .inv .1 .0), ap (λ (l : List ℕ). set l i 0) (c .before .loop .inv .1 .1) ∙ zeros-more (a .table .now) (a .from) i (omega arith) n))
+
+same-length : tie.Need-same-length Inv-loop μ-loop
+same-length c = c .before .loop .inv .1 .0
+
+returns : tie.Need-returns Inv-loop μ-loop
+returns c =
+    let a = c .before .before .args in
+    let e : c .before .loop .i ≡ length (a .table .now) = omega arith in
+    c .before .loop .inv .1 .1 ∙ ap (λ (k : ℕ). sets (a .table .now) (a .from) (zeros (k - a .from))) e ∙ zeros-all (a .table .now) (a .from) (c .before .before .pre)
+
+pub zero-words-spec : {M : Type 1} → statement M
+zero-words-spec =
+    tie.close
+    (tie.spec
+    Inv-loop
+    μ-loop
+    loop-holds
+    mul-table
+    slice-write-table
+    add-i
+    loop-less
+    loop-again
+    same-length
+    returns)
