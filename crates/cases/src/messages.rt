@@ -1,0 +1,450 @@
+// The messages of the cases. U1, U2, R and P are document 01's.
+use crate::show::reading;
+ghost use mathlib.Core.Path.{_≡_};
+ghost use Prim.Native.Nat.{_≤_};
+ghost use lib.ListN.{length};
+
+pub fn document_cases() {
+    reading(b"empty", b"", 15, 64, 256);
+    reading(
+        b"U1",
+        b"\x10\x00\x00\x00\x01\x00\x00\x00\x00\x00\x08\x00",
+        15,
+        64,
+        256,
+    );
+    reading(
+        b"a tag without its padding",
+        b"\x15\x03\x00\x00\x05\x00\x00\x00abc",
+        15,
+        64,
+        256,
+    );
+    reading(
+        b"class 12",
+        b"\x1c\x00\x00\x00\x00\x00\x00\x00",
+        15,
+        64,
+        256,
+    );
+    reading(
+        b"compound of version 0",
+        b"\x06\x00\x00\x00\x00\x00\x00\x00",
+        15,
+        64,
+        256,
+    );
+    reading(
+        b"padding 3",
+        b"\x13\x23\x00\x00\x01\x00\x00\x00",
+        15,
+        64,
+        256,
+    );
+    reading(
+        b"charset 2",
+        b"\x13\x20\x00\x00\x01\x00\x00\x00",
+        15,
+        64,
+        256,
+    );
+    reading(
+        b"P",
+        b"\x36\x02\x00\x00\x04\x00\x00\x00a\x00\x00\x10\x00\x00\x00\x01\x00\x00\x00\x00\x00\x08\x00b\x00\x02\x10\x00\x00\x00\x02\x00\x00\x00\x00\x00\x10\x00",
+        15,
+        64,
+        256,
+    );
+    reading(
+        b"P at limit 2",
+        b"\x36\x02\x00\x00\x04\x00\x00\x00a\x00\x00\x10\x00\x00\x00\x01\x00\x00\x00\x00\x00\x08\x00b\x00\x02\x10\x00\x00\x00\x02\x00\x00\x00\x00\x00\x10\x00",
+        2,
+        64,
+        256,
+    );
+    reading(
+        b"array with dimension 0",
+        b"\x3a\x00\x00\x00\x00\x00\x00\x00\x01\x00\x00\x00\x00\x10\x00\x00\x00\x01\x00\x00\x00\x00\x00\x08\x00",
+        15,
+        64,
+        256,
+    );
+    reading(
+        b"array of two R",
+        b"\x3a\x00\x00\x00\x00\x00\x00\x00\x01\x02\x00\x00\x00\x17\x00\x00\x00\x08\x00\x00\x00",
+        15,
+        64,
+        256,
+    );
+    reading(
+        b"dimensions 65536 and 65536 over U1",
+        b"\x3a\x00\x00\x00\x00\x00\x00\x00\x02\x00\x00\x01\x00\x00\x00\x01\x00\x10\x00\x00\x00\x01\x00\x00\x00\x00\x00\x08\x00",
+        15,
+        64,
+        256,
+    );
+    sequences(
+        b"31 sequences round R",
+        31,
+        b"\x17\x00\x00\x00\x08\x00\x00\x00",
+    );
+    sequences(
+        b"32 sequences round R",
+        32,
+        b"\x17\x00\x00\x00\x08\x00\x00\x00",
+    );
+}
+
+// So many sequences, at most 40, round a message of at most 64 bytes.
+fn sequences(label: &[u8], count: usize, inner: &[u8]) {
+    let mut message = [0u8; 384];
+    if count > 40 {
+        return;
+    }
+    if inner.len() > 64 {
+        return;
+    }
+    let end = fill(&mut message, count, inner);
+    reading(label, &message[..end], 15, 64, 256);
+}
+
+// The bytes that they take.
+fn fill(message: &mut [u8], count: usize, inner: &[u8]) -> usize
+    requires { ⌜ (length (now message) ≡ 384) × (count ≤ 40) × (length (now inner) ≤ 64) ⌝ }
+    ensures { λ r. ⌜ r ≤ 384 ⌝ }
+{
+    let mut i = 0;
+    while i < count {
+        message[8 * i] = 0x19;
+        message[8 * i + 4] = 16;
+        i += 1;
+    }
+    let start = 8 * count;
+    let mut j = 0;
+    while j < inner.len() {
+        message[start + j] = inner[j];
+        j += 1;
+    }
+    start + inner.len()
+}
+
+pub fn row_and_level_cases() {
+    reading(b"empty, no row", b"", 15, 0, 256);
+    reading(
+        b"one member cut off, 1 row",
+        b"\x36\x01\x00\x00\x04\x00\x00\x00",
+        15,
+        1,
+        256,
+    );
+    reading(
+        b"one member cut off, 2 rows",
+        b"\x36\x01\x00\x00\x04\x00\x00\x00",
+        15,
+        2,
+        256,
+    );
+    sequences(
+        b"31 sequences round a member cut off",
+        31,
+        b"\x36\x01\x00\x00\x04\x00\x00\x00",
+    );
+    sequences(
+        b"31 sequences round a member's start",
+        31,
+        b"\x36\x01\x00\x00\x04\x00\x00\x00a\x00\x00",
+    );
+    reading(
+        b"enumeration, a row short of its members",
+        b"\x38\x02\x00\x00\x01\x00\x00\x00\x10\x00\x00\x00\x01\x00\x00\x00\x00\x00\x08\x00a\x00b\x00\x01\x02",
+        15,
+        3,
+        256,
+    );
+}
+
+pub fn short_cases() {
+    reading(
+        b"a name without NUL",
+        b"\x36\x01\x00\x00\x04\x00\x00\x00abc",
+        15,
+        64,
+        256,
+    );
+    reading(
+        b"nested header cut off",
+        b"\x19\x00\x00\x00\x10\x00\x00\x00\x10\x00\x00",
+        15,
+        64,
+        256,
+    );
+    reading(
+        b"fixed cut off",
+        b"\x10\x00\x00\x00\x01\x00\x00\x00\x00\x00\x08",
+        15,
+        64,
+        256,
+    );
+    reading(
+        b"float cut off",
+        b"\x11\x20\x1f\x00\x04\x00\x00\x00\x00\x00\x20\x00\x17\x08\x00\x17\x7f\x00\x00",
+        15,
+        64,
+        256,
+    );
+    reading(
+        b"time cut off",
+        b"\x12\x00\x00\x00\x04\x00\x00\x00\x20",
+        15,
+        64,
+        256,
+    );
+    reading(
+        b"version 2 array cut off at its rank",
+        b"\x2a\x00\x00\x00\x00\x00\x00\x00\x01\x00\x00",
+        15,
+        64,
+        256,
+    );
+    reading(
+        b"version 2 array without its permutation",
+        b"\x2a\x00\x00\x00\x00\x00\x00\x00\x01\x00\x00\x00\x02\x00\x00\x00",
+        15,
+        64,
+        256,
+    );
+    reading(
+        b"a tag's absent padding before a member",
+        b"\x36\x02\x00\x00\x04\x00\x00\x00a\x00\x00\x15\x03\x00\x00\x01\x00\x00\x00xyz",
+        15,
+        64,
+        256,
+    );
+    reading(
+        b"a tag's absent padding at the end",
+        b"\x36\x01\x00\x00\x04\x00\x00\x00a\x00\x00\x15\x03\x00\x00\x01\x00\x00\x00xyz",
+        15,
+        64,
+        256,
+    );
+}
+
+pub fn pool_and_name_cases() {
+    reading(
+        b"a name too long for the pool",
+        b"\x36\x01\x00\x00\x04\x00\x00\x00abc\x00",
+        15,
+        64,
+        2,
+    );
+    reading(
+        b"a name too long, without NUL",
+        b"\x36\x01\x00\x00\x04\x00\x00\x00abc",
+        15,
+        64,
+        2,
+    );
+    reading(
+        b"an empty name fits a full pool",
+        b"\x36\x01\x00\x00\x04\x00\x00\x00\x00\x00\x17\x00\x00\x00\x08\x00\x00\x00",
+        15,
+        64,
+        0,
+    );
+    reading(
+        b"an ill-formed name",
+        b"\x36\x01\x00\x00\x08\x00\x00\x00a\xe2\x82\xf0b\xff\x00\x00\x17\x00\x00\x00\x08\x00\x00\x00",
+        15,
+        64,
+        256,
+    );
+    reading(
+        b"an ill-formed name that does not fit mended",
+        b"\x36\x01\x00\x00\x08\x00\x00\x00\xff\x00\x00\x17\x00\x00\x00\x08\x00\x00\x00",
+        15,
+        64,
+        2,
+    );
+    reading(
+        b"a tag is not mended",
+        b"\x15\x01\x00\x00\x01\x00\x00\x00\xff",
+        15,
+        64,
+        256,
+    );
+    reading(
+        b"a tag too long for the pool",
+        b"\x15\x03\x00\x00\x05\x00\x00\x00abc",
+        15,
+        64,
+        2,
+    );
+    reading(
+        b"a value too long for the pool",
+        b"\x38\x01\x00\x00\x02\x00\x00\x00\x10\x00\x00\x00\x02\x00\x00\x00\x00\x00\x10\x00a\x00\x01\x02",
+        15,
+        64,
+        2,
+    );
+    reading(
+        b"dimensions too long for the pool",
+        b"\x3a\x00\x00\x00\x00\x00\x00\x00\x01\x02\x00\x00\x00\x17\x00\x00\x00\x08\x00\x00\x00",
+        15,
+        64,
+        3,
+    );
+}
+
+pub fn size_and_version_cases() {
+    reading(
+        b"class 12 of version 15 at limit 14",
+        b"\xfc\x00\x00\x00\x00\x00\x00\x00",
+        14,
+        64,
+        256,
+    );
+    reading(
+        b"class 12 of version 15 at limit 15",
+        b"\xfc\x00\x00\x00\x00\x00\x00\x00",
+        15,
+        64,
+        256,
+    );
+    reading(
+        b"class 11 of version 1 is read as version 3",
+        b"\x1b\x01\x00\x00\x08\x00\x00\x00a\x00\x00\x17\x00\x00\x00\x08\x00\x00\x00",
+        15,
+        64,
+        256,
+    );
+    reading(
+        b"class 11 at limit 4, bearing 5",
+        b"\x5b\x00\x00\x00\x08\x00\x00\x00",
+        4,
+        64,
+        256,
+    );
+    reading(
+        b"class 11 of size 0",
+        b"\x3b\x00\x00\x00\x00\x00\x00\x00",
+        15,
+        64,
+        256,
+    );
+    reading(
+        b"size 0 of a member before its compound's",
+        b"\x36\x01\x00\x00\x00\x00\x00\x00a\x00\x00\x13\x00\x00\x00\x00\x00\x00\x00",
+        15,
+        64,
+        256,
+    );
+    reading(
+        b"a sequence's header size is not looked at",
+        b"\x19\x00\x00\x00\x00\x00\x00\x00\x17\x00\x00\x00\x08\x00\x00\x00",
+        15,
+        64,
+        256,
+    );
+    reading(
+        b"a nested header above the limit",
+        b"\x19\x00\x00\x00\x10\x00\x00\x00\x47\x00\x00\x00\x08\x00\x00\x00",
+        3,
+        64,
+        256,
+    );
+    reading(
+        b"array of version 1",
+        b"\x1a\x00\x00\x00\x00\x00\x00\x00",
+        15,
+        64,
+        256,
+    );
+    reading(
+        b"compound of version 5",
+        b"\x56\x00\x00\x00\x04\x00\x00\x00",
+        15,
+        64,
+        256,
+    );
+    reading(
+        b"reference kind 2",
+        b"\x17\x02\x00\x00\x08\x00\x00\x00",
+        15,
+        64,
+        256,
+    );
+}
+
+pub fn class_cases() {
+    reading(
+        b"float",
+        b"\x11\x20\x1f\x00\x04\x00\x00\x00\x00\x00\x20\x00\x17\x08\x00\x17\x7f\x00\x00\x00",
+        15,
+        64,
+        256,
+    );
+    reading(
+        b"VAX float",
+        b"\x11\x41\x1f\x00\x04\x00\x00\x00\x00\x00\x20\x00\x17\x08\x00\x17\x7f\x00\x00\x00",
+        15,
+        64,
+        256,
+    );
+    reading(
+        b"signed big-endian fixed",
+        b"\x10\x09\x00\x00\x02\x00\x00\x00\x01\x00\x0f\x00",
+        15,
+        64,
+        256,
+    );
+    reading(
+        b"time",
+        b"\x12\x01\x00\x00\x04\x00\x00\x00\x20\x00",
+        15,
+        64,
+        256,
+    );
+    reading(b"string", b"\x13\x12\x00\x00\x10\x00\x00\x00", 15, 64, 256);
+    reading(
+        b"bit field",
+        b"\x14\x01\x00\x00\x02\x00\x00\x00\x03\x00\x05\x00",
+        15,
+        64,
+        256,
+    );
+    reading(
+        b"enumeration",
+        b"\x38\x02\x00\x00\x01\x00\x00\x00\x10\x00\x00\x00\x01\x00\x00\x00\x00\x00\x08\x00on\x00off\x00\x01\x02",
+        15,
+        64,
+        256,
+    );
+    reading(
+        b"variable-length string",
+        b"\x19\x21\x01\x00\x10\x00\x00\x00\x10\x00\x00\x00\x01\x00\x00\x00\x00\x00\x08\x00",
+        15,
+        64,
+        256,
+    );
+    reading(
+        b"variable-length kind 2 is a sequence",
+        b"\x19\x32\x05\x00\x10\x00\x00\x00\x10\x00\x00\x00\x01\x00\x00\x00\x00\x00\x08\x00",
+        15,
+        64,
+        256,
+    );
+    reading(
+        b"version 1 compound",
+        b"\x16\x01\x00\x00\x04\x00\x00\x00name\x00\x00\x00\x00\x02\x00\x00\x00\x00\x00\x00\x00\x00\x00\x00\x00\x00\x00\x00\x00\x00\x00\x00\x00\x00\x00\x00\x00\x00\x00\x00\x00\x00\x00\x00\x00\x13\x00\x00\x00\x02\x00\x00\x00",
+        15,
+        64,
+        256,
+    );
+    reading(
+        b"version 2 array in a version 2 compound",
+        b"\x26\x01\x00\x00\x04\x00\x00\x00n\x00\x00\x00\x00\x00\x00\x00\x00\x00\x00\x00\x2a\x00\x00\x00\x04\x00\x00\x00\x01\x00\x00\x00\x02\x00\x00\x00\x00\x00\x00\x00\x13\x00\x00\x00\x02\x00\x00\x00",
+        15,
+        64,
+        256,
+    );
+}

@@ -1,0 +1,361 @@
+use Prim.Native.Nat.{ℕ, suc, _<_, _≤_, _*_, _+_, _-_}
+use borrow.Author.Needs.{needs}
+use native.Mathlib.Omega.{arith}
+use Rattle.format.specs.Reading.{readType}
+use Rattle.reading.specs.Members.{Progress}
+use Rattle.reading.proofs.Members.{members-begun, members-ready, members-ended, members-stopped, entered-ready, entered-within, members-refused, members-turned, turned-near, progress-table, progress-pool}
+use Rattle.reading.proofs.Types.{type-ends, type-shuts, leaf-free, leaf-long, leaf-kind, type-leaf, compound-free, compound-long, compound-ready, compound-refuses, compound-filled, compound-ends, based-free, based-within, based-ready, based-refuses, based-near, based-asks, based-ends}
+use Prim.Native.Nat.{ℕ, _<_}
+use borrow.Fn.Kinds.{In}
+use borrow.Fn.PlainCycle.{Measures, is, falls, and}
+use Rattle.reader.proofs.read_members.Reads as read-members
+use Rattle.reader.proofs.read_members.Kinds as read-members-kinds
+use Rattle.reader.proofs.+read_members+read_type.Lts-read_members as read-members-lts
+use Rattle.reader.proofs.read_type.Reads as read-type
+use Rattle.reader.proofs.read_type.Kinds as read-type-kinds
+use Rattle.reader.proofs.+read_members+read_type.Lts-read_type as read-type-lts
+use Rattle.primitives.proofs.wide32.Reads as wide32-reads
+use Rattle.reader.proofs.end_compound.Reads as end-compound-reads
+use Rattle.reader_before.proofs.open_type.Reads as open-type-reads
+use Rattle.reader_behind.proofs.end_based.Reads as end-based-reads
+use Rattle.reader_behind.proofs.enter_member.Reads as enter-member-reads
+use Rattle.reader_leaf.proofs.read_leaf.Reads as read-leaf-reads
+use Rattle.reader.proofs.+read_members+read_type.{statement}
+use Rattle.reader.proofs.+read_members+read_type.Tie.{close}
+
+abbrev μ-read-members : Measures 3 read-members-kinds.ps ℕ
+μ-read-members κs a = a .1 .1 .1 .1 .1 .1 .0 * 2 + 1
+
+abbrev μ-read-type : Measures 3 read-type-kinds.ps ℕ
+μ-read-type κs a = a .1 .1 .1 .1 .1 .1 .0 * 2
+
+abbrev read-members-at : ℕ → In 3 read-members-kinds.ps
+read-members-at t =
+    and 3 read-members-kinds.ps (is 3 read-members-kinds.ps μ-read-members t) read-members.Pre
+
+abbrev read-members-below : ℕ → In 3 read-members-kinds.ps
+read-members-below t =
+    and
+    3
+    read-members-kinds.ps
+    (falls 3 read-members-kinds.ps _<_ μ-read-members t)
+    read-members.Pre
+
+abbrev read-type-at : ℕ → In 3 read-type-kinds.ps
+read-type-at t = and 3 read-type-kinds.ps (is 3 read-type-kinds.ps μ-read-type t) read-type.Pre
+
+abbrev read-type-below : ℕ → In 3 read-type-kinds.ps
+read-type-below t =
+    and 3 read-type-kinds.ps (falls 3 read-type-kinds.ps _<_ μ-read-type t) read-type.Pre
+
+abbrev read-members-Inv-loop : read-members-lts.InvT-loop
+read-members-Inv-loop «data» table₀ pool₀ limits used pooled levels header version count at₀ rows₀ place₀ i₀ table pool at rows place i =
+    Progress (readType (limits .version) levels) «data» limits version (header .size) count used pooled i at rows place table₀ table pool₀ pool
+
+abbrev read-members-μ-loop : read-members-lts.MeasureT-loop
+read-members-μ-loop «data» table₀ pool₀ limits used pooled levels header version count at₀ rows₀ place₀ i₀ table pool at rows place i =
+    count - i
+
+abbrev read-members-calls : ℕ → read-members-lts.Claims
+read-members-calls t = (enter-member-reads.Asked, enter-member-reads.Learnt, read-type-below t, read-type.Post)
+
+abbrev read-type-calls : ℕ → read-type-lts.Claims
+read-type-calls t = (open-type-reads.Asked, open-type-reads.Learnt, read-leaf-reads.Asked, read-leaf-reads.Learnt, wide32-reads.Asked, wide32-reads.Learnt, read-members-below t, read-members.Post, end-compound-reads.Asked, end-compound-reads.Learnt, read-type-below t, read-type.Post, end-based-reads.Asked, end-based-reads.Learnt)
+
+read-members-loop-holds : (t : ℕ) → read-members-lts.Need-loop-holds (read-members-calls t) (read-members-at t) read-members.Post read-members-Inv-loop read-members-μ-loop
+read-members-loop-holds t c = members-begun _ _ _ _ _ _ _ _ ((c .before .before .before) .pre .1 .0 .0) ((c .before .before .before) .pre .1 .0 .1)
+
+read-members-enter-member-requires : (t : ℕ) → read-members-lts.Need-enter-member-requires (read-members-calls t) (read-members-at t) read-members.Post read-members-Inv-loop read-members-μ-loop
+read-members-enter-member-requires t c κs = (members-ready _ _ _ _ _ _ _ _ ((c .before .before .before .loop) .inv) ((c .before .before .before .before .before .before .before) .pre .1 .0 .0), (c .before .before .before .loop) .inv .near)
+
+read-members-enum-known-entered : (t : ℕ) → read-members-lts.Need-enum-known-entered (read-members-calls t) (read-members-at t) read-members.Post read-members-Inv-loop read-members-μ-loop
+read-members-enum-known-entered t c = search needs
+
+read-members-same-length : (t : ℕ) → read-members-lts.Need-same-length (read-members-calls t) (read-members-at t) read-members.Post read-members-Inv-loop read-members-μ-loop
+read-members-same-length t c = omega (arith, (c .before .before .before .before .before .before .before .enter-member) .kept .1 .0, progress-table _ _ _ _ _ _ _ _ ((c .before .before .before .before .before .before .before .before .before .before .before .loop) .inv))
+
+read-members-same-length-2 : (t : ℕ) → read-members-lts.Need-same-length-2 (read-members-calls t) (read-members-at t) read-members.Post read-members-Inv-loop read-members-μ-loop
+read-members-same-length-2 t c = omega (arith, (c .before .before .before .before .before .before .before .enter-member) .kept .1 .1 .0, progress-pool _ _ _ _ _ _ _ _ ((c .before .before .before .before .before .before .before .before .before .before .before .loop) .inv))
+
+read-members-returns : (t : ℕ) → read-members-lts.Need-returns (read-members-calls t) (read-members-at t) read-members.Post read-members-Inv-loop read-members-μ-loop
+read-members-returns t c = members-stopped _ _ _ _ _ _ _ _ ((c .before .before .before .before .before .before .before .before .before .before .before .loop) .inv) ((c .before .before .before .before .before .before .before .before .before .before .loop-test) .taken) ((c .before .before .before .before .before .before .before .enter-member) .ensures) ((c .before .entered) .given .1)
+
+read-members-enum-known-entered-2 : (t : ℕ) → read-members-lts.Need-enum-known-entered-2 (read-members-calls t) (read-members-at t) read-members.Post read-members-Inv-loop read-members-μ-loop
+read-members-enum-known-entered-2 t c = search needs
+
+read-members-sub-read-type : (t : ℕ) → read-members-lts.Need-sub-read-type (read-members-calls t) (read-members-at t) read-members.Post read-members-Inv-loop read-members-μ-loop
+read-members-sub-read-type t c = search (needs, entered-within)
+
+read-members-part-read-type-start : (t : ℕ) → read-members-lts.Need-part-read-type-start (read-members-calls t) (read-members-at t) read-members.Post read-members-Inv-loop read-members-μ-loop
+read-members-part-read-type-start t c = search (needs, entered-within)
+
+read-members-part-read-type-end : (t : ℕ) → read-members-lts.Need-part-read-type-end (read-members-calls t) (read-members-at t) read-members.Post read-members-Inv-loop read-members-μ-loop
+read-members-part-read-type-end t c = search (needs, entered-within)
+
+read-members-read-type-requires : (t : ℕ) → read-members-lts.Need-read-type-requires (read-members-calls t) (read-members-at t) read-members.Post read-members-Inv-loop read-members-μ-loop
+read-members-read-type-requires t c κs = (omega (arith, (c .before .before .before .before .before .before .before .before .before .before .before .before .before .before .before .before .before .before) .pre .0), entered-ready _ _ _ _ _ _ _ _ ((c .before .before .before .before .before .before .before .before .before .before .before .before .before .before .loop) .inv) ((c .before .before .before .before .before .before .before .before .before .before .before .before .before .loop-test) .taken) ((c .before .before .before .before .before .before .before .before .before .before .enter-member) .ensures) ((c .before .before .before .before .entered2) .given .1) ((c .before .before .before .before .before .before .before .before .before .before .before .before .before .before .before .before .before .before) .pre .1 .0 .0))
+
+read-members-enum-known-got : (t : ℕ) → read-members-lts.Need-enum-known-got (read-members-calls t) (read-members-at t) read-members.Post read-members-Inv-loop read-members-μ-loop
+read-members-enum-known-got t c = search needs
+
+read-members-same-length-3 : (t : ℕ) → read-members-lts.Need-same-length-3 (read-members-calls t) (read-members-at t) read-members.Post read-members-Inv-loop read-members-μ-loop
+read-members-same-length-3 t c = omega (arith, (c .before .before .before .before .before .before .before .read-type) .kept .1 .0, (c .before .before .before .before .before .before .before .before .before .before .before .before .before .before .before .before .before .before .enter-member) .kept .1 .0, progress-table _ _ _ _ _ _ _ _ ((c .before .before .before .before .before .before .before .before .before .before .before .before .before .before .before .before .before .before .before .before .before .before .loop) .inv))
+
+read-members-same-length-4 : (t : ℕ) → read-members-lts.Need-same-length-4 (read-members-calls t) (read-members-at t) read-members.Post read-members-Inv-loop read-members-μ-loop
+read-members-same-length-4 t c = omega (arith, (c .before .before .before .before .before .before .before .read-type) .kept .1 .1 .0, (c .before .before .before .before .before .before .before .before .before .before .before .before .before .before .before .before .before .before .enter-member) .kept .1 .1 .0, progress-pool _ _ _ _ _ _ _ _ ((c .before .before .before .before .before .before .before .before .before .before .before .before .before .before .before .before .before .before .before .before .before .before .loop) .inv))
+
+read-members-returns-2 : (t : ℕ) → read-members-lts.Need-returns-2 (read-members-calls t) (read-members-at t) read-members.Post read-members-Inv-loop read-members-μ-loop
+read-members-returns-2 t c = members-refused _ _ _ _ _ _ _ _ ((c .before .before .before .before .before .before .before .before .before .before .before .before .before .before .before .before .before .before .before .before .before .before .loop) .inv) ((c .before .before .before .before .before .before .before .before .before .before .before .before .before .before .before .before .before .before .before .before .before .loop-test) .taken) ((c .before .before .before .before .before .before .before .before .before .before .before .before .before .before .before .before .before .before .enter-member) .ensures) ((c .before .before .before .before .before .before .before .before .before .before .before .before .entered2) .given .1) ((c .before .before .before .before .before .before .before .read-type) .ensures) ((c .before .got) .given .1)
+
+read-members-enum-known-got-2 : (t : ℕ) → read-members-lts.Need-enum-known-got-2 (read-members-calls t) (read-members-at t) read-members.Post read-members-Inv-loop read-members-μ-loop
+read-members-enum-known-got-2 t c = search needs
+
+read-members-add-at : (t : ℕ) → read-members-lts.Need-add-at (read-members-calls t) (read-members-at t) read-members.Post read-members-Inv-loop read-members-μ-loop
+read-members-add-at t c = omega (arith, turned-near _ _ _ _ _ _ _ _ ((c .before .before .before .before .before .before .before .before .before .before .before .before .before .before .before .before .before .before .before .before .before .before .before .loop) .inv) ((c .before .before .before .before .before .before .before .before .before .before .before .before .before .before .before .before .before .before .before .before .before .before .loop-test) .taken) ((c .before .before .before .before .before .before .before .before .before .before .before .before .before .before .before .before .before .before .before .enter-member) .ensures) ((c .before .before .before .before .before .before .before .before .before .before .before .before .before .entered2) .given .1) ((c .before .before .before .before .before .before .before .before .read-type) .ensures) ((c .before .before .got2) .given .1), (c .before .before .before .before .before .before .before .before .before .before .before .before .before .before .before .before .before .before .before .before .before .before .before .before .before .before .before) .good .0 .1)
+
+read-members-add-i : (t : ℕ) → read-members-lts.Need-add-i (read-members-calls t) (read-members-at t) read-members.Post read-members-Inv-loop read-members-μ-loop
+read-members-add-i t c = omega (arith, (c .before .before .before .before .before .before .before .before .before .before .before .before .before .before .before .before .before .before .before .before .before .before .loop-test) .taken, (c .before .before .before .before .before .before .before .before .before .before .before .before .before .before .before .before .before .before .before .before .before .before .before .before .before .before .before) .pre .1 .1)
+
+read-members-loop-less : (t : ℕ) → read-members-lts.Need-loop-less (read-members-calls t) (read-members-at t) read-members.Post read-members-Inv-loop read-members-μ-loop
+read-members-loop-less t c = omega (arith, (c .before .before .before .before .before .before .before .before .before .before .before .before .before .before .before .before .before .before .before .before .before .before .loop-test) .taken)
+
+read-members-loop-again : (t : ℕ) → read-members-lts.Need-loop-again (read-members-calls t) (read-members-at t) read-members.Post read-members-Inv-loop read-members-μ-loop
+read-members-loop-again t c = members-turned _ _ _ _ _ _ _ _ ((c .before .before .before .before .before .before .before .before .before .before .before .before .before .before .before .before .before .before .before .before .before .before .before .loop) .inv) ((c .before .before .before .before .before .before .before .before .before .before .before .before .before .before .before .before .before .before .before .before .before .before .loop-test) .taken) ((c .before .before .before .before .before .before .before .before .before .before .before .before .before .before .before .before .before .before .before .enter-member) .ensures) ((c .before .before .before .before .before .before .before .before .before .before .before .before .before .entered2) .given .1) ((c .before .before .before .before .before .before .before .before .read-type) .ensures) ((c .before .before .got2) .given .1)
+
+read-members-same-length-5 : (t : ℕ) → read-members-lts.Need-same-length-5 (read-members-calls t) (read-members-at t) read-members.Post read-members-Inv-loop read-members-μ-loop
+read-members-same-length-5 t c = progress-table _ _ _ _ _ _ _ _ ((c .before .loop) .inv)
+
+read-members-same-length-6 : (t : ℕ) → read-members-lts.Need-same-length-6 (read-members-calls t) (read-members-at t) read-members.Post read-members-Inv-loop read-members-μ-loop
+read-members-same-length-6 t c = progress-pool _ _ _ _ _ _ _ _ ((c .before .loop) .inv)
+
+read-members-returns-3 : (t : ℕ) → read-members-lts.Need-returns-3 (read-members-calls t) (read-members-at t) read-members.Post read-members-Inv-loop read-members-μ-loop
+read-members-returns-3 t c = search members-ended
+
+read-type-returns : (t : ℕ) → read-type-lts.Need-returns (read-type-calls t) (read-type-at t) read-type.Post
+read-type-returns t c = search type-ends
+
+read-type-open-type-requires : (t : ℕ) → read-type-lts.Need-open-type-requires (read-type-calls t) (read-type-at t) read-type.Post
+read-type-open-type-requires t c κs = search needs
+
+read-type-enum-known-opened : (t : ℕ) → read-type-lts.Need-enum-known-opened (read-type-calls t) (read-type-at t) read-type.Post
+read-type-enum-known-opened t c = search needs
+
+read-type-enum-known-opened-2 : (t : ℕ) → read-type-lts.Need-enum-known-opened-2 (read-type-calls t) (read-type-at t) read-type.Post
+read-type-enum-known-opened-2 t c = search needs
+
+read-type-read-leaf-requires : (t : ℕ) → read-type-lts.Need-read-leaf-requires (read-type-calls t) (read-type-at t) read-type.Post
+read-type-read-leaf-requires t c κs = ((((c .before .before .before .before .before .before .before .before .before .before) .pre .1, leaf-free ((c .before .before .before .before .before .before .if1) .left) ((c .before .before .before .before .before .open-type) .ensures) ((c .before .before .before .opened2) .given .1)), leaf-long ((c .before .before .before .before .before .before .if1) .left) ((c .before .before .before .before .before .open-type) .ensures) ((c .before .before .before .opened2) .given .1)), leaf-kind ((c .before .before .before .before .before .before .if1) .left) ((c .before .before .before .before .before .open-type) .ensures) ((c .before .before .before .opened2) .given .1))
+
+read-type-enum-known-opened-3 : (t : ℕ) → read-type-lts.Need-enum-known-opened-3 (read-type-calls t) (read-type-at t) read-type.Post
+read-type-enum-known-opened-3 t c = search needs
+
+read-type-wide32-requires : (t : ℕ) → read-type-lts.Need-wide32-requires (read-type-calls t) (read-type-at t) read-type.Post
+read-type-wide32-requires t c κs = search needs
+
+read-type-wide32-requires-2 : (t : ℕ) → read-type-lts.Need-wide32-requires-2 (read-type-calls t) (read-type-at t) read-type.Post
+read-type-wide32-requires-2 t c κs = search needs
+
+read-type-mul-count : (t : ℕ) → read-type-lts.Need-mul-count (read-type-calls t) (read-type-at t) read-type.Post
+read-type-mul-count t c = search needs
+
+read-type-add-count : (t : ℕ) → read-type-lts.Need-add-count (read-type-calls t) (read-type-at t) read-type.Post
+read-type-add-count t c = search needs
+
+read-type-add-read-members : (t : ℕ) → read-type-lts.Need-add-read-members (read-type-calls t) (read-type-at t) read-type.Post
+read-type-add-read-members t c = search (needs, compound-free)
+
+read-type-sub-read-members : (t : ℕ) → read-type-lts.Need-sub-read-members (read-type-calls t) (read-type-at t) read-type.Post
+read-type-sub-read-members t c = search needs
+
+read-type-cast-read-members : (t : ℕ) → read-type-lts.Need-cast-read-members (read-type-calls t) (read-type-at t) read-type.Post
+read-type-cast-read-members t c = search needs
+
+read-type-read-members-requires : (t : ℕ) → read-type-lts.Need-read-members-requires (read-type-calls t) (read-type-at t) read-type.Post
+read-type-read-members-requires t c κs = (omega (arith, (c .before .before .before .before .before .before .before .before .before .before .before .before) .pre .0, (c .before .before .before .before .before .before .before .before .if1) .left), ((compound-ready ((c .before .before .before .before .before .before .before .before .if1) .left) ((c .before .before .before .before .before .before .before .open-type) .ensures) ((c .before .before .before .before .before .opened3) .given .1) ((c .before .before .before .before .before .before .before .before .before .before .before .before) .pre .1), compound-long ((c .before .before .before .before .before .before .before .before .if1) .left) ((c .before .before .before .before .before .before .before .open-type) .ensures) ((c .before .before .before .before .before .opened3) .given .1)), omega (arith, (c .before .before .before .wide32) .ensures .1, (c .before .before .wide322) .ensures .1)))
+
+read-type-enum-known-got : (t : ℕ) → read-type-lts.Need-enum-known-got (read-type-calls t) (read-type-at t) read-type.Post
+read-type-enum-known-got t c = search needs
+
+read-type-enum-known-got-2 : (t : ℕ) → read-type-lts.Need-enum-known-got-2 (read-type-calls t) (read-type-at t) read-type.Post
+read-type-enum-known-got-2 t c = search needs
+
+read-type-end-compound-requires : (t : ℕ) → read-type-lts.Need-end-compound-requires (read-type-calls t) (read-type-at t) read-type.Post
+read-type-end-compound-requires t c κs = compound-filled ((c .before .before .before .before .before .before .before .before .before .before .before .before .before .before .before .before .before .if1) .left) ((c .before .before .before .before .before .before .before .before .before .before .before .before .before .before .before .before .open-type) .ensures) ((c .before .before .before .before .before .before .before .before .before .before .before .before .before .before .opened3) .given .1) ((c .before .before .before .before .before .before .before .before .before .before .before .before .wide32) .ensures) ((c .before .before .before .before .before .before .before .before .before .before .before .wide322) .ensures) ((c .before .before .before .before .before .before .before .before .read-members) .ensures) ((c .before .before .got2) .given .1) ((c .before .before .before .before .before .before .before .before .before .before .before .before .before .before .before .before .before .before .before .before .before) .pre .1)
+
+read-type-enum-known-opened-4 : (t : ℕ) → read-type-lts.Need-enum-known-opened-4 (read-type-calls t) (read-type-at t) read-type.Post
+read-type-enum-known-opened-4 t c = search needs
+
+read-type-sub-read-type : (t : ℕ) → read-type-lts.Need-sub-read-type (read-type-calls t) (read-type-at t) read-type.Post
+read-type-sub-read-type t c = omega (arith, based-within ((c .before .before .before .before .if1) .left) ((c .before .before .before .open-type) .ensures) ((c .before .opened4) .given .1))
+
+read-type-part-read-type-start : (t : ℕ) → read-type-lts.Need-part-read-type-start (read-type-calls t) (read-type-at t) read-type.Post
+read-type-part-read-type-start t c = omega (arith, based-within ((c .before .before .before .before .if1) .left) ((c .before .before .before .open-type) .ensures) ((c .before .opened4) .given .1))
+
+read-type-part-read-type-end : (t : ℕ) → read-type-lts.Need-part-read-type-end (read-type-calls t) (read-type-at t) read-type.Post
+read-type-part-read-type-end t c = search needs
+
+read-type-add-read-type : (t : ℕ) → read-type-lts.Need-add-read-type (read-type-calls t) (read-type-at t) read-type.Post
+read-type-add-read-type t c = search (needs, based-free)
+
+read-type-sub-read-type-2 : (t : ℕ) → read-type-lts.Need-sub-read-type-2 (read-type-calls t) (read-type-at t) read-type.Post
+read-type-sub-read-type-2 t c = search needs
+
+read-type-read-type-requires : (t : ℕ) → read-type-lts.Need-read-type-requires (read-type-calls t) (read-type-at t) read-type.Post
+read-type-read-type-requires t c κs = (omega (arith, (c .before .before .before .before .before .before .before .before .before .before .before) .pre .0, (c .before .before .before .before .before .before .before .if1) .left), based-ready ((c .before .before .before .before .before .before .before .if1) .left) ((c .before .before .before .before .before .before .open-type) .ensures) ((c .before .before .before .before .opened4) .given .1) ((c .before .before .before .before .before .before .before .before .before .before .before) .pre .1))
+
+read-type-enum-known-got-3 : (t : ℕ) → read-type-lts.Need-enum-known-got-3 (read-type-calls t) (read-type-at t) read-type.Post
+read-type-enum-known-got-3 t c = search needs
+
+read-type-enum-known-got-4 : (t : ℕ) → read-type-lts.Need-enum-known-got-4 (read-type-calls t) (read-type-at t) read-type.Post
+read-type-enum-known-got-4 t c = search needs
+
+read-type-add-t55 : (t : ℕ) → read-type-lts.Need-add-t55 (read-type-calls t) (read-type-at t) read-type.Post
+read-type-add-t55 t c = omega (arith, based-near ((c .before .before .before .before .before .before .before .before .before .before .before .before .before .before .before .before .if1) .left) ((c .before .before .before .before .before .before .before .before .before .before .before .before .before .before .before .open-type) .ensures) ((c .before .before .before .before .before .before .before .before .before .before .before .before .before .opened4) .given .1) ((c .before .before .before .before .before .before .before .before .read-type) .ensures) ((c .before .before .got4) .given .1), (c .before .before .before .before .before .before .before .before .before .before .before .before .before .before .before .before .before .before .before .before) .good .0 .1)
+
+read-type-end-based-requires : (t : ℕ) → read-type-lts.Need-end-based-requires (read-type-calls t) (read-type-at t) read-type.Post
+read-type-end-based-requires t c κs = based-asks ((c .before .before .before .before .before .before .before .before .before .before .before .before .before .before .before .before .before .before .if1) .left) ((c .before .before .before .before .before .before .before .before .before .before .before .before .before .before .before .before .before .open-type) .ensures) ((c .before .before .before .before .before .before .before .before .before .before .before .before .before .before .before .opened4) .given .1) ((c .before .before .before .before .before .before .before .before .before .before .read-type) .ensures) ((c .before .before .before .before .got4) .given .1) ((c .before .before .before .before .before .before .before .before .before .before .before .before .before .before .before .before .before .before .before .before .before .before) .pre .1)
+
+read-type-returns-2 : (t : ℕ) → read-type-lts.Need-returns-2 (read-type-calls t) (read-type-at t) read-type.Post
+read-type-returns-2 t c = search type-shuts
+
+read-type-same-length : (t : ℕ) → read-type-lts.Need-same-length (read-type-calls t) (read-type-at t) read-type.Post
+read-type-same-length t c = search needs
+
+read-type-same-length-2 : (t : ℕ) → read-type-lts.Need-same-length-2 (read-type-calls t) (read-type-at t) read-type.Post
+read-type-same-length-2 t c = search needs
+
+read-type-returns-3 : (t : ℕ) → read-type-lts.Need-returns-3 (read-type-calls t) (read-type-at t) read-type.Post
+read-type-returns-3 t c = search type-leaf
+
+read-type-same-length-3 : (t : ℕ) → read-type-lts.Need-same-length-3 (read-type-calls t) (read-type-at t) read-type.Post
+read-type-same-length-3 t c = search needs
+
+read-type-same-length-4 : (t : ℕ) → read-type-lts.Need-same-length-4 (read-type-calls t) (read-type-at t) read-type.Post
+read-type-same-length-4 t c = search needs
+
+read-type-returns-4 : (t : ℕ) → read-type-lts.Need-returns-4 (read-type-calls t) (read-type-at t) read-type.Post
+read-type-returns-4 t c = search compound-refuses
+
+read-type-same-length-5 : (t : ℕ) → read-type-lts.Need-same-length-5 (read-type-calls t) (read-type-at t) read-type.Post
+read-type-same-length-5 t c = search needs
+
+read-type-same-length-6 : (t : ℕ) → read-type-lts.Need-same-length-6 (read-type-calls t) (read-type-at t) read-type.Post
+read-type-same-length-6 t c = search needs
+
+read-type-returns-5 : (t : ℕ) → read-type-lts.Need-returns-5 (read-type-calls t) (read-type-at t) read-type.Post
+read-type-returns-5 t c = search compound-ends
+
+read-type-same-length-7 : (t : ℕ) → read-type-lts.Need-same-length-7 (read-type-calls t) (read-type-at t) read-type.Post
+read-type-same-length-7 t c = search needs
+
+read-type-same-length-8 : (t : ℕ) → read-type-lts.Need-same-length-8 (read-type-calls t) (read-type-at t) read-type.Post
+read-type-same-length-8 t c = search needs
+
+read-type-returns-6 : (t : ℕ) → read-type-lts.Need-returns-6 (read-type-calls t) (read-type-at t) read-type.Post
+read-type-returns-6 t c = search based-refuses
+
+read-type-same-length-9 : (t : ℕ) → read-type-lts.Need-same-length-9 (read-type-calls t) (read-type-at t) read-type.Post
+read-type-same-length-9 t c = search needs
+
+read-type-same-length-10 : (t : ℕ) → read-type-lts.Need-same-length-10 (read-type-calls t) (read-type-at t) read-type.Post
+read-type-same-length-10 t c = search needs
+
+read-type-returns-7 : (t : ℕ) → read-type-lts.Need-returns-7 (read-type-calls t) (read-type-at t) read-type.Post
+read-type-returns-7 t c = search based-ends
+
+pub +read-members+read-type-spec : {M : Type 1} → statement M
++read-members+read-type-spec = close μ-read-members μ-read-type (λ t. read-members-lts.spec (
+  enter-member-reads.Asked,
+  enter-member-reads.Learnt,
+  read-type-below t,
+  read-type.Post,
+)
+    (read-members-at t)
+    read-members.Post
+    read-members-Inv-loop
+    read-members-μ-loop
+    (read-members-loop-holds t)
+    (read-members-enter-member-requires t)
+    (read-members-enum-known-entered t)
+    (read-members-same-length t)
+    (read-members-same-length-2 t)
+    (read-members-returns t)
+    (read-members-enum-known-entered-2 t)
+    (read-members-sub-read-type t)
+    (read-members-part-read-type-start t)
+    (read-members-part-read-type-end t)
+    (read-members-read-type-requires t)
+    (read-members-enum-known-got t)
+    (read-members-same-length-3 t)
+    (read-members-same-length-4 t)
+    (read-members-returns-2 t)
+    (read-members-enum-known-got-2 t)
+    (read-members-add-at t)
+    (read-members-add-i t)
+    (read-members-loop-less t)
+    (read-members-loop-again t)
+    (read-members-same-length-5 t)
+    (read-members-same-length-6 t)
+    (read-members-returns-3 t))
+    λ t. read-type-lts.spec (
+      open-type-reads.Asked,
+      open-type-reads.Learnt,
+      read-leaf-reads.Asked,
+      read-leaf-reads.Learnt,
+      wide32-reads.Asked,
+      wide32-reads.Learnt,
+      read-members-below t,
+      read-members.Post,
+      end-compound-reads.Asked,
+      end-compound-reads.Learnt,
+      read-type-below t,
+      read-type.Post,
+      end-based-reads.Asked,
+      end-based-reads.Learnt,
+    )
+    (read-type-at t)
+    read-type.Post
+    (read-type-returns t)
+    (read-type-open-type-requires t)
+    (read-type-enum-known-opened t)
+    (read-type-enum-known-opened-2 t)
+    (read-type-read-leaf-requires t)
+    (read-type-enum-known-opened-3 t)
+    (read-type-wide32-requires t)
+    (read-type-wide32-requires-2 t)
+    (read-type-mul-count t)
+    (read-type-add-count t)
+    (read-type-add-read-members t)
+    (read-type-sub-read-members t)
+    (read-type-cast-read-members t)
+    (read-type-read-members-requires t)
+    (read-type-enum-known-got t)
+    (read-type-enum-known-got-2 t)
+    (read-type-end-compound-requires t)
+    (read-type-enum-known-opened-4 t)
+    (read-type-sub-read-type t)
+    (read-type-part-read-type-start t)
+    (read-type-part-read-type-end t)
+    (read-type-add-read-type t)
+    (read-type-sub-read-type-2 t)
+    (read-type-read-type-requires t)
+    (read-type-enum-known-got-3 t)
+    (read-type-enum-known-got-4 t)
+    (read-type-add-t55 t)
+    (read-type-end-based-requires t)
+    (read-type-returns-2 t)
+    (read-type-same-length t)
+    (read-type-same-length-2 t)
+    (read-type-returns-3 t)
+    (read-type-same-length-3 t)
+    (read-type-same-length-4 t)
+    (read-type-returns-4 t)
+    (read-type-same-length-5 t)
+    (read-type-same-length-6 t)
+    (read-type-returns-5 t)
+    (read-type-same-length-7 t)
+    (read-type-same-length-8 t)
+    (read-type-returns-6 t)
+    (read-type-same-length-9 t)
+    (read-type-same-length-10 t)
+    (read-type-returns-7 t)

@@ -1,0 +1,89 @@
+use Prim.Native.Nat.{_+_, _-_, _≤_}
+use mathlib.Core.Path.{_≡_, refl}
+use native.Mathlib.Omega.{arith}
+use lib.ListN.{length}
+use Rattle.reader_behind.proofs.Valuing.{Onward, onward-start, onward-end, onward-short, onward-full, onward-more}
+use Rattle.reader_behind.proofs.read_values.Statement.{statement}
+use Rattle.reader_behind.proofs.read_values.Tie as tie
+
+abbrev Inv-loop : tie.InvT-loop
+Inv-loop «data» pool₀ limits start count width at₀ pooled₀ i₀ pool at pooled i =
+    ((i ≤ count) × (at ≤ length «data» + 7))
+    × (((pooled ≤ limits .pool) × (limits .pool ≤ length pool)) × ((length pool ≡ length pool₀) × Onward «data» limits width (start .rows) count (start .at) (start .pooled) pool₀ i at pooled pool))
+
+abbrev μ-loop : tie.MeasureT-loop
+μ-loop «data» pool₀ limits start count width at₀ pooled₀ i₀ pool at pooled i = count - i
+
+loop-holds : tie.Need-loop-holds Inv-loop μ-loop
+loop-holds c = ((omega arith, omega arith), ((omega arith, omega arith), (refl, onward-start _ _ _ _ _ _ _ _)))
+
+add-if1 : tie.Need-add-if1 Inv-loop μ-loop
+add-if1 c = omega arith
+
+add-t13 : tie.Need-add-t13 Inv-loop μ-loop
+add-t13 c = omega arith
+
+same-length : tie.Need-same-length Inv-loop μ-loop
+same-length c = c .before .before .loop .inv .1 .1 .0
+
+returns : tie.Need-returns Inv-loop μ-loop
+returns c = onward-short _ _ _ _ _ _ _ _ _ _ _ _ (c .before .before .loop .inv .1 .1 .1) (omega arith) (omega arith) (omega arith)
+
+sub-if2 : tie.Need-sub-if2 Inv-loop μ-loop
+sub-if2 c = omega arith
+
+same-length-2 : tie.Need-same-length-2 Inv-loop μ-loop
+same-length-2 c = c .before .before .before .before .loop .inv .1 .1 .0
+
+returns-2 : tie.Need-returns-2 Inv-loop μ-loop
+returns-2 c = onward-full _ _ _ _ _ _ _ _ _ _ _ _ (c .before .before .before .before .loop .inv .1 .1 .1) (omega arith) (omega arith) (omega arith)
+
+copy-bytes-requires : tie.Need-copy-bytes-requires Inv-loop μ-loop
+copy-bytes-requires c κs = (omega arith, omega arith)
+
+add-at : tie.Need-add-at Inv-loop μ-loop
+add-at c = omega arith
+
+add-pooled : tie.Need-add-pooled Inv-loop μ-loop
+add-pooled c = omega arith
+
+add-i : tie.Need-add-i Inv-loop μ-loop
+add-i c = omega arith
+
+loop-less : tie.Need-loop-less Inv-loop μ-loop
+loop-less c = omega arith
+
+loop-again : tie.Need-loop-again Inv-loop μ-loop
+loop-again c =
+    let l = c .before .before .before .before .before .before .before .before .loop in
+    let e = c .before .before .copy-bytes .ensures in
+    ((omega arith, omega arith), ((omega arith, omega arith), (omega arith, onward-more _ _ _ _ _ _ _ _ _ _ _ _ (l .inv .1 .1 .1) (omega arith) (omega arith) _ (omega arith) e)))
+
+same-length-3 : tie.Need-same-length-3 Inv-loop μ-loop
+same-length-3 c = c .before .loop .inv .1 .1 .0
+
+returns-3 : tie.Need-returns-3 Inv-loop μ-loop
+returns-3 c = onward-end _ _ _ _ _ _ _ _ _ _ _ _ (c .before .loop .inv .1 .1 .1) (omega arith) (omega arith) (omega arith)
+
+pub read-values-spec : {M : Type 1} → statement M
+read-values-spec =
+    tie.close
+    (tie.spec
+    Inv-loop
+    μ-loop
+    loop-holds
+    add-if1
+    add-t13
+    same-length
+    returns
+    sub-if2
+    same-length-2
+    returns-2
+    copy-bytes-requires
+    add-at
+    add-pooled
+    add-i
+    loop-less
+    loop-again
+    same-length-3
+    returns-3)

@@ -1,0 +1,6 @@
+pub mod Steps
+pub mod Contracts
+pub mod Members
+pub mod Types
+pub mod Whole
+pub mod Promises
