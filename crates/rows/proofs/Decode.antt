@@ -1,0 +1,164 @@
+-- The walk of a table by its rows' entries: it is `typeAt`. What is known of a row lies in the table and the pool.
+use Prim.Native.Nat.{ℕ, zero, suc, _+_, _*_, _≤_, max}
+use mathlib.Core.Path.{_≡_, refl, sym, ap, _∙_}
+use mathlib.Core.Bool.{Bool, true, false, cond, _&&_}
+use mathlib.Core.List.{List, [], _∷_}
+use native.Mathlib.Omega.{arith}
+use native.Mathlib.Nat.{add-zero}
+use lib.ListN.{length, getD, take, drop}
+use lib.Dec.{leb}
+use borrow.Author.Tests.{leb-true}
+use Rattle.format.specs.Datatype.{Datatype, member}
+use Rattle.format.specs.Table.{row, memberRow, enumMemberRow, Found, found, bad, Walk, andThen, Kind, isFixedPoint, isFloatingPoint, isTime, isString, isBitField, isOpaque, isCompound, isReference, isEnumeration, isVariableLength, isArray, isUnknown, kindOf, membersAt, enumNamesAt, typeAt}
+use Rattle.format.proofs.Booleans.{and-both}
+use Rattle.format.proofs.Rows.{length-row, length-memberRow, length-enumMemberRow}
+use Rattle.format.proofs.TableSteps.{rowIs-fits, typeAt-unknown, typeAt-fixedPoint, typeAt-floatingPoint, typeAt-time, typeAt-string, typeAt-bitField, typeAt-opaque, typeAt-compound, typeAt-reference, typeAt-enumeration, typeAt-variableLength, typeAt-array, membersAt-step, enumNamesAt-step}
+use Rattle.rows.specs.Entries.{wordAt, rowIs, pick, pickMember, entryOf, entryAt, memberAt, enumMemberAt, EntryInside, MemberInside, memberNameLength, enumMemberNameLength, leafType, fromEntry, fromMember, fromEnumMember}
+use Rattle.rows.specs.declared.Entry.{Entry}
+use Rattle.rows.specs.declared.Entry.the-variants.{Leaf, Compound, Enumeration, VariableLength, Array}
+use Rattle.rows.specs.declared.Member.{Member}
+use Rattle.rows.specs.declared.Member.the-variants.{Named}
+
+module _ (table pool : List ℕ) (r p : ℕ) where
+  -- the entry of a row whose kind is known
+  pub entry-kind : {k : ℕ} → getD table (r * 16) 0 ≡ k → entryAt table pool r p ≡ entryOf table pool r p (kindOf k)
+  unfolding entryAt
+  entry-kind e = rw (add-zero, e)
+
+  module _ (rd : Walk Datatype) where
+    from-pick : (b : Bool) (e : Entry) {x : Found Datatype} → fromEntry rd table pool r p e ≡ x → cond b x bad ≡ fromEntry rd table pool r p (pick b e)
+    unfolding fromEntry pick
+    from-pick true e h = sym h
+    from-pick false e h = refl
+
+    from-leaf : (b : Bool) (c n x : ℕ) → cond b (found (leafType table pool r p c) (suc r) p) bad ≡ fromEntry rd table pool r p (pick b (Leaf c n 0 x))
+    unfolding fromEntry
+    from-leaf b c n x = from-pick b (Leaf c n 0 x) (rw add-zero)
+
+-- by the kind of the row
+module _ (k : ℕ) (table pool : List ℕ) (r p : ℕ) where
+  by-kind : (w : ℕ) → getD table (r * 16) 0 ≡ w → typeAt (suc k) table pool r p ≡ fromEntry (typeAt k table pool) table pool r p (entryOf table pool r p (kindOf w))
+  unfolding entryOf fromEntry leafType kindOf
+  by-kind zero e = typeAt-unknown table pool k r p (ap kindOf e)
+  by-kind (suc zero) e = typeAt-fixedPoint table pool k r p e ∙ from-leaf table pool r p (typeAt k table pool) _ _ _ _
+  by-kind (suc (suc zero)) e = typeAt-floatingPoint table pool k r p e ∙ from-leaf table pool r p (typeAt k table pool) _ _ _ _
+  by-kind (suc (suc (suc zero))) e = typeAt-time table pool k r p e ∙ from-leaf table pool r p (typeAt k table pool) _ _ _ _
+  by-kind (suc (suc (suc (suc zero)))) e = typeAt-string table pool k r p e ∙ from-leaf table pool r p (typeAt k table pool) _ _ _ _
+  by-kind (suc (suc (suc (suc (suc zero))))) e = typeAt-bitField table pool k r p e ∙ from-leaf table pool r p (typeAt k table pool) _ _ _ _
+  by-kind (suc (suc (suc (suc (suc (suc zero)))))) e = typeAt-opaque table pool k r p e ∙ from-pick table pool r p (typeAt k table pool) _ _ refl
+  by-kind (suc (suc (suc (suc (suc (suc (suc zero))))))) e = typeAt-compound table pool k r p e ∙ from-pick table pool r p (typeAt k table pool) _ _ refl
+  by-kind (suc (suc (suc (suc (suc (suc (suc (suc zero)))))))) e = typeAt-reference table pool k r p e ∙ from-leaf table pool r p (typeAt k table pool) _ _ _ _
+  by-kind (suc (suc (suc (suc (suc (suc (suc (suc (suc zero))))))))) e = typeAt-enumeration table pool k r p e ∙ from-pick table pool r p (typeAt k table pool) _ _ refl
+  by-kind (suc (suc (suc (suc (suc (suc (suc (suc (suc (suc zero)))))))))) e = typeAt-variableLength table pool k r p e ∙ from-pick table pool r p (typeAt k table pool) _ _ refl
+  by-kind (suc (suc (suc (suc (suc (suc (suc (suc (suc (suc (suc zero))))))))))) e = typeAt-array table pool k r p e ∙ from-pick table pool r p (typeAt k table pool) _ _ refl
+  by-kind (suc (suc (suc (suc (suc (suc (suc (suc (suc (suc (suc (suc w)))))))))))) e = typeAt-unknown table pool k r p (ap kindOf e)
+
+pub typeAt-entry : (k : ℕ) (table pool : List ℕ) (r p : ℕ)
+    → typeAt (suc k) table pool r p ≡ fromEntry (typeAt k table pool) table pool r p (entryAt table pool r p)
+typeAt-entry k table pool r p = by-kind k table pool r p (getD table (r * 16) 0) refl ∙ rw (entry-kind table pool r p refl)
+
+module _ (table pool : List ℕ) (n r p : ℕ) where
+  pub membersAt-entry : (rd : Walk Datatype) → membersAt rd table pool (suc n) r p ≡ fromMember rd (membersAt rd table pool n) pool r p (memberAt table pool r p)
+  unfolding memberAt
+  membersAt-entry rd = membersAt-step table pool n r p rd ∙ go _
+    where
+      go : (b : Bool)
+          → cond b (andThen (rd (suc r) (p + wordAt table r 3)) (λ t r₁ p₁. andThen (membersAt rd table pool n r₁ p₁) (λ ms r₂ p₂. found (member (take (wordAt table r 3) (drop p pool)) (wordAt table r 1) t ms) r₂ p₂))) bad
+          ≡ fromMember rd (membersAt rd table pool n) pool r p (pickMember b (Named (wordAt table r 1) (wordAt table r 3)))
+      go true = unfold fromMember pickMember in refl
+      go false = unfold fromMember pickMember in refl
+
+  pub enumNamesAt-entry : enumNamesAt table pool (suc n) r p ≡ fromEnumMember (enumNamesAt table pool n) pool r p (enumMemberAt table pool r p)
+  unfolding enumMemberAt
+  enumNamesAt-entry = enumNamesAt-step table pool n r p ∙ go _
+    where
+      go : (b : Bool)
+          → cond b (andThen (enumNamesAt table pool n (suc r) (p + wordAt table r 3)) (λ ns r′ p′. found ((take (wordAt table r 3) (drop p pool), wordAt table r 4) ∷ ns) r′ p′)) bad
+          ≡ fromEnumMember (enumNamesAt table pool n) pool r p (pickMember b (Named (wordAt table r 3) (wordAt table r 4)))
+      go true = unfold fromEnumMember pickMember in refl
+      go false = unfold fromEnumMember pickMember in refl
+
+-- what is known of a row lies in the table and in the pool
+module _ (table pool : List ℕ) (r p : ℕ) where
+  fits : (k s q l c : ℕ) (rest : List ℕ) (b : Bool) → length rest ≤ 11 → (rowIs table r (row k s q l c rest) && b) ≡ true → r * 16 + 16 ≤ length table
+  fits k s q l c rest b n h = rowIs-fits table r (row k s q l c rest) (length-row k s q l c rest n) (and-both _ b h .0)
+
+  known : (v : List ℕ) (n : ℕ) → length v ≡ 16 → (rowIs table r v && leb (p + n) (length pool)) ≡ true → (r * 16 + 16 ≤ length table) × (p + n ≤ length pool)
+  known v n l h =
+      let e = and-both (rowIs table r v) (leb (p + n) (length pool)) h in
+      (rowIs-fits table r v l (e .0), leb-true (p + n) (length pool) (e .1))
+
+  inside-pick : (b : Bool) (e : Entry) → (b ≡ true → EntryInside e (length table) (length pool) r p) → EntryInside (pick b e) (length table) (length pool) r p
+  unfolding EntryInside pick
+  inside-pick true e h = h refl
+  inside-pick false e h = tt
+
+  inside-kind : (k : Kind) → EntryInside (entryOf table pool r p k) (length table) (length pool) r p
+  unfolding entryOf EntryInside
+  inside-kind isFixedPoint = inside-pick _ _ (λ h. (fits _ _ _ _ _ _ _ (omega arith) h, omega arith))
+  inside-kind isFloatingPoint = inside-pick _ _ (λ h. (fits _ _ _ _ _ _ _ (omega arith) h, omega arith))
+  inside-kind isTime = inside-pick _ _ (λ h. (fits _ _ _ _ _ _ _ (omega arith) h, omega arith))
+  inside-kind isString = inside-pick _ _ (λ h. (fits _ _ _ _ _ _ _ (omega arith) h, omega arith))
+  inside-kind isBitField = inside-pick _ _ (λ h. (fits _ _ _ _ _ _ _ (omega arith) h, omega arith))
+  inside-kind isReference = inside-pick _ _ (λ h. (fits _ _ _ _ _ _ _ (omega arith) h, omega arith))
+  inside-kind isOpaque =
+      inside-pick _ _ (λ h. let i = known (row 6 (wordAt table r 1) p (wordAt table r 3) 0 []) (wordAt table r 3) (length-row _ _ _ _ _ _ (omega arith)) h in (i .0, omega arith))
+  inside-kind isCompound = inside-pick _ _ (λ h. rowIs-fits table r _ (length-row _ _ _ _ _ _ (omega arith)) h)
+  inside-kind isEnumeration = inside-pick _ _ (λ h. rowIs-fits table r _ (length-row _ _ _ _ _ _ (omega arith)) h)
+  inside-kind isVariableLength = inside-pick _ _ (λ h. fits _ _ _ _ _ _ _ (omega arith) h)
+  inside-kind isArray =
+      inside-pick _ _ (λ h. known (row 11 0 p (wordAt table r 3) 0 []) (wordAt table r 3 * 4) (length-row _ _ _ _ _ _ (omega arith)) h)
+  inside-kind isUnknown = tt
+
+  pub entry-inside : EntryInside (entryAt table pool r p) (length table) (length pool) r p
+  unfolding entryAt
+  entry-inside = inside-kind (kindOf (wordAt table r 0))
+
+  pub member-inside : MemberInside (memberAt table pool r p) (length table) (length pool) r p (memberNameLength (memberAt table pool r p))
+  unfolding memberAt
+  member-inside = go _ refl
+    where
+      go : (b : Bool) → (rowIs table r (memberRow p (wordAt table r 1) (wordAt table r 3)) && leb (p + wordAt table r 3) (length pool)) ≡ b
+          → MemberInside (pickMember b (Named (wordAt table r 1) (wordAt table r 3))) (length table) (length pool) r p (memberNameLength (pickMember b (Named (wordAt table r 1) (wordAt table r 3))))
+      go true h = unfold MemberInside memberNameLength pickMember in known (memberRow p (wordAt table r 1) (wordAt table r 3)) (wordAt table r 3) (length-memberRow p (wordAt table r 1) (wordAt table r 3)) h
+      go false h = unfold MemberInside memberNameLength pickMember in tt
+
+  pub enumMember-inside : MemberInside (enumMemberAt table pool r p) (length table) (length pool) r p (enumMemberNameLength (enumMemberAt table pool r p))
+  unfolding enumMemberAt
+  enumMember-inside = go _ refl
+    where
+      go : (b : Bool) → (rowIs table r (enumMemberRow p (wordAt table r 3) (wordAt table r 4)) && leb (p + wordAt table r 3) (length pool)) ≡ b
+          → MemberInside (pickMember b (Named (wordAt table r 3) (wordAt table r 4))) (length table) (length pool) r p (enumMemberNameLength (pickMember b (Named (wordAt table r 3) (wordAt table r 4))))
+      go true h = unfold MemberInside enumMemberNameLength pickMember in known (enumMemberRow p (wordAt table r 3) (wordAt table r 4)) (wordAt table r 3) (length-enumMemberRow p (wordAt table r 3) (wordAt table r 4)) h
+      go false h = unfold MemberInside enumMemberNameLength pickMember in tt
+
+-- what a caller knows of a row that it has taken apart
+module _ {e : Entry} (w b r p : ℕ) (h : EntryInside e w b r p) where
+  pub leaf-inside : {c n l x : ℕ} → e ≡ Leaf c n l x → (r * 16 + 16 ≤ w) × (p + l ≤ max b p)
+  unfolding EntryInside
+  leaf-inside i = rw i at h
+
+  pub compound-inside : {n k : ℕ} → e ≡ Compound n k → r * 16 + 16 ≤ w
+  unfolding EntryInside
+  compound-inside i = rw i at h
+
+  pub enumeration-inside : {n k : ℕ} → e ≡ Enumeration n k → r * 16 + 16 ≤ w
+  unfolding EntryInside
+  enumeration-inside i = rw i at h
+
+  pub variableLength-inside : {i a c : ℕ} → e ≡ VariableLength i a c → r * 16 + 16 ≤ w
+  unfolding EntryInside
+  variableLength-inside i = rw i at h
+
+  pub array-inside : {k : ℕ} → e ≡ Array k → (r * 16 + 16 ≤ w) × (p + k * 4 ≤ b)
+  unfolding EntryInside
+  array-inside i = rw i at h
+
+module _ {m : Member} {x y : ℕ} (w b r p : ℕ) (i : m ≡ Named x y) where
+  pub named-inside : MemberInside m w b r p (memberNameLength m) → (r * 16 + 16 ≤ w) × (p + y ≤ b)
+  unfolding MemberInside memberNameLength
+  named-inside h = rw i at h
+
+  pub enumNamed-inside : MemberInside m w b r p (enumMemberNameLength m) → (r * 16 + 16 ≤ w) × (p + x ≤ b)
+  unfolding MemberInside enumMemberNameLength
+  enumNamed-inside h = rw i at h

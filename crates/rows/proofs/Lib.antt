@@ -1,0 +1,3 @@
+pub mod Decode
+pub mod Zeros
+pub mod Columns
