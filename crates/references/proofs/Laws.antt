@@ -1,0 +1,207 @@
+-- Laws of the slots outside a record, of products that stop, of 8-byte numbers and of the references' stores.
+use Prim.Native.Nat.{ℕ, zero, suc, _+_, _*_, _/_, _^_, _<_, _≤_, min}
+use mathlib.Core.Path.{_≡_, refl, sym, ap, _∙_}
+use mathlib.Core.Bool.{Bool, true, false}
+use mathlib.Core.List.{List, [], _∷_, _++_, append-nil, append-assoc}
+use native.Mathlib.Nat.{add-zero, mul-zero, suc-mul, div-lt-iff-lt-mul, le-div-iff-mul-le, mul-le-mul-right, div-mul-le-self}
+use native.Mathlib.Numerals.{add-one}
+use native.Mathlib.Omega.{arith}
+use lib.ListN.{length, getD, take, drop, set}
+use lib.Seq.{sets, length-sets, drop-cons, take-all, sets-eq}
+use lib.Dec.{leb}
+use borrow.Author.Tests.{lt-ltb, le-ltb, le-leb, lt-leb}
+use Rattle.refusal.specs.declared.Refusal.the-variants.{SlotOutside, NoRoom}
+use Rattle.format.specs.Bytes.{numberFrom}
+use Rattle.format.specs.Outcome.{unless, needed}
+use Rattle.format.specs.Slots.{shifted, entries, someOutside, recordSize, recordCount, valuesAt, referencePlaces, referencing}
+use Rattle.format.proofs.Slots.{length-shifted, length-entries, length-places, length-values, value-at, getD-shifted, slot-inside}
+use Rattle.primitives.proofs.Laws.{sets-append, sets-take}
+use Rattle.references.specs.References.{ReferencesAre, answerOf, placesAfter, valuesAfter}
+use Rattle.references.specs.declared.References.the-variants.{Found, Refused}
+
+-- ---- a slot outside a record
+
+outside-cons : (n : ℕ) (ss : List ℕ) (i : ℕ) → i < length ss → someOutside n (drop i ss) ≡ someOutside n (getD ss i 0 ∷ drop (suc i) ss)
+outside-cons n ss i h = ap (someOutside n) (drop-cons ss i 0 h)
+
+pub outside-here : (n : ℕ) (ss : List ℕ) (i : ℕ) → i < length ss → n < getD ss i 0 + 8 → true ≡ someOutside n (drop i ss)
+unfolding someOutside
+outside-here n ss i h g = sym (outside-cons n ss i h ∙ rw (lt-ltb n (getD ss i 0 + 8) g))
+
+pub outside-next : (n : ℕ) (ss : List ℕ) (i : ℕ) → i < length ss → getD ss i 0 + 8 ≤ n → someOutside n (drop i ss) ≡ someOutside n (drop (i + 1) ss)
+unfolding someOutside
+outside-next n ss i h g = outside-cons n ss i h ∙ rw (le-ltb n (getD ss i 0 + 8) g, add-one)
+
+pub outside-none : (n : ℕ) (ss : List ℕ) (i : ℕ) → length ss ≤ i → false ≡ someOutside n (drop i ss)
+unfolding someOutside
+outside-none n [] zero h = refl
+outside-none n [] (suc i) h = refl
+outside-none n (s ∷ ss) zero h = absurd (omega arith)
+outside-none n (s ∷ ss) (suc i) h = outside-none n ss i (omega arith)
+
+-- ---- a product that stops
+
+pub times-none : (a b : ℕ) → b ≡ 0 → 0 ≡ min (a * b) 18446744073709551615
+times-none a b h = rw (h, mul-zero) (omega arith)
+
+some-divisor : (d : ℕ) → (d ≡ 0 → ⊥) → 0 < d
+some-divisor zero g = absurd (g refl)
+some-divisor (suc d) g = omega arith
+
+module _ (a b : ℕ) (h : b ≡ 0 → ⊥) where
+  pub times-past : 18446744073709551615 / b < a → 18446744073709551615 ≡ min (a * b) 18446744073709551615
+  times-past g = let p : 18446744073709551615 < a * b = div-lt-iff-lt-mul (some-divisor b h) .0 g in omega arith
+
+  pub times-fits : a ≤ 18446744073709551615 / b → a * b ≤ 18446744073709551615
+  times-fits g = le-div-iff-mul-le (some-divisor b h) .0 g
+
+  pub times-whole : a ≤ 18446744073709551615 / b → a * b ≡ min (a * b) 18446744073709551615
+  times-whole g = let p : a * b ≤ 18446744073709551615 = times-fits g in omega arith
+
+-- ---- numbers of 8 bytes
+
+-- fewer than eight bytes leave room for one more
+pub byte-room : (k : ℕ) → k < 8 → 256 ^ k ≤ 72057594037927936
+byte-room zero h = omega arith
+byte-room (suc zero) h = omega arith
+byte-room (suc (suc zero)) h = omega arith
+byte-room (suc (suc (suc zero))) h = omega arith
+byte-room (suc (suc (suc (suc zero)))) h = omega arith
+byte-room (suc (suc (suc (suc (suc zero))))) h = omega arith
+byte-room (suc (suc (suc (suc (suc (suc zero)))))) h = omega arith
+byte-room (suc (suc (suc (suc (suc (suc (suc zero))))))) h = omega arith
+byte-room (suc (suc (suc (suc (suc (suc (suc (suc k)))))))) h = absurd (omega arith)
+
+-- ---- the references of one record
+
+module _ (l l₁ : List ℕ) (at start : ℕ) (ss : List ℕ) (i : ℕ) (h : i < length ss) where
+  pub place-more : l₁ ≡ sets l at (take i (shifted start ss)) → set l₁ (at + i) (start + getD ss i 0) ≡ sets l at (take (i + 1) (shifted start ss))
+  place-more e =
+      ap (λ (x : List ℕ). set x (at + i) (start + getD ss i 0)) e
+      ∙ ap (λ (x : ℕ). set (sets l at (take i (shifted start ss))) (at + i) x) (sym (getD-shifted start ss i h))
+      ∙ sets-take (shifted start ss) l at i (omega (arith, length-shifted start ss))
+
+  pub value-more : (block : List ℕ) (v : ℕ) → v ≡ numberFrom (take 8 (drop (start + getD ss i 0) block))
+      → l₁ ≡ sets l at (take i (valuesAt block (shifted start ss))) → set l₁ (at + i) v ≡ sets l at (take (i + 1) (valuesAt block (shifted start ss)))
+  value-more block v g e =
+      let k : i < length (shifted start ss) = omega (arith, length-shifted start ss) in
+      let w : getD (valuesAt block (shifted start ss)) i 0 ≡ v = value-at block (shifted start ss) i k ∙ ap (λ (x : ℕ). numberFrom (take 8 (drop x block))) (getD-shifted start ss i h) ∙ sym g in
+      ap (λ (x : List ℕ). set x (at + i) v) e
+      ∙ ap (λ (x : ℕ). set (sets l at (take i (valuesAt block (shifted start ss)))) (at + i) x) (sym w)
+      ∙ sets-take (valuesAt block (shifted start ss)) l at i (omega (arith, length-values block (shifted start ss)))
+
+-- all of them
+pub all-stored : (l l₁ m m₁ : List ℕ) (at start : ℕ) (ss block : List ℕ) (i : ℕ) → length ss ≤ i → l₁ ≡ sets l at (take i (shifted start ss))
+    → m₁ ≡ sets m at (take i (valuesAt block (shifted start ss))) → (l₁ ≡ sets l at (shifted start ss)) × (m₁ ≡ sets m at (valuesAt block (shifted start ss)))
+all-stored l l₁ m m₁ at start ss block i h e g = (
+  e ∙ ap (sets l at) (take-all i (shifted start ss) (omega (arith, length-shifted start ss))),
+  g ∙ ap (sets m at) (take-all i (valuesAt block (shifted start ss)) (omega (arith, length-values block (shifted start ss), length-shifted start ss))),
+)
+
+-- ---- the references of one record more
+
+entries-snoc : (stride : ℕ) (ss : List ℕ) (k n : ℕ) → entries stride ss k (suc n) ≡ entries stride ss k n ++ shifted ((k + n) * stride) ss
+unfolding entries
+entries-snoc stride ss k zero = append-nil (shifted (k * stride) ss) ∙ rw add-zero
+entries-snoc stride ss k (suc n) =
+    let e : suc k + n ≡ k + suc n = omega arith in
+    ap (λ (x : List ℕ). shifted (k * stride) ss ++ x) (entries-snoc stride ss (suc k) n ∙ ap (λ (x : ℕ). entries stride ss (suc k) n ++ shifted (x * stride) ss) e)
+    ∙ sym (append-assoc (shifted (k * stride) ss) (entries stride ss (suc k) n) (shifted ((k + suc n) * stride) ss))
+
+one-more : (stride : ℕ) (ss : List ℕ) (r : ℕ) → entries stride ss 0 r ++ shifted (r * stride) ss ≡ entries stride ss 0 (r + 1)
+one-more stride ss r =
+    let e : 0 + r ≡ r = omega arith in
+    sym (rw add-one (entries-snoc stride ss 0 r ∙ ap (λ (x : ℕ). entries stride ss 0 r ++ shifted (x * stride) ss) e))
+
+values-append : (block ps qs : List ℕ) → valuesAt block (ps ++ qs) ≡ valuesAt block ps ++ valuesAt block qs
+unfolding valuesAt
+values-append block [] qs = refl
+values-append block (p ∷ ps) qs = ap (λ (x : List ℕ). numberFrom (take 8 (drop p block)) ∷ x) (values-append block ps qs)
+
+stored-more : (xs ys l l₁ l₂ : List ℕ) (n : ℕ) → length xs ≡ n → l₁ ≡ sets l 0 xs → l₂ ≡ sets l₁ n ys → l₂ ≡ sets l 0 (xs ++ ys)
+stored-more xs ys l l₁ l₂ n h e g =
+    let k : n ≡ 0 + length xs = omega arith in
+    g ∙ ap (λ (x : List ℕ). sets x n ys) e ∙ ap (λ (x : ℕ). sets (sets l 0 xs) x ys) k ∙ sym (sets-append xs ys l 0)
+
+module _ (l l₁ l₂ : List ℕ) (size : ℕ) (ss : List ℕ) (r : ℕ) where
+  pub places-more : l₁ ≡ sets l 0 (entries size ss 0 r) → l₂ ≡ sets l₁ (r * length ss) (shifted (r * size) ss) → l₂ ≡ sets l 0 (entries size ss 0 (r + 1))
+  places-more e g =
+      stored-more (entries size ss 0 r) (shifted (r * size) ss) l l₁ l₂ (r * length ss) (length-entries size ss 0 r) e g
+      ∙ ap (sets l 0) (one-more size ss r)
+
+  pub values-more : (block : List ℕ) → l₁ ≡ sets l 0 (valuesAt block (entries size ss 0 r)) → l₂ ≡ sets l₁ (r * length ss) (valuesAt block (shifted (r * size) ss))
+      → l₂ ≡ sets l 0 (valuesAt block (entries size ss 0 (r + 1)))
+  values-more block e g =
+      stored-more (valuesAt block (entries size ss 0 r)) (valuesAt block (shifted (r * size) ss)) l l₁ l₂ (r * length ss) (length-values block (entries size ss 0 r) ∙ length-entries size ss 0 r) e g
+      ∙ ap (sets l 0) (sym (values-append block (entries size ss 0 r) (shifted (r * size) ss)) ∙ ap (valuesAt block) (one-more size ss r))
+
+pub same-stored : (l l₁ l₂ ys : List ℕ) (n : ℕ) → l₂ ≡ sets l₁ n ys → length l₁ ≡ length l → length l₂ ≡ length l
+same-stored l l₁ l₂ ys n e h = ap length e ∙ length-sets l₁ n ys ∙ h
+
+pub none-stored : (l m block ss : List ℕ) (size : ℕ) → (l ≡ sets l 0 (entries size ss 0 0)) × (m ≡ sets m 0 (valuesAt block (entries size ss 0 0)))
+unfolding entries valuesAt
+none-stored l m block ss size = (refl, refl)
+
+pub all-records : (l l₁ m m₁ : List ℕ) (size : ℕ) (ss block : List ℕ) (r n : ℕ) → r ≡ n → l₁ ≡ sets l 0 (entries size ss 0 r)
+    → m₁ ≡ sets m 0 (valuesAt block (entries size ss 0 r)) → (l₁ ≡ sets l 0 (entries size ss 0 n)) × (m₁ ≡ sets m 0 (valuesAt block (entries size ss 0 n)))
+all-records l l₁ m m₁ size ss block r n h e g =
+    (e ∙ ap (λ (x : ℕ). sets l 0 (entries size ss 0 x)) h, g ∙ ap (λ (x : ℕ). sets m 0 (valuesAt block (entries size ss 0 x))) h)
+
+-- a record of several, and what it takes, within the whole
+pub record-within : (r n s m : ℕ) → r < n → n * s ≤ m → r * s + s ≤ m
+record-within r n s m h g = let p : suc r * s ≤ n * s = mul-le-mul-right s h in omega (arith, suc-mul r s)
+
+-- each slot of a record that lies in the block
+pub slot-in-block : (r n size m : ℕ) (ss : List ℕ) → r < n → n * size ≤ m → someOutside size ss ≡ false → (i : ℕ) → i < length ss → r * size + getD ss i 0 + 8 ≤ m
+slot-in-block r n size m ss h g o i k = omega (arith, record-within r n size m h g, slot-inside size ss o i k)
+
+-- ---- the ways out of `stored_object_references`
+
+stored-all : (xs l l₁ : List ℕ) → length xs ≤ length l → l₁ ≡ sets l 0 xs → l₁ ≡ xs ++ drop (length xs) l
+stored-all xs l l₁ h e =
+    let k : 0 + length xs ≡ length xs = omega arith in
+    e ∙ sets-eq xs l 0 (omega arith) ∙ ap (λ (x : ℕ). xs ++ drop x l) k
+
+module _ (block ss p v : List ℕ) (n size : ℕ) (flag : Bool) (z : size ≡ recordSize n) (o : flag ≡ someOutside size ss) where
+  pub is-outside : flag ≡ true → ReferencesAre block n ss (Refused SlotOutside) p p v v
+  unfolding referencing unless answerOf placesAfter valuesAfter
+  is-outside f =
+      let q : someOutside (recordSize n) ss ≡ true = rw (← z) (sym o ∙ f) in
+      record { answer = rw q; places-are = rw q; values-are = rw q }
+
+  module _ (f : flag ≡ false) (records wanted room : ℕ) (c : records ≡ length block / size) (w : wanted ≡ min (records * length ss) 18446744073709551615) (m : room ≡ min (length p) (length v)) where
+    inside : someOutside (recordSize n) ss ≡ false
+    inside = rw (← z) (sym o ∙ f)
+
+    counted : records ≡ recordCount block n
+    unfolding recordCount
+    counted = c ∙ rw z
+
+    pub is-no-room : room < wanted → ReferencesAre block n ss (Refused (NoRoom wanted)) p p v v
+    unfolding referencing unless needed answerOf placesAfter valuesAfter
+    is-no-room g =
+        let q : leb (recordCount block n * length ss) (min (length p) (length v)) ≡ false = rw (← counted) (lt-leb (records * length ss) (min (length p) (length v)) (omega arith)) in
+        record { answer = rw (inside, q, w, counted); places-are = rw (inside, q); values-are = rw (inside, q) }
+
+    module _ (r : room < 18446744073709551615) (g : wanted ≤ room) where
+      enough : records * length ss ≤ room
+      enough = omega arith
+
+      -- what `store_records` requires
+      pub may-store : ((records * size ≤ length block) × (someOutside size ss ≡ false)) × ((records * length ss ≤ length p) × (records * length ss ≤ length v))
+      may-store = ((rw c (div-mul-le-self (length block) size), sym o ∙ f), (omega (arith, enough), omega (arith, enough)))
+
+      pub is-found : (p′ v′ : List ℕ) → p′ ≡ sets p 0 (entries size ss 0 records) → v′ ≡ sets v 0 (valuesAt block (entries size ss 0 records))
+          → ReferencesAre block n ss (Found wanted) p p′ v v′
+      unfolding referencing unless answerOf placesAfter valuesAfter
+      is-found p′ v′ e d =
+          let q : leb (recordCount block n * length ss) (min (length p) (length v)) ≡ true = rw (← counted) (le-leb (records * length ss) (min (length p) (length v)) (omega (arith, enough))) in
+          let ps : entries size ss 0 records ≡ referencePlaces block n ss = unfold referencePlaces in rw (z, counted) in
+          let k : length (referencePlaces block n ss) ≡ records * length ss = length-places block n ss ∙ rw (← counted) in
+          let vk : length (valuesAt block (referencePlaces block n ss)) ≡ records * length ss = length-values block (referencePlaces block n ss) ∙ k in
+          let s : wanted ≡ length (referencePlaces block n ss) = omega (arith, enough) in
+          record {
+            answer = rw (inside, q) (ap Found s);
+            places-are = rw (inside, q) (stored-all (referencePlaces block n ss) p p′ (omega (arith, enough)) (rw (← ps) e));
+            values-are = rw (inside, q) (stored-all (valuesAt block (referencePlaces block n ss)) v v′ (omega (arith, enough)) (rw (← ps) d));
+          }

@@ -1,0 +1,106 @@
+use Prim.Native.Nat.{_-_, _≤_, _<_}
+use mathlib.Core.Path.{_≡_, refl}
+use native.Mathlib.Omega.{arith}
+use lib.ListN.{length, take, length-set}
+use lib.Seq.{sets}
+use Rattle.format.specs.Slots.{shifted, valuesAt}
+use Rattle.references.proofs.Laws.{place-more, value-more, all-stored}
+use Rattle.references.proofs.store_record.Statement.{statement}
+use Rattle.references.proofs.store_record.Tie as tie
+
+abbrev Inv-loop : tie.InvT-loop
+Inv-loop block start slots at places₀ values₀ i₀ places values i = ((i ≤ length slots) × ((length places ≡ length places₀) × (length values ≡ length values₀))) × ((places ≡ sets places₀ at (take i (shifted start slots))) × (values ≡ sets values₀ at (take i (valuesAt block (shifted start slots)))))
+
+abbrev μ-loop : tie.MeasureT-loop
+μ-loop block start slots at places₀ values₀ i₀ places values i = length slots - i
+
+loop-holds : tie.Need-loop-holds Inv-loop μ-loop
+loop-holds c = ((omega arith, (refl, refl)), (refl, refl))
+
+mul-slot : tie.Need-mul-slot Inv-loop μ-loop
+mul-slot c = omega arith
+
+shared-slice-read-slot : tie.Need-shared-slice-read-slot Inv-loop μ-loop
+shared-slice-read-slot c = omega arith
+
+add-place : tie.Need-add-place Inv-loop μ-loop
+add-place c =
+    let l = c .before .before .loop in
+    omega (arith, c .before .before .before .before .before .before .before .pre .0 (l .i) (omega arith))
+
+read-u64-requires : tie.Need-read-u64-requires Inv-loop μ-loop
+read-u64-requires c κs =
+    let l = c .before .before .loop in
+    c .before .before .before .before .before .before .before .pre .0 (l .i) (omega arith)
+
+add-places : tie.Need-add-places Inv-loop μ-loop
+add-places c = omega arith
+
+mul-places : tie.Need-mul-places Inv-loop μ-loop
+mul-places c = omega arith
+
+slice-write-places : tie.Need-slice-write-places Inv-loop μ-loop
+slice-write-places c = omega arith
+
+add-values : tie.Need-add-values Inv-loop μ-loop
+add-values c = omega arith
+
+mul-values : tie.Need-mul-values Inv-loop μ-loop
+mul-values c = omega arith
+
+slice-write-values : tie.Need-slice-write-values Inv-loop μ-loop
+slice-write-values c = omega arith
+
+add-i : tie.Need-add-i Inv-loop μ-loop
+add-i c = omega arith
+
+loop-less : tie.Need-loop-less Inv-loop μ-loop
+loop-less c = omega arith
+
+loop-again : tie.Need-loop-again Inv-loop μ-loop
+loop-again c =
+    let a = c .before .before .before .before .before .before .before .before .args in
+    let l = c .before .before .before .loop in
+    let n : l .i < length (a .slots .now) = omega arith in (
+      (omega arith, (simp length-set (l .inv .0 .1 .0), simp length-set (l .inv .0 .1 .1))),
+      (
+        place-more (a .places .now) (l .places) (a .at) (a .start) (a .slots .now) (l .i) n (l .inv .1 .0),
+        value-more (a .values .now) (l .values) (a .at) (a .start) (a .slots .now) (l .i) n (a .block .now) (c .read-u64 .result) (c .read-u64 .ensures) (l .inv .1 .1),
+      ),
+    )
+
+same-length : tie.Need-same-length Inv-loop μ-loop
+same-length c = c .before .loop .inv .0 .1 .0
+
+same-length-2 : tie.Need-same-length-2 Inv-loop μ-loop
+same-length-2 c = c .before .loop .inv .0 .1 .1
+
+returns : tie.Need-returns Inv-loop μ-loop
+returns c =
+    let a = c .before .before .before .before .before .before .args in
+    let l = c .before .loop in
+    all-stored (a .places .now) (l .places) (a .values .now) (l .values) (a .at) (a .start) (a .slots .now) (a .block .now) (l .i) (omega arith) (l .inv .1 .0) (l .inv .1 .1)
+
+pub store-record-spec : {M : Type 1} → statement M
+store-record-spec =
+    tie.close
+    (tie.spec
+    Inv-loop
+    μ-loop
+    loop-holds
+    mul-slot
+    shared-slice-read-slot
+    add-place
+    read-u64-requires
+    add-places
+    mul-places
+    slice-write-places
+    add-values
+    mul-values
+    slice-write-values
+    add-i
+    loop-less
+    loop-again
+    same-length
+    same-length-2
+    returns)

@@ -1,0 +1,84 @@
+use Prim.Native.Nat.{_/_}
+use mathlib.Core.Path.{_≡_, refl}
+use mathlib.Core.Bool.{false}
+use native.Mathlib.Omega.{arith}
+use lib.ListN.{length}
+use Rattle.references.proofs.Laws.{is-outside, is-no-room, may-store, is-found}
+use borrow.Author.Needs.{needs}
+use Rattle.references.proofs.stored_object_references.Statement.{statement}
+use Rattle.references.proofs.stored_object_references.Tie as tie
+
+at-least-one-requires : tie.Need-at-least-one-requires
+at-least-one-requires c κs = search needs
+
+some-outside-requires : tie.Need-some-outside-requires
+some-outside-requires c κs = search needs
+
+returns : tie.Need-returns
+returns c =
+    let a = c .before .before .before .before .before .before .before .args in
+    let z = c .before .before .at-least-one in
+    let o = c .before .some-outside in
+    is-outside (a .block .now) (a .slots .now) (a .places .now) (a .values .now) (a .record-size) (z .result) (o .result) (z .ensures .0) (o .ensures) (c .if1 .taken)
+
+div-records : tie.Need-div-records
+div-records c = search needs
+
+times-requires : tie.Need-times-requires
+times-requires c κs = search needs
+
+shorter-requires : tie.Need-shorter-requires
+shorter-requires c κs = search needs
+
+returns-2 : tie.Need-returns-2
+returns-2 c =
+    let a = c .before .before .before .before .before .before .before .before .before .before .args in
+    let z = c .before .before .before .before .before .at-least-one in
+    let o = c .before .before .before .before .some-outside in
+    let t = c .before .before .times in
+    let m = c .before .shorter in
+    let f : o .result ≡ false = c .before .before .before .if1 .left in
+    is-no-room (a .block .now) (a .slots .now) (a .places .now) (a .values .now) (a .record-size) (z .result) (o .result) (z .ensures .0) (o .ensures) f (length (a .block .now) / z .result) (t .result) (m .result) refl (t .ensures) (m .ensures) (omega arith)
+
+store-records-requires : tie.Need-store-records-requires
+store-records-requires c κs =
+    let a = c .before .before .before .before .before .before .before .before .before .before .before .before .args in
+    let z = c .before .before .before .before .before .before .before .at-least-one in
+    let o = c .before .before .before .before .before .before .some-outside in
+    let t = c .before .before .before .before .times in
+    let m = c .before .before .before .shorter in
+    let f : o .result ≡ false = c .before .before .before .before .before .if1 .left in
+    may-store (a .block .now) (a .slots .now) (a .places .now) (a .values .now) (a .record-size) (z .result) (o .result) (z .ensures .0) (o .ensures) f (length (a .block .now) / z .result) (t .result) (m .result) refl (t .ensures) (m .ensures) (omega arith) (omega arith)
+
+same-length : tie.Need-same-length
+same-length c = search needs
+
+same-length-2 : tie.Need-same-length-2
+same-length-2 c = search needs
+
+returns-3 : tie.Need-returns-3
+returns-3 c =
+    let a = c .before .before .before .before .before .before .before .before .before .before .before .before .before .before .before .before .before .args in
+    let z = c .before .before .before .before .before .before .before .before .before .before .before .before .at-least-one in
+    let o = c .before .before .before .before .before .before .before .before .before .before .before .some-outside in
+    let t = c .before .before .before .before .before .before .before .before .before .times in
+    let m = c .before .before .before .before .before .before .before .before .shorter in
+    let f : o .result ≡ false = c .before .before .before .before .before .before .before .before .before .before .if1 .left in
+    let s = c .before .before .before .before .store-records in
+    is-found (a .block .now) (a .slots .now) (a .places .now) (a .values .now) (a .record-size) (z .result) (o .result) (z .ensures .0) (o .ensures) f (length (a .block .now) / z .result) (t .result) (m .result) refl (t .ensures) (m .ensures) (omega (arith, c .before .before .before .before .before .before .before .before .before .before .before .before .before .before .before .before .before .good .1 .1 .1 .0 .1)) (omega arith) _ _ (s .ensures .0) (s .ensures .1)
+
+pub stored-object-references-spec : {M : Type 1} → statement M
+stored-object-references-spec =
+    tie.close
+    (tie.spec
+    at-least-one-requires
+    some-outside-requires
+    returns
+    div-records
+    times-requires
+    shorter-requires
+    returns-2
+    store-records-requires
+    same-length
+    same-length-2
+    returns-3)

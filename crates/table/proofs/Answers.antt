@@ -1,0 +1,151 @@
+-- The answers of the calls that only ask for the check's survey.
+use Prim.Native.Nat.{ℕ, suc, _-_, _<_, _≤_}
+use mathlib.Core.Path.{_≡_, refl, sym, ap, _∙_}
+use mathlib.Core.Bool.{true, false}
+use mathlib.Core.List.{List}
+use native.Mathlib.Omega.{arith}
+use lib.ListN.{length, getD, List·getD-append}
+use borrow.Author.Tests.{lt-ltb}
+use Rattle.refusal.specs.declared.Refusal.the-variants.{BadTable, ZeroSize}
+use Rattle.format.specs.Bytes.{padded}
+use Rattle.format.specs.Datatype.{Datatype, fixedPoint, floatingPoint, time, string, bitField, opaque, compound, reference, enumeration, variableLength, array, rowCount, typeSize, classNumber}
+use Rattle.format.specs.Outcome.{whenGiven, unless}
+use Rattle.format.specs.Sizes.{sizing, elementSizing, objectAddressHeld, fileAddressHeld, holdsObjectAddress, holdsFileAddress}
+use Rattle.format.specs.Table.{rows, row, found}
+use Rattle.format.proofs.Rows.{length-rows}
+use Rattle.format.proofs.Table.{typeOf-sound}
+use Rattle.table.specs.Survey.{Checks, sizedOf, heldOf}
+use Rattle.table.specs.declared.Survey.{Survey}
+use Rattle.table.specs.declared.Checked.{Checked}
+use Rattle.table.specs.declared.Checked.the-variants.{Good, Bad}
+use Rattle.table.specs.declared.Sized.the-variants.{Size, Refused as SizedRefused}
+use Rattle.table.specs.declared.Held.the-variants.{Yes, No, Refused as HeldRefused}
+use Rattle.table.proofs.Surveys.{Says, Told, told}
+use Rattle.table.proofs.Checking.{all-bytes}
+
+-- the first word of a type's rows is its class + 1
+rows-first : (p : ℕ) (t : Datatype) → getD (rows p t) 0 0 ≡ suc (classNumber t)
+unfolding rows row classNumber
+rows-first p (fixedPoint n o s f q) = refl
+rows-first p (floatingPoint n o f q el es ml ms x) = refl
+rows-first p (time n o q) = refl
+rows-first p (string n a k) = refl
+rows-first p (bitField n o f q) = refl
+rows-first p (opaque n g) = refl
+rows-first p (compound n ms) = refl
+rows-first p (reference n k) = refl
+rows-first p (enumeration n t ms) = refl
+rows-first p (variableLength i a k t) = refl
+rows-first p (array ds t) = refl
+
+class-small : (t : Datatype) → classNumber t ≤ 10
+unfolding classNumber
+class-small (fixedPoint n o s f q) = omega arith
+class-small (floatingPoint n o f q el es ml ms x) = omega arith
+class-small (time n o q) = omega arith
+class-small (string n a k) = omega arith
+class-small (bitField n o f q) = omega arith
+class-small (opaque n g) = omega arith
+class-small (compound n ms) = omega arith
+class-small (reference n k) = omega arith
+class-small (enumeration n t ms) = omega arith
+class-small (variableLength i a k t) = omega arith
+class-small (array ds t) = omega arith
+
+rows-some : (t : Datatype) → 0 < rowCount t
+unfolding rowCount
+rows-some (fixedPoint n o s f q) = omega arith
+rows-some (floatingPoint n o f q el es ml ms x) = omega arith
+rows-some (time n o q) = omega arith
+rows-some (string n a k) = omega arith
+rows-some (bitField n o f q) = omega arith
+rows-some (opaque n g) = omega arith
+rows-some (compound n ms) = omega arith
+rows-some (reference n k) = omega arith
+rows-some (enumeration n t ms) = omega arith
+rows-some (variableLength i a k t) = omega arith
+rows-some (array ds t) = omega arith
+
+module _ (table pool : List ℕ) {r : Checked} (h : Checks table pool r) where
+  says : {s : Survey} (g : r ≡ Good s) → Says s (h .good s g .type) (s .row) (s .place)
+  unfolding Told
+  says {s = s} g = told (found (h .good s g .type) (s .row) (s .place)) s refl (h .good s g .says)
+
+  pub size-bad : r ≡ Bad → SizedRefused BadTable ≡ sizedOf (sizing table pool)
+  unfolding sizing sizedOf whenGiven
+  size-bad e = rw (h .bad-table e)
+
+  pub size-good : {s : Survey} → r ≡ Good s → Size (s .size) ≡ sizedOf (sizing table pool)
+  unfolding sizing sizedOf whenGiven
+  size-good {s = s} g =
+      let f : s .size ≡ typeSize (h .good s g .type) = ap (λ (v : Survey). v .size) (says g .is) in
+      rw (h .good s g .is, ← f)
+
+  pub object-bad : r ≡ Bad → HeldRefused BadTable ≡ heldOf (objectAddressHeld table pool)
+  unfolding objectAddressHeld heldOf whenGiven
+  object-bad e = rw (h .bad-table e)
+
+  pub object-yes : {s : Survey} → r ≡ Good s → s .object ≡ true → Yes ≡ heldOf (objectAddressHeld table pool)
+  unfolding objectAddressHeld heldOf whenGiven
+  object-yes {s = s} g e =
+      let f : holdsObjectAddress (h .good s g .type) ≡ true = sym (ap (λ (v : Survey). v .object) (says g .is)) ∙ e in
+      rw (h .good s g .is, f)
+
+  pub object-no : {s : Survey} → r ≡ Good s → s .object ≡ false → No ≡ heldOf (objectAddressHeld table pool)
+  unfolding objectAddressHeld heldOf whenGiven
+  object-no {s = s} g e =
+      let f : holdsObjectAddress (h .good s g .type) ≡ false = sym (ap (λ (v : Survey). v .object) (says g .is)) ∙ e in
+      rw (h .good s g .is, f)
+
+  pub file-bad : r ≡ Bad → HeldRefused BadTable ≡ heldOf (fileAddressHeld table pool)
+  unfolding fileAddressHeld heldOf whenGiven
+  file-bad e = rw (h .bad-table e)
+
+  pub file-yes : {s : Survey} → r ≡ Good s → s .file ≡ true → Yes ≡ heldOf (fileAddressHeld table pool)
+  unfolding fileAddressHeld heldOf whenGiven
+  file-yes {s = s} g e =
+      let f : holdsFileAddress (h .good s g .type) ≡ true = sym (ap (λ (v : Survey). v .file) (says g .is)) ∙ e in
+      rw (h .good s g .is, f)
+
+  pub file-no : {s : Survey} → r ≡ Good s → s .file ≡ false → No ≡ heldOf (fileAddressHeld table pool)
+  unfolding fileAddressHeld heldOf whenGiven
+  file-no {s = s} g e =
+      let f : holdsFileAddress (h .good s g .type) ≡ false = sym (ap (λ (v : Survey). v .file) (says g .is)) ∙ e in
+      rw (h .good s g .is, f)
+
+  pub element-bad : r ≡ Bad → SizedRefused BadTable ≡ sizedOf (elementSizing table pool)
+  unfolding elementSizing sizedOf whenGiven
+  element-bad e = rw (h .bad-table e)
+
+  pub element-good : {s : Survey} → r ≡ Good s → (s .size ≡ 0 → ⊥) → Size (s .size) ≡ sizedOf (elementSizing table pool)
+  unfolding elementSizing sizedOf whenGiven unless
+  element-good {s = s} g e =
+      let f : s .size ≡ typeSize (h .good s g .type) = ap (λ (v : Survey). v .size) (says g .is) in
+      rw (h .good s g .is, ← f, lt-ltb 0 (s .size) (omega (arith, e)))
+
+  -- the outermost row of a table that sets a type out
+  pub record Outermost (t : Datatype) : Type 0 where
+    pub there : 16 ≤ length table
+    pub kind : getD table 0 0 ≡ suc (classNumber t)
+    pub small : getD table 0 0 ≤ 11
+
+  pub outermost : {s : Survey} (g : r ≡ Good s) → ((i : ℕ) → getD pool i 0 < 256) → Outermost (h .good s g .type)
+  outermost {s = s} g b =
+      let t = h .good s g .type in
+      let o = typeOf-sound table pool t (all-bytes pool b) (h .good s g .is) in
+      let l = length-rows t 0 in
+      let m = rows-some t in
+      let f : getD table 0 0 ≡ suc (classNumber t) = first t (o .table-is) (omega arith) in
+      record { there = omega (arith, o .holds-rows); kind = f; small = omega (arith, class-small t) }
+    where
+      first : (t : Datatype) → table ≡ padded (length table) (rows 0 t) → 0 < length (rows 0 t) → getD table 0 0 ≡ suc (classNumber t)
+      first t e n = unfold padded in ap (λ (l : List ℕ). getD l 0 0) e ∙ List·getD-append (rows 0 t) _ 0 0 n ∙ rows-first 0 t
+
+  pub element-zero : {s : Survey} {k : ℕ} → ((i : ℕ) → getD pool i 0 < 256) → r ≡ Good s → s .size ≡ 0 → k ≡ getD table 0 0 - 1 → SizedRefused (ZeroSize k) ≡ sizedOf (elementSizing table pool)
+  unfolding elementSizing sizedOf whenGiven unless
+  element-zero {s = s} {k = k} b g e j =
+      let t = h .good s g .type in
+      let f : typeSize t ≡ 0 = sym (ap (λ (v : Survey). v .size) (says g .is)) ∙ e in
+      let o = outermost g b in
+      let c : k ≡ classNumber t = omega (arith, o .kind) in
+      rw (h .good s g .is, f, c)

@@ -1,0 +1,6 @@
+pub mod Scaling
+pub mod Skipping
+pub mod Surveys
+pub mod Checking
+pub mod Answers
+pub mod Naming

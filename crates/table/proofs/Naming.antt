@@ -1,0 +1,224 @@
+-- The name of a member: each row of a table beside the part of the pool that `nameParts` names for it.
+use Prim.Native.Nat.{ℕ, zero, suc, _+_, _-_, _*_, _<_, _≤_}
+use mathlib.Core.Path.{_≡_, refl, sym, ap, _∙_}
+use mathlib.Core.List.{List, [], _∷_, _++_, append-nil}
+use mathlib.Core.Option.{Option, none, some}
+use native.Mathlib.Omega.{arith}
+use lib.ListN.{length, getD, take, drop, length-append, length-drop, List·getD-append, List·getD-eq-default}
+use lib.Seq.{drop-at, drop-append-le, drop-drop, getD-drop}
+use Rattle.format.specs.Bytes.{dimensionBytes, padded, zeros}
+use Rattle.format.specs.Datatype.{Datatype, fixedPoint, floatingPoint, time, string, bitField, opaque, compound, reference, enumeration, variableLength, array, Members, noMembers, member, EnumMember, memberCount, rowCount, memberRowCount, poolBytes, memberPool, enumNames, enumValues}
+use Rattle.format.specs.Table.{row, memberRow, enumMemberRow, rows, memberRows, enumRows, SetsOut}
+use Rattle.format.proofs.Rows.{length-row, length-memberRow, length-enumMemberRow, length-rows}
+use Rattle.format.proofs.Table.{typeOf-sound}
+use Rattle.table.specs.Names.{Part, nameParts, memberNameParts, enumNameParts, partOf, placeOf, nameIn, nameOf, placeIn, namePlace, further}
+use Rattle.table.specs.Survey.{Checks}
+use Rattle.table.specs.declared.Survey.{Survey}
+use Rattle.table.specs.declared.Checked.{Checked}
+use Rattle.table.specs.declared.Checked.the-variants.{Good, Bad}
+use Rattle.table.proofs.Checking.{all-bytes, stands-at}
+
+-- the words of a row say that it is no member's, or where the member's name lies, before an end
+unfoldable pub RowNames : (end : ℕ) → Option Part → List ℕ → Type 0
+RowNames e none w = getD w 0 0 < 12
+RowNames e (some x) w = (12 ≤ getD w 0 0) × ((getD w 2 0 ≡ x .place) × ((getD w 3 0 ≡ x .long) × (x .place + x .long ≤ e)))
+
+-- so do the rows, one behind another
+unfoldable pub RowsName : (end : ℕ) → List (Option Part) → List ℕ → Type 0
+RowsName e [] w = Unit {0}
+RowsName e (x ∷ xs) w = RowNames e x w × RowsName e xs (drop 16 w)
+
+module _ (e : ℕ) where
+  names-before : (x : Option Part) (u v : List ℕ) → 16 ≤ length u → RowNames e x u → RowNames e x (u ++ v)
+  unfolding RowNames
+  names-before none u v h n = rw (List·getD-append u v 0 0 (omega arith)) n
+  names-before (some x) u v h n = rw (List·getD-append u v 0 0 (omega arith), List·getD-append u v 0 2 (omega arith), List·getD-append u v 0 3 (omega arith)) n
+
+  -- a row and those behind it
+  rows-cons : (x : Option Part) (xs : List (Option Part)) (u w : List ℕ) → length u ≡ 16 → RowNames e x u → RowsName e xs w → RowsName e (x ∷ xs) (u ++ w)
+  unfolding RowsName
+  rows-cons x xs u w h n k = (names-before x u w (omega arith) n, rw (drop-at u w 16 h) k)
+
+  rows-append : (xs ys : List (Option Part)) (u v : List ℕ) → length u ≡ 16 * length xs → RowsName e xs u → RowsName e ys v → RowsName e (xs ++ ys) (u ++ v)
+  unfolding RowsName
+  rows-append [] ys [] v h n k = k
+  rows-append [] ys (a ∷ u) v h n k = absurd (omega arith)
+  rows-append (x ∷ xs) ys u v h n k =
+      let l : 16 ≤ length u = omega arith in
+      (names-before x u v l (n .0), rw (drop-append-le 16 u v l) (rows-append xs ys (drop 16 u) v (omega (arith, length-drop 16 u)) (n .1) k))
+
+-- one part for each row
+length-enumParts : (p : ℕ) (ms : List EnumMember) → length (enumNameParts p ms) ≡ length ms
+unfolding enumNameParts
+length-enumParts p [] = refl
+length-enumParts p (m ∷ ms) = ap suc (length-enumParts (p + length (m .name)) ms)
+
+mutual
+  unfolding nameParts rowCount
+
+  pub length-parts : (t : Datatype) (p : ℕ) → length (nameParts p t) ≡ rowCount t
+  length-parts (fixedPoint n o s f q) p = refl
+  length-parts (floatingPoint n o f q el es ml ms x) p = refl
+  length-parts (time n o q) p = refl
+  length-parts (string n a k) p = refl
+  length-parts (bitField n o f q) p = refl
+  length-parts (opaque n g) p = refl
+  length-parts (compound n ms) p = ap suc (length-memberParts ms p)
+  length-parts (reference n k) p = refl
+  length-parts (enumeration n t ms) p = ap suc (length-append (nameParts p t) _ ∙ rw (length-parts t p, length-enumParts))
+  length-parts (variableLength i a k t) p = ap suc (length-parts t p)
+  length-parts (array ds t) p = ap suc (length-parts t (p + length (dimensionBytes ds)))
+
+  length-memberParts : (ms : Members) (p : ℕ) → length (memberNameParts p ms) ≡ memberRowCount ms
+  length-memberParts noMembers p = refl
+  length-memberParts (member b o t ms) p =
+      ap suc (length-append (nameParts (p + length b) t) _ ∙ rw (length-parts t (p + length b), length-memberParts ms (p + length b + length (poolBytes t))))
+
+-- the rows of a type name the parts of its pool bytes
+module _ (e : ℕ) where
+  rows-none : RowsName e [] []
+  unfolding RowsName
+  rows-none = tt
+
+  row-type : (k s p l c : ℕ) (rest : List ℕ) → k < 12 → RowNames e none (row k s p l c rest)
+  unfolding RowNames row
+  row-type k s p l c rest h = h
+
+  row-leaf : (k s p l c : ℕ) (rest : List ℕ) → k < 12 → RowsName e (none ∷ []) (row k s p l c rest)
+  unfolding RowsName
+  row-leaf k s p l c rest h = (row-type k s p l c rest h, tt)
+
+  row-member : (p o n : ℕ) → p + n ≤ e → RowNames e (some (record { place = p; long = n })) (memberRow p o n)
+  unfolding RowNames memberRow row
+  row-member p o n h = (omega arith, (refl, (refl, h)))
+
+  row-enumMember : (p n v : ℕ) → p + n ≤ e → RowNames e (some (record { place = p; long = n })) (enumMemberRow p n v)
+  unfolding RowNames enumMemberRow row
+  row-enumMember p n v h = (omega arith, (refl, (refl, h)))
+
+  enum-names : (ms : List EnumMember) (p : ℕ) → p + length (enumNames ms) ≤ e → RowsName e (enumNameParts p ms) (enumRows p ms)
+  unfolding enumNameParts enumRows enumNames
+  enum-names [] p h = rows-none
+  enum-names (m ∷ ms) p h =
+      let l = length-append (m .name) (enumNames ms) in
+      rows-cons e _ _ _ _ (length-enumMemberRow p (length (m .name)) (length (m .value))) (row-enumMember p (length (m .name)) (length (m .value)) (omega arith)) (enum-names ms (p + length (m .name)) (omega arith))
+
+  as-long : (t : Datatype) (p : ℕ) → length (rows p t) ≡ 16 * length (nameParts p t)
+  as-long t p = length-rows t p ∙ rw (length-parts t p)
+
+  mutual
+    unfolding nameParts rows poolBytes
+
+    type-names : (t : Datatype) (p : ℕ) → p + length (poolBytes t) ≤ e → RowsName e (nameParts p t) (rows p t)
+    type-names (fixedPoint n o s f q) p h = row-leaf _ _ _ _ _ _ (omega arith)
+    type-names (floatingPoint n o f q el es ml ms x) p h = row-leaf _ _ _ _ _ _ (omega arith)
+    type-names (time n o q) p h = row-leaf _ _ _ _ _ _ (omega arith)
+    type-names (string n a k) p h = row-leaf _ _ _ _ _ _ (omega arith)
+    type-names (bitField n o f q) p h = row-leaf _ _ _ _ _ _ (omega arith)
+    type-names (opaque n g) p h = row-leaf _ _ _ _ _ _ (omega arith)
+    type-names (compound n ms) p h = rows-cons e none _ _ _ (length-row 7 n 0 0 (memberCount ms) [] (omega arith)) (row-type _ _ _ _ _ _ (omega arith)) (member-names ms p h)
+    type-names (reference n k) p h = row-leaf _ _ _ _ _ _ (omega arith)
+    type-names (enumeration n t ms) p h =
+        let l = length-append (poolBytes t) (enumNames ms ++ enumValues ms) in
+        let k = length-append (enumNames ms) (enumValues ms) in
+        rows-cons e none _ _ _ (length-row 9 n 0 0 (length ms) [] (omega arith)) (row-type _ _ _ _ _ _ (omega arith))
+        (rows-append e _ _ _ _ (as-long t p) (type-names t p (omega arith)) (enum-names ms (p + length (poolBytes t)) (omega arith)))
+    type-names (variableLength i a k t) p h = rows-cons e none _ _ _ (length-row 10 0 0 0 0 (i ∷ a ∷ k ∷ []) (omega arith)) (row-type _ _ _ _ _ _ (omega arith)) (type-names t p h)
+    type-names (array ds t) p h =
+        let l = length-append (dimensionBytes ds) (poolBytes t) in
+        rows-cons e none _ _ _ (length-row 11 0 p (length ds) 0 [] (omega arith)) (row-type _ _ _ _ _ _ (omega arith)) (type-names t (p + length (dimensionBytes ds)) (omega arith))
+
+    member-names : (ms : Members) (p : ℕ) → p + length (memberPool ms) ≤ e → RowsName e (memberNameParts p ms) (memberRows p ms)
+    member-names noMembers p h = rows-none
+    member-names (member b o t ms) p h =
+        let l = length-append b (poolBytes t ++ memberPool ms) in
+        let k = length-append (poolBytes t) (memberPool ms) in
+        rows-cons e _ _ _ _ (length-memberRow p o (length b)) (row-member p o (length b) (omega arith))
+        (rows-append e _ _ _ _ (as-long t (p + length b)) (type-names t (p + length b) (omega arith)) (member-names ms (p + length b + length (poolBytes t)) (omega arith)))
+
+  row-at : (xs : List (Option Part)) (w : List ℕ) (k : ℕ) → k < length xs → RowsName e xs w → RowNames e (getD xs k none) (drop (k * 16) w)
+  unfolding RowsName
+  row-at [] w k h n = absurd (omega arith)
+  row-at (x ∷ xs) w zero h n = n .0
+  row-at (x ∷ xs) w (suc k) h n =
+      let j : 16 + k * 16 ≡ suc k * 16 = omega arith in
+      rw (← j, ← drop-drop (k * 16) 16 w) (row-at xs (drop 16 w) k (omega arith) (n .1))
+
+-- the parts of a table's rows
+module _ (table pool : List ℕ) (t : Datatype) (o : SetsOut t table pool) where
+  table-names : RowsName (length pool) (nameParts 0 t) table
+  unfolding padded
+  table-names =
+      let n = rows-append (length pool) (nameParts 0 t) [] (rows 0 t) (zeros (length table - length (rows 0 t))) (as-long (length pool) t 0) (type-names (length pool) t 0 (omega (arith, o .holds-pool))) (unfold RowsName in tt) in
+      rw (append-nil, ← o .table-is) at n
+
+  row-names : (k : ℕ) → k < rowCount t → RowNames (length pool) (getD (nameParts 0 t) k none) (drop (k * 16) table)
+  row-names k h = row-at (length pool) (nameParts 0 t) table k (omega (arith, length-parts t 0)) table-names
+
+  module _ (k : ℕ) where
+    word : (c j : ℕ) → k * 16 + c ≡ j → getD (drop (k * 16) table) c 0 ≡ getD table j 0
+    word c j e = getD-drop (k * 16) table c 0 ∙ rw e
+
+    by-kind : (x : Option Part) → RowNames (length pool) x (drop (k * 16) table) → getD table (k * 16) 0 < 12 → ([] ≡ partOf pool x) × (0 ≡ placeOf x)
+    unfolding RowNames partOf placeOf
+    by-kind none n g = (refl, refl)
+    by-kind (some x) n g = absurd (omega (arith, word 0 (k * 16) (omega arith), n .0))
+
+    by-words : (x : Option Part) → RowNames (length pool) x (drop (k * 16) table) → 12 ≤ getD table (k * 16) 0
+        → (getD table (k * 16 + 2) 0 + getD table (k * 16 + 3) 0 ≤ length pool)
+        × ((take (getD table (k * 16 + 3) 0) (drop (getD table (k * 16 + 2) 0) pool) ≡ partOf pool x) × (getD table (k * 16 + 2) 0 ≡ placeOf x))
+    unfolding RowNames partOf placeOf
+    by-words none n g = absurd (omega (arith, word 0 (k * 16) (omega arith)))
+    by-words (some x) n g =
+        let a : getD table (k * 16 + 2) 0 ≡ x .place = sym (word 2 (k * 16 + 2) refl) ∙ n .1 .0 in
+        let b : getD table (k * 16 + 3) 0 ≡ x .long = sym (word 3 (k * 16 + 3) refl) ∙ n .1 .1 .0 in
+        (omega (arith, n .1 .1 .1), (rw (a, b), a))
+
+-- the answer: its contents, and where it begins in a pool that is at q
+module _ (table pool : List ℕ) (row : ℕ) {r : Checked} (h : Checks table pool r) where
+  pub name-bad : (q : ℕ × ℕ) → r ≡ Bad → ([] ≡ nameOf table pool row) × ((q .0, 0 + q .1) ≡ further q (namePlace table pool row))
+  unfolding nameOf nameIn namePlace placeIn further
+  name-bad q e = rw (h .bad-table e) (refl, refl)
+
+  module _ (b : (i : ℕ) → getD pool i 0 < 256) {s : Survey} (g : r ≡ Good s) where
+    set-out : SetsOut (h .good s g .type) table pool
+    set-out = typeOf-sound table pool (h .good s g .type) (all-bytes pool b) (h .good s g .is)
+
+    many : s .row ≡ rowCount (h .good s g .type)
+    many = omega (arith, stands-at table pool (h .good s g .type) (s .row) (s .place) b (h .good s g .stands) .row-behind)
+
+    -- by the part of the row
+    name-is : (q : ℕ × ℕ) {l : List ℕ} {n : ℕ} → (l ≡ partOf pool (getD (nameParts 0 (h .good s g .type)) row none)) × (n ≡ placeOf (getD (nameParts 0 (h .good s g .type)) row none))
+        → (l ≡ nameOf table pool row) × ((q .0, n + q .1) ≡ further q (namePlace table pool row))
+    unfolding nameOf nameIn namePlace placeIn further
+    name-is q k = rw (h .good s g .is) (k .0, rw (k .1))
+
+    pub name-behind : (q : ℕ × ℕ) → s .row ≤ row → ([] ≡ nameOf table pool row) × ((q .0, 0 + q .1) ≡ further q (namePlace table pool row))
+    unfolding partOf placeOf
+    name-behind q k =
+        let l : length (nameParts 0 (h .good s g .type)) ≤ row = omega (arith, many, length-parts (h .good s g .type) 0) in
+        name-is q (rw (List·getD-eq-default (nameParts 0 (h .good s g .type)) none l) (refl, refl))
+
+    module _ (k : row < s .row) where
+      -- its row is one of the table's
+      pub name-inside : (row < 4096) × (row * 16 + 16 ≤ length table)
+      name-inside =
+          (omega (arith, many, set-out .within .rows-fit), omega (arith, many, set-out .holds-rows, length-rows (h .good s g .type) 0))
+
+      named : RowNames (length pool) (getD (nameParts 0 (h .good s g .type)) row none) (drop (row * 16) table)
+      named = row-names table pool (h .good s g .type) set-out row (omega (arith, many))
+
+      pub name-none : (q : ℕ × ℕ) → getD table (row * 16) 0 < 12 → ([] ≡ nameOf table pool row) × ((q .0, 0 + q .1) ≡ further q (namePlace table pool row))
+      name-none q e = name-is q (by-kind table pool (h .good s g .type) set-out row _ named e)
+
+      module _ (e : 12 ≤ getD table (row * 16) 0) where
+        -- and its name lies in the pool
+        pub name-fits : getD table (row * 16 + 2) 0 + getD table (row * 16 + 3) 0 ≤ length pool
+        name-fits = by-words table pool (h .good s g .type) set-out row _ named e .0
+
+        pub name-some : (q : ℕ × ℕ)
+            → (take (getD table (row * 16 + 2) 0 + getD table (row * 16 + 3) 0 - getD table (row * 16 + 2) 0) (drop (getD table (row * 16 + 2) 0) pool) ≡ nameOf table pool row)
+            × ((q .0, getD table (row * 16 + 2) 0 + q .1) ≡ further q (namePlace table pool row))
+        name-some q =
+            let j : getD table (row * 16 + 2) 0 + getD table (row * 16 + 3) 0 - getD table (row * 16 + 2) 0 ≡ getD table (row * 16 + 3) 0 = omega arith in
+            rw j (name-is q (by-words table pool (h .good s g .type) set-out row _ named e .1))

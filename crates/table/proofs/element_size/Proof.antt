@@ -1,0 +1,46 @@
+use native.Mathlib.Omega.{arith}
+use borrow.Author.Needs.{needs}
+use Rattle.table.proofs.Answers.{element-bad, element-good, element-zero, outermost}
+use Rattle.table.proofs.element_size.Statement.{statement}
+use Rattle.table.proofs.element_size.Tie as tie
+
+check-requires : tie.Need-check-requires
+check-requires c κs = search needs
+
+enum-told : tie.Need-enum-told
+enum-told c = search needs
+
+enum-known-checked : tie.Need-enum-known-checked
+enum-known-checked c = search needs
+
+shared-slice-read-class-of : tie.Need-shared-slice-read-class-of
+shared-slice-read-class-of c =
+    omega (arith, outermost _ _ (c .before .before .before .before .before .before .check .ensures) (c .before .before .before .before .checked .given .1) (λ i. omega (arith, c .before .before .before .before .before .before .before .shared-slice-known2 .given i)))
+
+class-of-requires : tie.Need-class-of-requires
+class-of-requires c κs =
+    let o = outermost _ _ (c .before .before .before .before .before .before .check .ensures) (c .before .before .before .before .checked .given .1) (λ i. omega (arith, c .before .before .before .before .before .before .before .shared-slice-known2 .given i)) in
+    (omega arith, omega arith)
+
+returns : tie.Need-returns
+returns c =
+    element-zero _ _ (c .before .before .before .before .before .before .before .check .ensures) (λ i. omega (arith, c .before .before .before .before .before .before .before .before .shared-slice-known2 .given i)) (c .before .before .before .before .before .checked .given .1) (c .before .before .if1 .taken) (c .class-of .ensures)
+
+returns-2 : tie.Need-returns-2
+returns-2 c = search element-bad
+
+returns-3 : tie.Need-returns-3
+returns-3 c = search element-good
+
+pub element-size-spec : {M : Type 1} → statement M
+element-size-spec =
+    tie.close
+    (tie.spec
+    check-requires
+    enum-told
+    enum-known-checked
+    shared-slice-read-class-of
+    class-of-requires
+    returns
+    returns-2
+    returns-3)

@@ -1,0 +1,76 @@
+use Prim.Native.Nat.{_+_, _-_, _*_, _≤_, min}
+use mathlib.Core.Path.{_≡_, refl}
+use mathlib.Core.Logic.{⊎-elim}
+use native.Mathlib.Omega.{arith}
+use borrow.Author.Needs.{needs}
+use lib.ListN.{length, take, drop}
+use Rattle.format.specs.Bytes.{dimensionsFrom}
+use Rattle.format.specs.Datatype.{product}
+use Rattle.table.proofs.Scaling.{dimensionsBehind, cap-room, scale-start, scale-next, scale-end}
+use Rattle.table.proofs.scaled.Statement.{statement}
+use Rattle.table.proofs.scaled.Tie as tie
+
+abbrev Inv-loop : tie.InvT-loop
+Inv-loop pool place rank size total₀ i₀ total i =
+    ((i ≤ rank) × (total ≤ 4294967296))
+    × ((place + rank * 4 ≤ length pool) × (min (size * product (dimensionsFrom rank (take (rank * 4) (drop place pool)))) 4294967296 ≡ min (total * product (dimensionsBehind pool place rank i)) 4294967296))
+
+abbrev μ-loop : tie.MeasureT-loop
+μ-loop pool place rank size total₀ i₀ total i = rank - i
+
+loop-holds : tie.Need-loop-holds Inv-loop μ-loop
+loop-holds c = ((omega arith, omega arith), (c .before .pre, scale-start _ _ _ _ _ refl))
+
+cast-read-uint : tie.Need-cast-read-uint Inv-loop μ-loop
+cast-read-uint c = search needs
+
+mul-read-uint : tie.Need-mul-read-uint Inv-loop μ-loop
+mul-read-uint c = omega arith
+
+add-read-uint : tie.Need-add-read-uint Inv-loop μ-loop
+add-read-uint c = omega arith
+
+read-uint-requires : tie.Need-read-uint-requires Inv-loop μ-loop
+read-uint-requires c κs = (omega arith, omega arith)
+
+cast-next : tie.Need-cast-next Inv-loop μ-loop
+cast-next c = search needs
+
+mul-next : tie.Need-mul-next Inv-loop μ-loop
+mul-next c = omega (arith, cap-room (c .before .before .loop .total) (c .read-uint .result) (omega arith) (omega arith))
+
+add-i : tie.Need-add-i Inv-loop μ-loop
+add-i c = omega arith
+
+loop-less : tie.Need-loop-less Inv-loop μ-loop
+loop-less c = omega arith
+
+loop-again : tie.Need-loop-again Inv-loop μ-loop
+loop-again c =
+    let l = c .before .before .before .loop in
+    let x = c .before .read-uint .result in
+    let e : c .if1 .total ≡ min (l .total * x) 4294967296 = ⊎-elim (λ w. omega arith) (λ w. omega arith) (c .if1 .came) in (
+      (omega arith, omega arith),
+      (l .inv .1 .0, scale-next _ _ _ (l .i) (l .total) (c .if1 .total) x _ (omega arith) (c .before .read-uint .ensures) (l .inv .1 .1) e),
+    )
+
+returns : tie.Need-returns Inv-loop μ-loop
+returns c = let l = c .before .loop in scale-end _ _ _ (l .i) (l .total) _ (omega arith) (l .inv .0 .1) (l .inv .1 .1)
+
+pub scaled-spec : {M : Type 1} → statement M
+scaled-spec =
+    tie.close
+    (tie.spec
+    Inv-loop
+    μ-loop
+    loop-holds
+    cast-read-uint
+    mul-read-uint
+    add-read-uint
+    read-uint-requires
+    cast-next
+    mul-next
+    add-i
+    loop-less
+    loop-again
+    returns)

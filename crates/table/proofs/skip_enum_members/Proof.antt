@@ -1,0 +1,113 @@
+use Prim.Native.Nat.{_-_, _≤_}
+use mathlib.Core.Path.{_≡_, refl}
+use native.Mathlib.Omega.{arith}
+use borrow.Author.Needs.{needs}
+use lib.ListN.{length}
+use Rattle.format.specs.Table.{enumNamesAt}
+use Rattle.rows.proofs.Decode.{enumNamed-inside}
+use Rattle.table.specs.Survey.{enumSpotOf}
+use Rattle.table.proofs.Skipping.{valuesEnd, skip-none, skip-start, skip-unnamed, skip-next, skip-past, skip-behind, skip-lost, skip-ended}
+use Rattle.table.proofs.skip_enum_members.Statement.{statement}
+use Rattle.table.proofs.skip_enum_members.Tie as tie
+
+abbrev Inv-loop : tie.InvT-loop
+Inv-loop table pool row place count r₀ p₀ values₀ left₀ r p values left =
+    (values ≤ length pool) × (enumSpotOf table pool count row place ≡ valuesEnd pool values (enumNamesAt table pool left r p))
+
+abbrev μ-loop : tie.MeasureT-loop
+μ-loop table pool row place count r₀ p₀ values₀ left₀ r p values left = left
+
+returns : tie.Need-returns Inv-loop μ-loop
+returns c = search skip-none
+
+loop-holds : tie.Need-loop-holds Inv-loop μ-loop
+loop-holds c = (omega arith, skip-start _ _ _ _ _ refl (omega arith))
+
+enum-member-at-requires : tie.Need-enum-member-at-requires Inv-loop μ-loop
+enum-member-at-requires c κs = search needs
+
+enum-told : tie.Need-enum-told Inv-loop μ-loop
+enum-told c = search needs
+
+returns-2 : tie.Need-returns-2 Inv-loop μ-loop
+returns-2 c = search skip-unnamed
+
+enum-known-member : tie.Need-enum-known-member Inv-loop μ-loop
+enum-known-member c = search needs
+
+cast-length : tie.Need-cast-length Inv-loop μ-loop
+cast-length c = search needs
+
+sub-if2 : tie.Need-sub-if2 Inv-loop μ-loop
+sub-if2 c = search needs
+
+returns-3 : tie.Need-returns-3 Inv-loop μ-loop
+returns-3 c = search skip-past
+
+add-r : tie.Need-add-r Inv-loop μ-loop
+add-r c =
+    let i = enumNamed-inside _ _ _ _ (c .before .before .member .given .1) (c .before .before .before .before .enum-member-at .ensures .1) in
+    omega arith
+
+cast-p : tie.Need-cast-p Inv-loop μ-loop
+cast-p c = search needs
+
+add-p : tie.Need-add-p Inv-loop μ-loop
+add-p c =
+    let i = enumNamed-inside _ _ _ _ (c .before .before .member .given .1) (c .before .before .before .before .enum-member-at .ensures .1) in
+    omega arith
+
+add-values : tie.Need-add-values Inv-loop μ-loop
+add-values c = search needs
+
+sub-left : tie.Need-sub-left Inv-loop μ-loop
+sub-left c = search needs
+
+loop-less : tie.Need-loop-less Inv-loop μ-loop
+loop-less c = search needs
+
+loop-again : tie.Need-loop-again Inv-loop μ-loop
+loop-again c = (omega arith, search skip-next)
+
+returns-4 : tie.Need-returns-4 Inv-loop μ-loop
+returns-4 c = search skip-behind
+
+sub-if4 : tie.Need-sub-if4 Inv-loop μ-loop
+sub-if4 c = search needs
+
+returns-5 : tie.Need-returns-5 Inv-loop μ-loop
+returns-5 c = search skip-lost
+
+add-t20 : tie.Need-add-t20 Inv-loop μ-loop
+add-t20 c = search needs
+
+returns-6 : tie.Need-returns-6 Inv-loop μ-loop
+returns-6 c = search skip-ended
+
+pub skip-enum-members-spec : {M : Type 1} → statement M
+skip-enum-members-spec =
+    tie.close
+    (tie.spec
+    Inv-loop
+    μ-loop
+    returns
+    loop-holds
+    enum-member-at-requires
+    enum-told
+    returns-2
+    enum-known-member
+    cast-length
+    sub-if2
+    returns-3
+    add-r
+    cast-p
+    add-p
+    add-values
+    sub-left
+    loop-less
+    loop-again
+    returns-4
+    sub-if4
+    returns-5
+    add-t20
+    returns-6)

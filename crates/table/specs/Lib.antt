@@ -1,0 +1,2 @@
+pub mod Survey
+pub mod Names

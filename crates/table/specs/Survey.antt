@@ -1,0 +1,103 @@
+-- What the walk over a table answers, as a function of the type that is found there; and the answers of the public calls.
+use Prim.Native.Nat.{ℕ, zero, suc}
+use mathlib.Core.Path.{_≡_}
+use mathlib.Core.Bool.{Bool, true, false, cond}
+use mathlib.Core.List.{List, [], _∷_}
+use mathlib.Core.Option.{Option, none, some}
+use lib.Dec.{eqb}
+use Rattle.refusal.specs.Refusal.{numberOf, valuesOf}
+use Rattle.refusal.specs.declared.Refusal.the-variants.{BadTable}
+use Rattle.format.specs.Datatype.{Datatype, Members, EnumMember, typeSize}
+use Rattle.format.specs.Outcome.{Outcome, gives, refuses}
+use Rattle.format.specs.Ownership.{outside, memberOutside, heapHeld, memberHeapHeld}
+use Rattle.format.specs.Sizes.{holdsObjectAddress, memberHoldsObjectAddress, holdsFileAddress, memberHoldsFileAddress}
+use Rattle.format.specs.Slots.{firstZero, memberFirstZero, orElse, zeroClass}
+use Rattle.format.specs.Table.{Found, found, bad, andThen, typeAt, typeOf, enumNamesAt, enumValuesAt}
+use Rattle.table.specs.declared.Survey.{Survey}
+use Rattle.table.specs.declared.Surveyed.{Surveyed}
+use Rattle.table.specs.declared.Surveyed.the-variants.{Sound, Unsound}
+use Rattle.table.specs.declared.Found.{Found as Walked}
+use Rattle.table.specs.declared.Found.the-variants.{At, Lost}
+use Rattle.table.specs.declared.Checked.{Checked}
+use Rattle.table.specs.declared.Checked.the-variants.{Good, Bad}
+use Rattle.table.specs.declared.Sized.{Sized}
+use Rattle.table.specs.declared.Sized.the-variants.{Size, Refused as SizedRefused}
+use Rattle.table.specs.declared.Held.{Held}
+use Rattle.table.specs.declared.Held.the-variants.{Yes, No, Refused as HeldRefused}
+
+-- 1 + a class, or 0 where there is none
+unfoldable pub zeroCode : Option ℕ → ℕ
+zeroCode none = 0
+zeroCode (some c) = suc c
+
+-- a row's kind if its size is 0, else 0; and the first of two such that is not 0
+unfoldable pub zeroNote : (kind size : ℕ) → ℕ
+zeroNote k n = cond (eqb n 0) k 0
+
+unfoldable pub firstOf : ℕ → ℕ → ℕ
+firstOf a b = cond (eqb a 0) b a
+
+unfoldable pub surveyOf : Found Datatype → Surveyed
+surveyOf (found t r p) =
+    Sound (record { row = r; place = p; size = typeSize t; zero = zeroCode (firstZero t); outside = outside t; heap = heapHeld t; object = holdsObjectAddress t; file = holdsFileAddress t })
+surveyOf bad = Unsound
+
+-- of the members of a compound of size n, with the compound's own size noted
+unfoldable pub surveyIn : (size : ℕ) → Found Members → Surveyed
+surveyIn n (found ms r p) =
+    Sound (record { row = r; place = p; size = n; zero = zeroCode (orElse (zeroClass 6 n) (memberFirstZero ms)); outside = memberOutside n ms; heap = memberHeapHeld ms; object = memberHoldsObjectAddress ms; file = memberHoldsFileAddress ms })
+surveyIn n bad = Unsound
+
+-- where an enumeration's names and values end
+unfoldable pub spotOf : Found (List EnumMember) → Walked
+spotOf (found ms r p) = At (record { row = r; place = p })
+spotOf bad = Lost
+
+unfoldable pub enumSpotOf : (table pool : List ℕ) (count row place : ℕ) → Walked
+enumSpotOf table pool k r p = spotOf (andThen (enumNamesAt table pool k r p) (enumValuesAt pool))
+
+-- the check: the type that the table and pool set out, and what a walk over it finds
+pub record Sets (table pool : List ℕ) (s : Survey) : Type 0 where
+  pub type : Datatype
+  pub is : typeOf table pool ≡ gives type
+  pub stands : typeAt 32 table pool 0 0 ≡ found type (s .row) (s .place)
+  pub says : surveyOf (found type (s .row) (s .place)) ≡ Sound s
+
+pub record Checks (table pool : List ℕ) (r : Checked) : Type 0 where
+  pub good : (s : Survey) → r ≡ Good s → Sets table pool s
+  pub bad-table : r ≡ Bad → typeOf table pool ≡ refuses BadTable
+
+-- Document 01's number and values of the answers: 0 for a result
+unfoldable pub sizedNumber : Sized → ℕ
+sizedNumber (Size n) = 0
+sizedNumber (SizedRefused e) = numberOf e
+
+unfoldable pub sizedValues : Sized → List ℕ
+sizedValues (Size n) = n ∷ []
+sizedValues (SizedRefused e) = valuesOf e
+
+unfoldable pub heldNumber : Held → ℕ
+heldNumber Yes = 0
+heldNumber No = 0
+heldNumber (HeldRefused e) = numberOf e
+
+unfoldable pub heldValues : Held → List ℕ
+heldValues Yes = 1 ∷ []
+heldValues No = 0 ∷ []
+heldValues (HeldRefused e) = valuesOf e
+
+-- the answers that the definitions' are
+unfoldable pub sizedOf : Outcome ℕ → Sized
+sizedOf (gives n) = Size n
+sizedOf (refuses e) = SizedRefused e
+
+unfoldable pub heldOf : Outcome Bool → Held
+heldOf (gives true) = Yes
+heldOf (gives false) = No
+heldOf (refuses e) = HeldRefused e
+
+abbrev pub SizedAs : Outcome ℕ → Sized → Type 0
+SizedAs o r = r ≡ sizedOf o
+
+abbrev pub HeldAs : Outcome Bool → Held → Type 0
+HeldAs o r = r ≡ heldOf o

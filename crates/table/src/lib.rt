@@ -1,0 +1,453 @@
+// The check of a lent table, the sizes and address predicates of its type, and the names of its members.
+use primitives::low4;
+use primitives::read_uint;
+use refusal::Refusal;
+use rows::Entry;
+use rows::Member;
+use rows::clear_bytes;
+use rows::clear_words;
+use rows::entry_at;
+use rows::enum_member_at;
+use rows::member_at;
+ghost use mathlib.Core.Path.{_≡_};
+ghost use mathlib.Core.Bool.{true, _&&_, _||_};
+ghost use Prim.Native.Nat.{ℕ, _+_, _*_, _-_, _≤_, _<_, min};
+ghost use lib.Dec.{eqb, ltb};
+ghost use lib.ListN.{length, take, drop};
+ghost use Rattle.format.specs.Bytes.{dimensionsFrom};
+ghost use Rattle.format.specs.Datatype.{product};
+ghost use Rattle.format.specs.Sizes.{sizing, elementSizing, classMayHoldObjectAddress, objectAddressHeld, fileAddressHeld};
+ghost use Rattle.format.specs.Table.{typeAt, membersAt};
+ghost use Rattle.table.specs.Survey.{surveyOf, surveyIn, enumSpotOf, Checks, firstOf, zeroNote, SizedAs, HeldAs};
+ghost use Rattle.table.specs.Names.{nameOf, namePlace, further};
+ghost use denote.Ref.{ptr};
+
+// What a walk over a type finds: the next row and pool place, the size, 1 + the class of the first row of size 0 or 0 where there is none,
+// whether something reaches outside (refusal 16), whether it holds what refusal 17 names, and the two address predicates.
+pub struct Survey {
+    pub row: usize,
+    pub place: usize,
+    pub size: u32,
+    pub zero: u32,
+    pub outside: bool,
+    pub heap: bool,
+    pub object: bool,
+    pub file: bool,
+}
+
+pub enum Surveyed {
+    Sound(Survey),
+    Unsound,
+}
+
+// The next row and pool place.
+pub struct Spot {
+    pub row: usize,
+    pub place: usize,
+}
+
+pub enum Found {
+    At(Spot),
+    Lost,
+}
+
+// The answer of the check.
+pub enum Checked {
+    Good(Survey),
+    Bad,
+}
+
+// The answer of `type_size` and `element_size`.
+pub enum Sized {
+    Size(u32),
+    Refused(Refusal),
+}
+
+// The answer of the two predicates over a type.
+pub enum Held {
+    Yes,
+    No,
+    Refused(Refusal),
+}
+
+fn zero_note(kind: u32, size: u32) -> u32
+    ensures { λ r. ⌜ r ≡ zeroNote kind size ⌝ }
+{
+    if size == 0 { kind } else { 0 }
+}
+
+fn first_of(a: u32, b: u32) -> u32
+    ensures { λ r. ⌜ r ≡ firstOf a b ⌝ }
+{
+    if a == 0 { b } else { a }
+}
+
+fn either(a: bool, b: bool) -> bool
+    ensures { λ r. ⌜ r ≡ (a || b) ⌝ }
+{
+    if a { true } else { b }
+}
+
+// Whether a leaf is a region reference.
+fn region(class: u32, code: u32) -> bool
+    ensures { λ r. ⌜ r ≡ (eqb class 7 && eqb code 1) ⌝ }
+{
+    if class == 7 { code == 1 } else { false }
+}
+
+// Whether a member ends past its compound.
+fn past(offset: u32, size: u32, limit: u32) -> bool
+    ensures { λ r. ⌜ r ≡ ltb limit (offset + size) ⌝ }
+{
+    (limit as u64) < (offset as u64) + (size as u64)
+}
+
+// A size times an array's dimensions: true up to 4,294,967,295, and 4,294,967,296 for all that is more.
+pub fn scaled(pool: &[u8], place: usize, rank: u32, size: u32) -> u64
+    requires { ⌜ place + rank * 4 ≤ length (now pool) ⌝ }
+    ensures { λ r. ⌜ r ≡ min (size * product (dimensionsFrom rank (take (rank * 4) (drop place (now (pool .entry)))))) 4294967296 ⌝ }
+{
+    let mut total = size as u64;
+    let mut i: u32 = 0;
+    while i < rank {
+        let next = total * (read_uint(pool, place + 4 * (i as usize), 4) as u64);
+        if next < 4294967296 {
+            total = next;
+        } else {
+            total = 4294967296;
+        }
+        i += 1;
+    }
+    total
+}
+
+fn capped(total: u64) -> u32
+    ensures { λ r. ⌜ r ≡ min total 4294967295 ⌝ }
+{
+    if total < 4294967295 {
+        return total as u32;
+    }
+    4294967295
+}
+
+// The members of an enumeration: all names, then all values.
+pub fn skip_enum_members(table: &[u32], pool: &[u8], row: usize, place: usize, count: u32) -> Found
+    ensures { λ r. ⌜ r ≡ enumSpotOf (now (table .entry)) (now (pool .entry)) count row place ⌝ }
+{
+    if count == 0 {
+        return Found::At(Spot {
+            row: row,
+            place: place,
+        });
+    }
+    let mut r = row;
+    let mut p = place;
+    let mut values: usize = 0;
+    let mut left = count;
+    while left > 0 {
+        let member = enum_member_at(table, pool, r, p);
+        match member {
+            Member::Unnamed => {
+                return Found::Lost;
+            }
+            Member::Named(name, value) => {
+                let length = value as usize;
+                if pool.len() - values < length {
+                    return Found::Lost;
+                }
+                r += 1;
+                p += name as usize;
+                values += length;
+                left -= 1;
+            }
+        }
+    }
+    if pool.len() < p {
+        return Found::Lost;
+    }
+    if pool.len() - p < values {
+        return Found::Lost;
+    }
+    Found::At(Spot {
+        row: r,
+        place: p + values,
+    })
+}
+
+// The type at a row, its pool bytes at a place, with so many levels left. Costs one pass over its rows.
+pub fn survey_type(table: &[u32], pool: &[u8], row: usize, place: usize, levels: usize) -> Surveyed
+    ensures { λ r. ⌜ r ≡ surveyOf (typeAt levels (now (table .entry)) (now (pool .entry)) row place) ⌝ }
+{
+    if levels == 0 {
+        return Surveyed::Unsound;
+    }
+    let entry = entry_at(table, pool, row, place);
+    match entry {
+        Entry::Unknown => Surveyed::Unsound,
+        Entry::Leaf(class, size, length, code) => {
+            let reference = class == 7;
+            Surveyed::Sound(Survey {
+                row: row + 1,
+                place: place + length as usize,
+                size: size,
+                zero: zero_note(class + 1, size),
+                outside: false,
+                heap: region(class, code),
+                object: reference,
+                file: reference,
+            })
+        }
+        Entry::Compound(size, count) => survey_members(
+            table,
+            pool,
+            row + 1,
+            place,
+            count,
+            size,
+            levels - 1,
+        ),
+        Entry::Enumeration(size, count) => {
+            let got = survey_type(table, pool, row + 1, place, levels - 1);
+            match got {
+                Surveyed::Unsound => Surveyed::Unsound,
+                Surveyed::Sound(s) => {
+                    let spot = skip_enum_members(table, pool, s.row, s.place, count);
+                    match spot {
+                        Found::Lost => Surveyed::Unsound,
+                        Found::At(end) => Surveyed::Sound(Survey {
+                            row: end.row,
+                            place: end.place,
+                            size: size,
+                            zero: first_of(zero_note(9, size), s.zero),
+                            outside: s.outside,
+                            heap: s.heap,
+                            object: s.object,
+                            file: s.file,
+                        }),
+                    }
+                }
+            }
+        }
+        Entry::VariableLength(_, _, _) => {
+            let got = survey_type(table, pool, row + 1, place, levels - 1);
+            match got {
+                Surveyed::Unsound => Surveyed::Unsound,
+                Surveyed::Sound(s) => Surveyed::Sound(Survey {
+                    row: s.row,
+                    place: s.place,
+                    size: 16,
+                    zero: s.zero,
+                    outside: s.outside,
+                    heap: true,
+                    object: s.object,
+                    file: true,
+                }),
+            }
+        }
+        Entry::Array(rank) => {
+            let got = survey_type(
+                table,
+                pool,
+                row + 1,
+                place + (rank as usize) * 4,
+                levels - 1,
+            );
+            match got {
+                Surveyed::Unsound => Surveyed::Unsound,
+                Surveyed::Sound(s) => {
+                    let total = scaled(pool, place, rank, s.size);
+                    let size = capped(total);
+                    Surveyed::Sound(Survey {
+                        row: s.row,
+                        place: s.place,
+                        size: size,
+                        zero: first_of(zero_note(11, size), s.zero),
+                        outside: either(total > 4294967295, s.outside),
+                        heap: s.heap,
+                        object: s.object,
+                        file: s.file,
+                    })
+                }
+            }
+        }
+    }
+}
+
+// The members of a compound of a size.
+fn survey_members(
+    table: &[u32],
+    pool: &[u8],
+    row: usize,
+    place: usize,
+    count: u32,
+    size: u32,
+    levels: usize,
+) -> Surveyed
+    ensures { λ r. ⌜ r ≡ surveyIn size (membersAt (typeAt levels (now (table .entry)) (now (pool .entry))) (now (table .entry)) (now (pool .entry)) count row place) ⌝ }
+{
+    let mut r = row;
+    let mut p = place;
+    let mut left = count;
+    let mut zero = zero_note(7, size);
+    let mut outside = false;
+    let mut heap = false;
+    let mut object = false;
+    let mut file = false;
+    while left > 0 {
+        let member = member_at(table, pool, r, p);
+        match member {
+            Member::Unnamed => {
+                return Surveyed::Unsound;
+            }
+            Member::Named(offset, length) => {
+                let got = survey_type(table, pool, r + 1, p + length as usize, levels);
+                match got {
+                    Surveyed::Unsound => {
+                        return Surveyed::Unsound;
+                    }
+                    Surveyed::Sound(s) => {
+                        r = s.row;
+                        p = s.place;
+                        zero = first_of(zero, s.zero);
+                        outside = either(outside, either(past(offset, s.size, size), s.outside));
+                        heap = either(heap, s.heap);
+                        object = either(object, s.object);
+                        file = either(file, s.file);
+                        left -= 1;
+                    }
+                }
+            }
+        }
+    }
+    Surveyed::Sound(Survey {
+        row: r,
+        place: p,
+        size: size,
+        zero: zero,
+        outside: outside,
+        heap: heap,
+        object: object,
+        file: file,
+    })
+}
+
+// Whether a table and pool set out exactly one type, and what a walk over it finds: row and place are its numbers of rows and pool bytes.
+pub fn check(table: &[u32], pool: &[u8]) -> Checked
+    ensures { λ r. ⌜ Checks (now (table .entry)) (now (pool .entry)) r ⌝ }
+{
+    let got = survey_type(table, pool, 0, 0, 32);
+    match got {
+        Surveyed::Unsound => Checked::Bad,
+        Surveyed::Sound(s) => {
+            if s.row > 4096 {
+                return Checked::Bad;
+            }
+            if s.place > 65536 {
+                return Checked::Bad;
+            }
+            let row = s.row;
+            let place = s.place;
+            if !clear_words(table, row * 16, table.len()) {
+                return Checked::Bad;
+            }
+            if !clear_bytes(pool, place, pool.len()) {
+                return Checked::Bad;
+            }
+            Checked::Good(s)
+        }
+    }
+}
+
+// The size in bytes of one element: `type_size`. Refused: BadTable. Cost: one pass over the table and the pool's rest.
+pub fn type_size(table: &[u32], pool: &[u8]) -> Sized
+    ensures { λ r. ⌜ SizedAs (sizing (now (table .entry)) (now (pool .entry))) r ⌝ }
+{
+    let checked = check(table, pool);
+    match checked {
+        Checked::Bad => Sized::Refused(Refusal::BadTable),
+        Checked::Good(s) => Sized::Size(s.size),
+    }
+}
+
+// The class of a type's row.
+fn class_of(kind: u32) -> u8
+    requires { ⌜ (1 ≤ kind) × (kind ≤ 11) ⌝ }
+    ensures { λ r. ⌜ r ≡ kind - 1 ⌝ }
+{
+    (kind - 1) as u8
+}
+
+// The same, not 0: `element_size`. Refused: BadTable, ZeroSize.
+pub fn element_size(table: &[u32], pool: &[u8]) -> Sized
+    ensures { λ r. ⌜ SizedAs (elementSizing (now (table .entry)) (now (pool .entry))) r ⌝ }
+{
+    let checked = check(table, pool);
+    match checked {
+        Checked::Bad => Sized::Refused(Refusal::BadTable),
+        Checked::Good(s) => {
+            if s.size == 0 {
+                return Sized::Refused(Refusal::ZeroSize(class_of(table[0])));
+            }
+            Sized::Size(s.size)
+        }
+    }
+}
+
+// Whether a type of the class in a message's first byte could hold an object address: classes 6 to 10.
+pub fn class_may_hold_object_address(byte: u8) -> bool
+    ensures { λ r. ⌜ r ≡ classMayHoldObjectAddress byte ⌝ }
+{
+    let class = low4(byte);
+    match class {
+        6..=10 => true,
+        _ => false,
+    }
+}
+
+// Whether the type holds a reference at any level. Refused: BadTable.
+pub fn datatype_holds_object_address(table: &[u32], pool: &[u8]) -> Held
+    ensures { λ r. ⌜ HeldAs (objectAddressHeld (now (table .entry)) (now (pool .entry))) r ⌝ }
+{
+    let checked = check(table, pool);
+    match checked {
+        Checked::Bad => Held::Refused(Refusal::BadTable),
+        Checked::Good(s) => { if s.object { Held::Yes } else { Held::No } }
+    }
+}
+
+// Whether the type holds a reference or a variable-length type at any level. Refused: BadTable.
+pub fn datatype_holds_file_address(table: &[u32], pool: &[u8]) -> Held
+    ensures { λ r. ⌜ HeldAs (fileAddressHeld (now (table .entry)) (now (pool .entry))) r ⌝ }
+{
+    let checked = check(table, pool);
+    match checked {
+        Checked::Bad => Held::Refused(Refusal::BadTable),
+        Checked::Good(s) => { if s.file { Held::Yes } else { Held::No } }
+    }
+}
+
+// The name of the member whose row this is, as the part of the pool that holds it; the empty part at the pool's start for a bad table, a row
+// that is no member's and a row past the type.
+pub fn member_name<'a>(table: &[u32], pool: &'a [u8], row: usize) -> &'a [u8]
+    ensures is { λ r. ⌜ now r ≡ nameOf (now (table .entry)) (now (pool .entry)) row ⌝ }
+    ensures begins { λ r. ⌜ ptr r ≡ further (ptr (pool .entry)) (namePlace (now (table .entry)) (now (pool .entry)) row) ⌝ }
+{
+    let none: usize = 0;
+    let checked = check(table, pool);
+    match checked {
+        Checked::Bad => &pool[none..none],
+        Checked::Good(s) => {
+            if s.row <= row {
+                return &pool[none..none];
+            }
+            let at = row * 16;
+            let kind = table[at];
+            if kind < 12 {
+                return &pool[none..none];
+            }
+            let from = table[at + 2] as usize;
+            let to = from + table[at + 3] as usize;
+            &pool[from..to]
+        }
+    }
+}
