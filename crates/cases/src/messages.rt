@@ -4,56 +4,28 @@ ghost use mathlib.Core.Path.{_≡_};
 ghost use Prim.Native.Nat.{_≤_};
 ghost use lib.ListN.{length};
 
+// At limit 15, with 64 rows and 256 pool bytes.
+fn plain(label: &[u8], message: &[u8]) {
+    reading(label, message, 15, 64, 256);
+}
+
 pub fn document_cases() {
-    reading(b"empty", b"", 15, 64, 256);
-    reading(
-        b"U1",
-        b"\x10\x00\x00\x00\x01\x00\x00\x00\x00\x00\x08\x00",
-        15,
-        64,
-        256,
-    );
-    reading(
+    plain(b"empty", b"");
+    plain(b"U1", b"\x10\x00\x00\x00\x01\x00\x00\x00\x00\x00\x08\x00");
+    plain(
         b"a tag without its padding",
         b"\x15\x03\x00\x00\x05\x00\x00\x00abc",
-        15,
-        64,
-        256,
     );
-    reading(
-        b"class 12",
-        b"\x1c\x00\x00\x00\x00\x00\x00\x00",
-        15,
-        64,
-        256,
-    );
-    reading(
+    plain(b"class 12", b"\x1c\x00\x00\x00\x00\x00\x00\x00");
+    plain(
         b"compound of version 0",
         b"\x06\x00\x00\x00\x00\x00\x00\x00",
-        15,
-        64,
-        256,
     );
-    reading(
-        b"padding 3",
-        b"\x13\x23\x00\x00\x01\x00\x00\x00",
-        15,
-        64,
-        256,
-    );
-    reading(
-        b"charset 2",
-        b"\x13\x20\x00\x00\x01\x00\x00\x00",
-        15,
-        64,
-        256,
-    );
-    reading(
+    plain(b"padding 3", b"\x13\x23\x00\x00\x01\x00\x00\x00");
+    plain(b"charset 2", b"\x13\x20\x00\x00\x01\x00\x00\x00");
+    plain(
         b"P",
         b"\x36\x02\x00\x00\x04\x00\x00\x00a\x00\x00\x10\x00\x00\x00\x01\x00\x00\x00\x00\x00\x08\x00b\x00\x02\x10\x00\x00\x00\x02\x00\x00\x00\x00\x00\x10\x00",
-        15,
-        64,
-        256,
     );
     reading(
         b"P at limit 2",
@@ -62,26 +34,17 @@ pub fn document_cases() {
         64,
         256,
     );
-    reading(
+    plain(
         b"array with dimension 0",
         b"\x3a\x00\x00\x00\x00\x00\x00\x00\x01\x00\x00\x00\x00\x10\x00\x00\x00\x01\x00\x00\x00\x00\x00\x08\x00",
-        15,
-        64,
-        256,
     );
-    reading(
+    plain(
         b"array of two R",
         b"\x3a\x00\x00\x00\x00\x00\x00\x00\x01\x02\x00\x00\x00\x17\x00\x00\x00\x08\x00\x00\x00",
-        15,
-        64,
-        256,
     );
-    reading(
+    plain(
         b"dimensions 65536 and 65536 over U1",
         b"\x3a\x00\x00\x00\x00\x00\x00\x00\x02\x00\x00\x01\x00\x00\x00\x01\x00\x10\x00\x00\x00\x01\x00\x00\x00\x00\x00\x08\x00",
-        15,
-        64,
-        256,
     );
     sequences(
         b"31 sequences round R",
@@ -105,7 +68,7 @@ fn sequences(label: &[u8], count: usize, inner: &[u8]) {
         return;
     }
     let end = fill(&mut message, count, inner);
-    reading(label, &message[..end], 15, 64, 256);
+    plain(label, &message[..end]);
 }
 
 // The bytes that they take.
@@ -164,68 +127,38 @@ pub fn row_and_level_cases() {
 }
 
 pub fn short_cases() {
-    reading(
+    plain(
         b"a name without NUL",
         b"\x36\x01\x00\x00\x04\x00\x00\x00abc",
-        15,
-        64,
-        256,
     );
-    reading(
+    plain(
         b"nested header cut off",
         b"\x19\x00\x00\x00\x10\x00\x00\x00\x10\x00\x00",
-        15,
-        64,
-        256,
     );
-    reading(
+    plain(
         b"fixed cut off",
         b"\x10\x00\x00\x00\x01\x00\x00\x00\x00\x00\x08",
-        15,
-        64,
-        256,
     );
-    reading(
+    plain(
         b"float cut off",
         b"\x11\x20\x1f\x00\x04\x00\x00\x00\x00\x00\x20\x00\x17\x08\x00\x17\x7f\x00\x00",
-        15,
-        64,
-        256,
     );
-    reading(
-        b"time cut off",
-        b"\x12\x00\x00\x00\x04\x00\x00\x00\x20",
-        15,
-        64,
-        256,
-    );
-    reading(
+    plain(b"time cut off", b"\x12\x00\x00\x00\x04\x00\x00\x00\x20");
+    plain(
         b"version 2 array cut off at its rank",
         b"\x2a\x00\x00\x00\x00\x00\x00\x00\x01\x00\x00",
-        15,
-        64,
-        256,
     );
-    reading(
+    plain(
         b"version 2 array without its permutation",
         b"\x2a\x00\x00\x00\x00\x00\x00\x00\x01\x00\x00\x00\x02\x00\x00\x00",
-        15,
-        64,
-        256,
     );
-    reading(
+    plain(
         b"a tag's absent padding before a member",
         b"\x36\x02\x00\x00\x04\x00\x00\x00a\x00\x00\x15\x03\x00\x00\x01\x00\x00\x00xyz",
-        15,
-        64,
-        256,
     );
-    reading(
+    plain(
         b"a tag's absent padding at the end",
         b"\x36\x01\x00\x00\x04\x00\x00\x00a\x00\x00\x15\x03\x00\x00\x01\x00\x00\x00xyz",
-        15,
-        64,
-        256,
     );
 }
 
@@ -251,12 +184,9 @@ pub fn pool_and_name_cases() {
         64,
         0,
     );
-    reading(
+    plain(
         b"an ill-formed name",
         b"\x36\x01\x00\x00\x08\x00\x00\x00a\xe2\x82\xf0b\xff\x00\x00\x17\x00\x00\x00\x08\x00\x00\x00",
-        15,
-        64,
-        256,
     );
     reading(
         b"an ill-formed name that does not fit mended",
@@ -265,12 +195,9 @@ pub fn pool_and_name_cases() {
         64,
         2,
     );
-    reading(
+    plain(
         b"a tag is not mended",
         b"\x15\x01\x00\x00\x01\x00\x00\x00\xff",
-        15,
-        64,
-        256,
     );
     reading(
         b"a tag too long for the pool",
@@ -303,19 +230,13 @@ pub fn size_and_version_cases() {
         64,
         256,
     );
-    reading(
+    plain(
         b"class 12 of version 15 at limit 15",
         b"\xfc\x00\x00\x00\x00\x00\x00\x00",
-        15,
-        64,
-        256,
     );
-    reading(
+    plain(
         b"class 11 of version 1 is read as version 3",
         b"\x1b\x01\x00\x00\x08\x00\x00\x00a\x00\x00\x17\x00\x00\x00\x08\x00\x00\x00",
-        15,
-        64,
-        256,
     );
     reading(
         b"class 11 at limit 4, bearing 5",
@@ -324,26 +245,14 @@ pub fn size_and_version_cases() {
         64,
         256,
     );
-    reading(
-        b"class 11 of size 0",
-        b"\x3b\x00\x00\x00\x00\x00\x00\x00",
-        15,
-        64,
-        256,
-    );
-    reading(
+    plain(b"class 11 of size 0", b"\x3b\x00\x00\x00\x00\x00\x00\x00");
+    plain(
         b"size 0 of a member before its compound's",
         b"\x36\x01\x00\x00\x00\x00\x00\x00a\x00\x00\x13\x00\x00\x00\x00\x00\x00\x00",
-        15,
-        64,
-        256,
     );
-    reading(
+    plain(
         b"a sequence's header size is not looked at",
         b"\x19\x00\x00\x00\x00\x00\x00\x00\x17\x00\x00\x00\x08\x00\x00\x00",
-        15,
-        64,
-        256,
     );
     reading(
         b"a nested header above the limit",
@@ -352,99 +261,51 @@ pub fn size_and_version_cases() {
         64,
         256,
     );
-    reading(
-        b"array of version 1",
-        b"\x1a\x00\x00\x00\x00\x00\x00\x00",
-        15,
-        64,
-        256,
-    );
-    reading(
+    plain(b"array of version 1", b"\x1a\x00\x00\x00\x00\x00\x00\x00");
+    plain(
         b"compound of version 5",
         b"\x56\x00\x00\x00\x04\x00\x00\x00",
-        15,
-        64,
-        256,
     );
-    reading(
-        b"reference kind 2",
-        b"\x17\x02\x00\x00\x08\x00\x00\x00",
-        15,
-        64,
-        256,
-    );
+    plain(b"reference kind 2", b"\x17\x02\x00\x00\x08\x00\x00\x00");
 }
 
 pub fn class_cases() {
-    reading(
+    plain(
         b"float",
         b"\x11\x20\x1f\x00\x04\x00\x00\x00\x00\x00\x20\x00\x17\x08\x00\x17\x7f\x00\x00\x00",
-        15,
-        64,
-        256,
     );
-    reading(
+    plain(
         b"VAX float",
         b"\x11\x41\x1f\x00\x04\x00\x00\x00\x00\x00\x20\x00\x17\x08\x00\x17\x7f\x00\x00\x00",
-        15,
-        64,
-        256,
     );
-    reading(
+    plain(
         b"signed big-endian fixed",
         b"\x10\x09\x00\x00\x02\x00\x00\x00\x01\x00\x0f\x00",
-        15,
-        64,
-        256,
     );
-    reading(
-        b"time",
-        b"\x12\x01\x00\x00\x04\x00\x00\x00\x20\x00",
-        15,
-        64,
-        256,
-    );
-    reading(b"string", b"\x13\x12\x00\x00\x10\x00\x00\x00", 15, 64, 256);
-    reading(
+    plain(b"time", b"\x12\x01\x00\x00\x04\x00\x00\x00\x20\x00");
+    plain(b"string", b"\x13\x12\x00\x00\x10\x00\x00\x00");
+    plain(
         b"bit field",
         b"\x14\x01\x00\x00\x02\x00\x00\x00\x03\x00\x05\x00",
-        15,
-        64,
-        256,
     );
-    reading(
+    plain(
         b"enumeration",
         b"\x38\x02\x00\x00\x01\x00\x00\x00\x10\x00\x00\x00\x01\x00\x00\x00\x00\x00\x08\x00on\x00off\x00\x01\x02",
-        15,
-        64,
-        256,
     );
-    reading(
+    plain(
         b"variable-length string",
         b"\x19\x21\x01\x00\x10\x00\x00\x00\x10\x00\x00\x00\x01\x00\x00\x00\x00\x00\x08\x00",
-        15,
-        64,
-        256,
     );
-    reading(
+    plain(
         b"variable-length kind 2 is a sequence",
         b"\x19\x32\x05\x00\x10\x00\x00\x00\x10\x00\x00\x00\x01\x00\x00\x00\x00\x00\x08\x00",
-        15,
-        64,
-        256,
     );
-    reading(
+    plain(
         b"version 1 compound",
         b"\x16\x01\x00\x00\x04\x00\x00\x00name\x00\x00\x00\x00\x02\x00\x00\x00\x00\x00\x00\x00\x00\x00\x00\x00\x00\x00\x00\x00\x00\x00\x00\x00\x00\x00\x00\x00\x00\x00\x00\x00\x00\x00\x00\x00\x13\x00\x00\x00\x02\x00\x00\x00",
-        15,
-        64,
-        256,
     );
-    reading(
+    plain(
         b"version 2 array in a version 2 compound",
         b"\x26\x01\x00\x00\x04\x00\x00\x00n\x00\x00\x00\x00\x00\x00\x00\x00\x00\x00\x00\x2a\x00\x00\x00\x04\x00\x00\x00\x01\x00\x00\x00\x02\x00\x00\x00\x00\x00\x00\x00\x13\x00\x00\x00\x02\x00\x00\x00",
-        15,
-        64,
-        256,
     );
 }

@@ -89,7 +89,7 @@ fn row(words: &[u32]) {
     text(b"\n");
 }
 
-// The rows that are not all zero.
+// The rows in use, whose first word is not 0.
 fn rows(table: &[u32]) {
     let count = table.len() / 16;
     let mut i = 0;

@@ -21,11 +21,11 @@ fill-requires c κs = search needs
 array-share-prefix-message : tie.Need-array-share-prefix-message
 array-share-prefix-message c = search needs
 
-slice-aggregate-reading : tie.Need-slice-aggregate-reading
-slice-aggregate-reading c = sym (length-take-le _ _ (omega arith))
+slice-aggregate-plain : tie.Need-slice-aggregate-plain
+slice-aggregate-plain c = sym (length-take-le _ _ (omega arith))
 
-reading-requires : tie.Need-reading-requires
-reading-requires c κs = search needs
+plain-requires : tie.Need-plain-requires
+plain-requires c κs = search needs
 
 returns-3 : tie.Need-returns-3
 returns-3 c = search needs
@@ -39,6 +39,6 @@ sequences-spec =
     slice-aggregate-fill
     fill-requires
     array-share-prefix-message
-    slice-aggregate-reading
-    reading-requires
+    slice-aggregate-plain
+    plain-requires
     returns-3)
