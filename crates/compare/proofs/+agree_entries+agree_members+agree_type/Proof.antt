@@ -1,0 +1,474 @@
+use Prim.Native.Nat.{ℕ, _<_, _≤_, _+_, _-_, _*_}
+use mathlib.Core.Path.{_≡_}
+use native.Mathlib.Omega.{arith}
+use borrow.Author.Needs.{needs}
+use lib.ListN.{length}
+use Rattle.format.specs.Table.{typeAt, membersAt}
+use Rattle.rows.proofs.Decode.{leaf-inside, compound-inside, enumeration-inside, array-inside, named-inside}
+use Rattle.compare.specs.Agreeing.{topOf}
+use Rattle.compare.proofs.Types.{type-unknown, type-variableLength, type-leaf, type-enumeration, type-compound, type-array-unsound, type-array-zero, type-array-solid, type-array, sound-level}
+use Rattle.compare.proofs.Inside.{Leads, leads-same, members-end, members-deep, members-unnamed, members-past, members-lost, members-apart, members-next, Done, done-none, entries-end, entries-start, entries-past, entries-lost, entries-apart, entries-next}
+use borrow.Fn.Kinds.{In}
+use borrow.Fn.PlainCycle.{Measures, is, falls, and}
+use Rattle.compare.proofs.agree_entries.Reads as agree-entries
+use Rattle.compare.proofs.agree_entries.Kinds as agree-entries-kinds
+use Rattle.compare.proofs.+agree_entries+agree_members+agree_type.Lts-agree_entries as agree-entries-lts
+use Rattle.compare.proofs.agree_members.Reads as agree-members
+use Rattle.compare.proofs.agree_members.Kinds as agree-members-kinds
+use Rattle.compare.proofs.+agree_entries+agree_members+agree_type.Lts-agree_members as agree-members-lts
+use Rattle.compare.proofs.agree_type.Reads as agree-type
+use Rattle.compare.proofs.agree_type.Kinds as agree-type-kinds
+use Rattle.compare.proofs.+agree_entries+agree_members+agree_type.Lts-agree_type as agree-type-lts
+use Rattle.compare.proofs.agree_enumeration.Reads as agree-enumeration-reads
+use Rattle.compare.proofs.agree_field.Reads as agree-field-reads
+use Rattle.compare.proofs.enter.Reads as enter-reads
+use Rattle.compare.proofs.is_field.Reads as is-field-reads
+use Rattle.rows.proofs.entry_at.Reads as entry-at-reads
+use Rattle.rows.proofs.member_at.Reads as member-at-reads
+use Rattle.table.proofs.scaled.Reads as scaled-reads
+use Rattle.table.proofs.survey_type.Reads as survey-type-reads
+use Rattle.compare.proofs.+agree_entries+agree_members+agree_type.{statement}
+use Rattle.compare.proofs.+agree_entries+agree_members+agree_type.Tie.{close}
+
+abbrev μ-agree-entries : Measures 4 agree-entries-kinds.ps ℕ
+μ-agree-entries κs a = (33 - a .1 .1 .0 .depth) * 3 + 2
+
+abbrev μ-agree-members : Measures 4 agree-members-kinds.ps ℕ
+μ-agree-members κs a = (33 - a .1 .1 .0 .depth) * 3
+
+abbrev μ-agree-type : Measures 4 agree-type-kinds.ps ℕ
+μ-agree-type κs a = (33 - a .1 .1 .0 .depth) * 3 + 1
+
+abbrev agree-entries-at : ℕ → In 4 agree-entries-kinds.ps
+agree-entries-at t =
+    and 4 agree-entries-kinds.ps (is 4 agree-entries-kinds.ps μ-agree-entries t) agree-entries.Pre
+
+abbrev agree-entries-below : ℕ → In 4 agree-entries-kinds.ps
+agree-entries-below t =
+    and
+    4
+    agree-entries-kinds.ps
+    (falls 4 agree-entries-kinds.ps _<_ μ-agree-entries t)
+    agree-entries.Pre
+
+abbrev agree-members-at : ℕ → In 4 agree-members-kinds.ps
+agree-members-at t =
+    and 4 agree-members-kinds.ps (is 4 agree-members-kinds.ps μ-agree-members t) agree-members.Pre
+
+abbrev agree-members-below : ℕ → In 4 agree-members-kinds.ps
+agree-members-below t =
+    and
+    4
+    agree-members-kinds.ps
+    (falls 4 agree-members-kinds.ps _<_ μ-agree-members t)
+    agree-members.Pre
+
+abbrev agree-type-at : ℕ → In 4 agree-type-kinds.ps
+agree-type-at t =
+    and 4 agree-type-kinds.ps (is 4 agree-type-kinds.ps μ-agree-type t) agree-type.Pre
+
+abbrev agree-type-below : ℕ → In 4 agree-type-kinds.ps
+agree-type-below t =
+    and 4 agree-type-kinds.ps (falls 4 agree-type-kinds.ps _<_ μ-agree-type t) agree-type.Pre
+
+abbrev agree-entries-Inv-loop : agree-entries-lts.InvT-loop
+agree-entries-Inv-loop table pool path place a b at stride count next start₀ done₀ start done =
+    (done ≤ count) × ((start ≡ at + done * stride) × ((start ≤ length a) × Done (typeAt (33 - path .depth) table pool (topOf path) place) stride done a b at))
+
+abbrev agree-entries-μ-loop : agree-entries-lts.MeasureT-loop
+agree-entries-μ-loop table pool path place a b at stride count next start₀ done₀ start done = count - done
+
+abbrev agree-entries-calls : ℕ → agree-entries-lts.Claims
+agree-entries-calls t = (agree-type-below t, agree-type.Post)
+
+abbrev agree-members-calls : ℕ → agree-members-lts.Claims
+agree-members-calls t = (member-at-reads.Asked, member-at-reads.Learnt, enter-reads.Asked, enter-reads.Learnt, agree-type-below t, agree-type.Post)
+
+abbrev agree-type-calls : ℕ → agree-type-lts.Claims
+agree-type-calls t = (entry-at-reads.Asked, entry-at-reads.Learnt, agree-field-reads.Asked, agree-field-reads.Learnt, agree-enumeration-reads.Asked, agree-enumeration-reads.Learnt, agree-members-below t, agree-members.Post, survey-type-reads.Asked, survey-type-reads.Learnt, scaled-reads.Asked, scaled-reads.Learnt, is-field-reads.Asked, is-field-reads.Learnt, enter-reads.Asked, enter-reads.Learnt, agree-entries-below t, agree-entries.Post)
+
+agree-entries-loop-holds : (t : ℕ) → agree-entries-lts.Need-loop-holds (agree-entries-calls t) (agree-entries-at t) agree-entries.Post agree-entries-Inv-loop agree-entries-μ-loop
+agree-entries-loop-holds t c = (omega arith, (omega arith, (omega arith, done-none _ _ _ _ _)))
+
+agree-entries-sub-if1 : (t : ℕ) → agree-entries-lts.Need-sub-if1 (agree-entries-calls t) (agree-entries-at t) agree-entries.Post agree-entries-Inv-loop agree-entries-μ-loop
+agree-entries-sub-if1 t c = search needs
+
+agree-entries-returns : (t : ℕ) → agree-entries-lts.Need-returns (agree-entries-calls t) (agree-entries-at t) agree-entries.Post agree-entries-Inv-loop agree-entries-μ-loop
+agree-entries-returns t c = search entries-past
+
+agree-entries-agree-type-requires : (t : ℕ) → agree-entries-lts.Need-agree-type-requires (agree-entries-calls t) (agree-entries-at t) agree-entries.Post agree-entries-Inv-loop agree-entries-μ-loop
+agree-entries-agree-type-requires t c κs = search needs
+
+agree-entries-enum-told : (t : ℕ) → agree-entries-lts.Need-enum-told (agree-entries-calls t) (agree-entries-at t) agree-entries.Post agree-entries-Inv-loop agree-entries-μ-loop
+agree-entries-enum-told t c = search needs
+
+agree-entries-returns-2 : (t : ℕ) → agree-entries-lts.Need-returns-2 (agree-entries-calls t) (agree-entries-at t) agree-entries.Post agree-entries-Inv-loop agree-entries-μ-loop
+agree-entries-returns-2 t c = search entries-lost
+
+agree-entries-enum-told-2 : (t : ℕ) → agree-entries-lts.Need-enum-told-2 (agree-entries-calls t) (agree-entries-at t) agree-entries.Post agree-entries-Inv-loop agree-entries-μ-loop
+agree-entries-enum-told-2 t c = search needs
+
+agree-entries-returns-3 : (t : ℕ) → agree-entries-lts.Need-returns-3 (agree-entries-calls t) (agree-entries-at t) agree-entries.Post agree-entries-Inv-loop agree-entries-μ-loop
+agree-entries-returns-3 t c = search entries-apart
+
+agree-entries-enum-told-3 : (t : ℕ) → agree-entries-lts.Need-enum-told-3 (agree-entries-calls t) (agree-entries-at t) agree-entries.Post agree-entries-Inv-loop agree-entries-μ-loop
+agree-entries-enum-told-3 t c = search needs
+
+agree-entries-add-start : (t : ℕ) → agree-entries-lts.Need-add-start (agree-entries-calls t) (agree-entries-at t) agree-entries.Post agree-entries-Inv-loop agree-entries-μ-loop
+agree-entries-add-start t c = search needs
+
+agree-entries-add-done : (t : ℕ) → agree-entries-lts.Need-add-done (agree-entries-calls t) (agree-entries-at t) agree-entries.Post agree-entries-Inv-loop agree-entries-μ-loop
+agree-entries-add-done t c = search needs
+
+agree-entries-loop-less : (t : ℕ) → agree-entries-lts.Need-loop-less (agree-entries-calls t) (agree-entries-at t) agree-entries.Post agree-entries-Inv-loop agree-entries-μ-loop
+agree-entries-loop-less t c = search needs
+
+agree-entries-loop-again : (t : ℕ) → agree-entries-lts.Need-loop-again (agree-entries-calls t) (agree-entries-at t) agree-entries.Post agree-entries-Inv-loop agree-entries-μ-loop
+agree-entries-loop-again t c = (omega arith, (entries-start _ _ _ _ (c .before .before .before .before .before .loop .inv .1 .0), (omega arith, search entries-next)))
+
+agree-entries-returns-4 : (t : ℕ) → agree-entries-lts.Need-returns-4 (agree-entries-calls t) (agree-entries-at t) agree-entries.Post agree-entries-Inv-loop agree-entries-μ-loop
+agree-entries-returns-4 t c = search entries-end
+
+abbrev agree-members-Inv-loop : agree-members-lts.InvT-loop
+agree-members-Inv-loop table pool path row place count a b at depth r₀ p₀ left₀ r p left =
+    Leads (membersAt (typeAt (32 - path .depth) table pool) table pool left r p) (membersAt (typeAt (32 - path .depth) table pool) table pool count row place) a b at
+
+abbrev agree-members-μ-loop : agree-members-lts.MeasureT-loop
+agree-members-μ-loop table pool path row place count a b at depth r₀ p₀ left₀ r p left = left
+
+agree-members-loop-holds : (t : ℕ) → agree-members-lts.Need-loop-holds (agree-members-calls t) (agree-members-at t) agree-members.Post agree-members-Inv-loop agree-members-μ-loop
+agree-members-loop-holds t c = leads-same _ _ _ _
+
+agree-members-returns : (t : ℕ) → agree-members-lts.Need-returns (agree-members-calls t) (agree-members-at t) agree-members.Post agree-members-Inv-loop agree-members-μ-loop
+agree-members-returns t c = search members-deep
+
+agree-members-member-at-requires : (t : ℕ) → agree-members-lts.Need-member-at-requires (agree-members-calls t) (agree-members-at t) agree-members.Post agree-members-Inv-loop agree-members-μ-loop
+agree-members-member-at-requires t c κs = search needs
+
+agree-members-enum-told : (t : ℕ) → agree-members-lts.Need-enum-told (agree-members-calls t) (agree-members-at t) agree-members.Post agree-members-Inv-loop agree-members-μ-loop
+agree-members-enum-told t c = search needs
+
+agree-members-returns-2 : (t : ℕ) → agree-members-lts.Need-returns-2 (agree-members-calls t) (agree-members-at t) agree-members.Post agree-members-Inv-loop agree-members-μ-loop
+agree-members-returns-2 t c = search members-unnamed
+
+agree-members-enum-known-member : (t : ℕ) → agree-members-lts.Need-enum-known-member (agree-members-calls t) (agree-members-at t) agree-members.Post agree-members-Inv-loop agree-members-μ-loop
+agree-members-enum-known-member t c = search needs
+
+agree-members-sub-if2 : (t : ℕ) → agree-members-lts.Need-sub-if2 (agree-members-calls t) (agree-members-at t) agree-members.Post agree-members-Inv-loop agree-members-μ-loop
+agree-members-sub-if2 t c = search needs
+
+agree-members-cast-if2 : (t : ℕ) → agree-members-lts.Need-cast-if2 (agree-members-calls t) (agree-members-at t) agree-members.Post agree-members-Inv-loop agree-members-μ-loop
+agree-members-cast-if2 t c = search needs
+
+agree-members-returns-3 : (t : ℕ) → agree-members-lts.Need-returns-3 (agree-members-calls t) (agree-members-at t) agree-members.Post agree-members-Inv-loop agree-members-μ-loop
+agree-members-returns-3 t c = search members-past
+
+agree-members-add-enter : (t : ℕ) → agree-members-lts.Need-add-enter (agree-members-calls t) (agree-members-at t) agree-members.Post agree-members-Inv-loop agree-members-μ-loop
+agree-members-add-enter t c = let i = named-inside _ _ _ _ (c .before .before .member .given .1) (c .before .before .before .before .member-at .ensures .1) in omega arith
+
+agree-members-enter-requires : (t : ℕ) → agree-members-lts.Need-enter-requires (agree-members-calls t) (agree-members-at t) agree-members.Post agree-members-Inv-loop agree-members-μ-loop
+agree-members-enter-requires t c κs = search needs
+
+agree-members-cast-agree-type : (t : ℕ) → agree-members-lts.Need-cast-agree-type (agree-members-calls t) (agree-members-at t) agree-members.Post agree-members-Inv-loop agree-members-μ-loop
+agree-members-cast-agree-type t c = search needs
+
+agree-members-add-agree-type : (t : ℕ) → agree-members-lts.Need-add-agree-type (agree-members-calls t) (agree-members-at t) agree-members.Post agree-members-Inv-loop agree-members-μ-loop
+agree-members-add-agree-type t c = let i = named-inside _ _ _ _ (c .before .before .before .member .given .1) (c .before .before .before .before .before .member-at .ensures .1) in omega arith
+
+agree-members-cast-agree-type-2 : (t : ℕ) → agree-members-lts.Need-cast-agree-type-2 (agree-members-calls t) (agree-members-at t) agree-members.Post agree-members-Inv-loop agree-members-μ-loop
+agree-members-cast-agree-type-2 t c = search needs
+
+agree-members-add-agree-type-2 : (t : ℕ) → agree-members-lts.Need-add-agree-type-2 (agree-members-calls t) (agree-members-at t) agree-members.Post agree-members-Inv-loop agree-members-μ-loop
+agree-members-add-agree-type-2 t c = search needs
+
+agree-members-agree-type-requires : (t : ℕ) → agree-members-lts.Need-agree-type-requires (agree-members-calls t) (agree-members-at t) agree-members.Post agree-members-Inv-loop agree-members-μ-loop
+agree-members-agree-type-requires t c κs = search needs
+
+agree-members-enum-told-2 : (t : ℕ) → agree-members-lts.Need-enum-told-2 (agree-members-calls t) (agree-members-at t) agree-members.Post agree-members-Inv-loop agree-members-μ-loop
+agree-members-enum-told-2 t c = search needs
+
+agree-members-returns-4 : (t : ℕ) → agree-members-lts.Need-returns-4 (agree-members-calls t) (agree-members-at t) agree-members.Post agree-members-Inv-loop agree-members-μ-loop
+agree-members-returns-4 t c = search members-lost
+
+agree-members-enum-told-3 : (t : ℕ) → agree-members-lts.Need-enum-told-3 (agree-members-calls t) (agree-members-at t) agree-members.Post agree-members-Inv-loop agree-members-μ-loop
+agree-members-enum-told-3 t c = search needs
+
+agree-members-returns-5 : (t : ℕ) → agree-members-lts.Need-returns-5 (agree-members-calls t) (agree-members-at t) agree-members.Post agree-members-Inv-loop agree-members-μ-loop
+agree-members-returns-5 t c = search members-apart
+
+agree-members-enum-known-got : (t : ℕ) → agree-members-lts.Need-enum-known-got (agree-members-calls t) (agree-members-at t) agree-members.Post agree-members-Inv-loop agree-members-μ-loop
+agree-members-enum-known-got t c = search needs
+
+agree-members-sub-left : (t : ℕ) → agree-members-lts.Need-sub-left (agree-members-calls t) (agree-members-at t) agree-members.Post agree-members-Inv-loop agree-members-μ-loop
+agree-members-sub-left t c = search needs
+
+agree-members-loop-less : (t : ℕ) → agree-members-lts.Need-loop-less (agree-members-calls t) (agree-members-at t) agree-members.Post agree-members-Inv-loop agree-members-μ-loop
+agree-members-loop-less t c = search needs
+
+agree-members-loop-again : (t : ℕ) → agree-members-lts.Need-loop-again (agree-members-calls t) (agree-members-at t) agree-members.Post agree-members-Inv-loop agree-members-μ-loop
+agree-members-loop-again t c = search members-next
+
+agree-members-returns-6 : (t : ℕ) → agree-members-lts.Need-returns-6 (agree-members-calls t) (agree-members-at t) agree-members.Post agree-members-Inv-loop agree-members-μ-loop
+agree-members-returns-6 t c = search members-end
+
+agree-type-sub-row : (t : ℕ) → agree-type-lts.Need-sub-row (agree-type-calls t) (agree-type-at t) agree-type.Post
+agree-type-sub-row t c = search needs
+
+agree-type-mul-row : (t : ℕ) → agree-type-lts.Need-mul-row (agree-type-calls t) (agree-type-at t) agree-type.Post
+agree-type-mul-row t c = search needs
+
+agree-type-array-read-row : (t : ℕ) → agree-type-lts.Need-array-read-row (agree-type-calls t) (agree-type-at t) agree-type.Post
+agree-type-array-read-row t c = search needs
+
+agree-type-entry-at-requires : (t : ℕ) → agree-type-lts.Need-entry-at-requires (agree-type-calls t) (agree-type-at t) agree-type.Post
+agree-type-entry-at-requires t c κs = search needs
+
+agree-type-enum-told : (t : ℕ) → agree-type-lts.Need-enum-told (agree-type-calls t) (agree-type-at t) agree-type.Post
+agree-type-enum-told t c = search needs
+
+agree-type-enum-told-2 : (t : ℕ) → agree-type-lts.Need-enum-told-2 (agree-type-calls t) (agree-type-at t) agree-type.Post
+agree-type-enum-told-2 t c = search needs
+
+agree-type-enum-known-entry : (t : ℕ) → agree-type-lts.Need-enum-known-entry (agree-type-calls t) (agree-type-at t) agree-type.Post
+agree-type-enum-known-entry t c = search needs
+
+agree-type-cast-agree-field : (t : ℕ) → agree-type-lts.Need-cast-agree-field (agree-type-calls t) (agree-type-at t) agree-type.Post
+agree-type-cast-agree-field t c = search needs
+
+agree-type-add-t32 : (t : ℕ) → agree-type-lts.Need-add-t32 (agree-type-calls t) (agree-type-at t) agree-type.Post
+agree-type-add-t32 t c = omega (arith, leaf-inside _ _ _ _ (c .before .before .before .entry-at .ensures .1) (c .before .entry .given .1))
+
+agree-type-cast-t33 : (t : ℕ) → agree-type-lts.Need-cast-t33 (agree-type-calls t) (agree-type-at t) agree-type.Post
+agree-type-cast-t33 t c = search needs
+
+agree-type-add-t34 : (t : ℕ) → agree-type-lts.Need-add-t34 (agree-type-calls t) (agree-type-at t) agree-type.Post
+agree-type-add-t34 t c = omega (arith, leaf-inside _ _ _ _ (c .before .before .before .entry-at .ensures .1) (c .before .entry .given .1))
+
+agree-type-agree-field-requires : (t : ℕ) → agree-type-lts.Need-agree-field-requires (agree-type-calls t) (agree-type-at t) agree-type.Post
+agree-type-agree-field-requires t c κs = search needs
+
+agree-type-enum-known-entry-2 : (t : ℕ) → agree-type-lts.Need-enum-known-entry-2 (agree-type-calls t) (agree-type-at t) agree-type.Post
+agree-type-enum-known-entry-2 t c = search needs
+
+agree-type-sub-agree-enumeration : (t : ℕ) → agree-type-lts.Need-sub-agree-enumeration (agree-type-calls t) (agree-type-at t) agree-type.Post
+agree-type-sub-agree-enumeration t c = search needs
+
+agree-type-agree-enumeration-requires : (t : ℕ) → agree-type-lts.Need-agree-enumeration-requires (agree-type-calls t) (agree-type-at t) agree-type.Post
+agree-type-agree-enumeration-requires t c κs = (enumeration-inside _ _ _ _ (c .before .before .before .entry-at .ensures .1) (c .before .entry2 .given .1), (c .before .before .before .before .before .before .before .before .before .pre .1 .begins, c .before .before .before .before .before .before .before .before .before .pre .1 .lengths))
+
+agree-type-enum-known-entry-3 : (t : ℕ) → agree-type-lts.Need-enum-known-entry-3 (agree-type-calls t) (agree-type-at t) agree-type.Post
+agree-type-enum-known-entry-3 t c = search needs
+
+agree-type-add-agree-members : (t : ℕ) → agree-type-lts.Need-add-agree-members (agree-type-calls t) (agree-type-at t) agree-type.Post
+agree-type-add-agree-members t c = omega (arith, compound-inside _ _ _ _ (c .before .before .before .entry-at .ensures .1) (c .before .entry3 .given .1))
+
+agree-type-agree-members-requires : (t : ℕ) → agree-type-lts.Need-agree-members-requires (agree-type-calls t) (agree-type-at t) agree-type.Post
+agree-type-agree-members-requires t c κs = search needs
+
+agree-type-enum-known-entry-4 : (t : ℕ) → agree-type-lts.Need-enum-known-entry-4 (agree-type-calls t) (agree-type-at t) agree-type.Post
+agree-type-enum-known-entry-4 t c = search needs
+
+agree-type-add-below : (t : ℕ) → agree-type-lts.Need-add-below (agree-type-calls t) (agree-type-at t) agree-type.Post
+agree-type-add-below t c = let i = array-inside _ _ _ _ (c .before .before .before .entry-at .ensures .1) (c .before .entry4 .given .1) in omega arith
+
+agree-type-cast-inner : (t : ℕ) → agree-type-lts.Need-cast-inner (agree-type-calls t) (agree-type-at t) agree-type.Post
+agree-type-cast-inner t c = search needs
+
+agree-type-mul-inner : (t : ℕ) → agree-type-lts.Need-mul-inner (agree-type-calls t) (agree-type-at t) agree-type.Post
+agree-type-mul-inner t c = search needs
+
+agree-type-add-inner : (t : ℕ) → agree-type-lts.Need-add-inner (agree-type-calls t) (agree-type-at t) agree-type.Post
+agree-type-add-inner t c = let i = array-inside _ _ _ _ (c .before .before .before .entry-at .ensures .1) (c .before .entry4 .given .1) in omega arith
+
+agree-type-sub-survey-type : (t : ℕ) → agree-type-lts.Need-sub-survey-type (agree-type-calls t) (agree-type-at t) agree-type.Post
+agree-type-sub-survey-type t c = search needs
+
+agree-type-survey-type-requires : (t : ℕ) → agree-type-lts.Need-survey-type-requires (agree-type-calls t) (agree-type-at t) agree-type.Post
+agree-type-survey-type-requires t c κs = search needs
+
+agree-type-enum-told-3 : (t : ℕ) → agree-type-lts.Need-enum-told-3 (agree-type-calls t) (agree-type-at t) agree-type.Post
+agree-type-enum-told-3 t c = search needs
+
+agree-type-enum-known-base : (t : ℕ) → agree-type-lts.Need-enum-known-base (agree-type-calls t) (agree-type-at t) agree-type.Post
+agree-type-enum-known-base t c = search needs
+
+agree-type-cast-size : (t : ℕ) → agree-type-lts.Need-cast-size (agree-type-calls t) (agree-type-at t) agree-type.Post
+agree-type-cast-size t c = search needs
+
+agree-type-returns : (t : ℕ) → agree-type-lts.Need-returns (agree-type-calls t) (agree-type-at t) agree-type.Post
+agree-type-returns t c = search type-array-zero
+
+agree-type-scaled-requires : (t : ℕ) → agree-type-lts.Need-scaled-requires (agree-type-calls t) (agree-type-at t) agree-type.Post
+agree-type-scaled-requires t c κs = array-inside _ _ _ _ (c .before .before .before .before .before .before .before .before .before .entry-at .ensures .1) (c .before .before .before .before .before .before .before .entry4 .given .1) .1
+
+agree-type-is-field-requires : (t : ℕ) → agree-type-lts.Need-is-field-requires (agree-type-calls t) (agree-type-at t) agree-type.Post
+agree-type-is-field-requires t c κs = search needs
+
+agree-type-agree-field-requires-2 : (t : ℕ) → agree-type-lts.Need-agree-field-requires-2 (agree-type-calls t) (agree-type-at t) agree-type.Post
+agree-type-agree-field-requires-2 t c κs = (c .before .before .before .before .before .before .before .before .before .before .before .before .before .before .before .before .before .before .pre .1 .begins, c .before .before .before .before .before .before .before .before .before .before .before .before .before .before .before .before .before .before .pre .1 .lengths)
+
+agree-type-returns-2 : (t : ℕ) → agree-type-lts.Need-returns-2 (agree-type-calls t) (agree-type-at t) agree-type.Post
+agree-type-returns-2 t c =
+    type-array-solid _ _ _ _ _ _ _ _ (c .before .before .before .before .before .before .before .before .before .before .before .before .before .before .before .before .before .before .before .pre .1 .shallow) (c .before .before .before .before .before .before .before .before .before .before .before .before .before .entry-at .ensures .0) _ (c .before .before .before .before .before .before .before .before .before .before .before .entry4 .given .1) (c .before .before .before .before .before .before .before .before .before .survey-type .ensures) (c .before .before .before .before .before .before .before .base .given .1) (c .before .before .before .scaled .ensures) (c .before .before .is-field .ensures) (c .before .if2 .taken) (c .agree-field2 .ensures)
+
+agree-type-enter-requires : (t : ℕ) → agree-type-lts.Need-enter-requires (agree-type-calls t) (agree-type-at t) agree-type.Post
+agree-type-enter-requires t c κs = sound-level _ _ _ _ _ (c .before .before .before .before .before .before .before .before .survey-type .ensures) (c .before .before .before .before .before .before .base .given .1)
+
+agree-type-div-agree-entries : (t : ℕ) → agree-type-lts.Need-div-agree-entries (agree-type-calls t) (agree-type-at t) agree-type.Post
+agree-type-div-agree-entries t c = search needs
+
+agree-type-agree-entries-requires : (t : ℕ) → agree-type-lts.Need-agree-entries-requires (agree-type-calls t) (agree-type-at t) agree-type.Post
+agree-type-agree-entries-requires t c κs =
+    let d = c .enter .ensures .0 in
+    let l = sound-level _ _ _ _ _ (c .before .before .before .before .before .before .before .before .before .survey-type .ensures) (c .before .before .before .before .before .before .before .base .given .1) in
+    let m = c .before .before .before .before .before .before .before .before .before .before .before .before .before .before .before .before .before .before .before .pre .0 in
+    (omega arith, record { deep = omega arith; shallow = omega arith; begins = c .before .before .before .before .before .before .before .before .before .before .before .before .before .before .before .before .before .before .before .pre .1 .begins; lengths = c .before .before .before .before .before .before .before .before .before .before .before .before .before .before .before .before .before .before .before .pre .1 .lengths })
+
+agree-type-returns-3 : (t : ℕ) → agree-type-lts.Need-returns-3 (agree-type-calls t) (agree-type-at t) agree-type.Post
+agree-type-returns-3 t c = search type-unknown
+
+agree-type-returns-4 : (t : ℕ) → agree-type-lts.Need-returns-4 (agree-type-calls t) (agree-type-at t) agree-type.Post
+agree-type-returns-4 t c = search type-variableLength
+
+agree-type-returns-5 : (t : ℕ) → agree-type-lts.Need-returns-5 (agree-type-calls t) (agree-type-at t) agree-type.Post
+agree-type-returns-5 t c = search type-leaf
+
+agree-type-returns-6 : (t : ℕ) → agree-type-lts.Need-returns-6 (agree-type-calls t) (agree-type-at t) agree-type.Post
+agree-type-returns-6 t c = search type-enumeration
+
+agree-type-returns-7 : (t : ℕ) → agree-type-lts.Need-returns-7 (agree-type-calls t) (agree-type-at t) agree-type.Post
+agree-type-returns-7 t c = search type-compound
+
+agree-type-returns-8 : (t : ℕ) → agree-type-lts.Need-returns-8 (agree-type-calls t) (agree-type-at t) agree-type.Post
+agree-type-returns-8 t c = search type-array-unsound
+
+agree-type-returns-9 : (t : ℕ) → agree-type-lts.Need-returns-9 (agree-type-calls t) (agree-type-at t) agree-type.Post
+agree-type-returns-9 t c =
+    type-array _ _ _ _ _ _ _ _ (c .before .before .before .before .before .before .before .before .before .before .before .before .before .before .before .before .before .before .before .before .pre .1 .shallow) (c .before .before .before .before .before .before .before .before .before .before .before .before .before .before .entry-at .ensures .0) _ (c .before .before .before .before .before .before .before .before .before .before .before .before .entry4 .given .1) (c .before .before .before .before .before .before .before .before .before .before .survey-type .ensures) (c .before .before .before .before .before .before .before .before .base .given .1) (c .before .enter .result) (c .before .before .before .before .scaled .ensures) (c .before .enter .ensures .0) (c .before .enter .ensures .1) (c .agree-entries .ensures)
+
+pub +agree-entries+agree-members+agree-type-spec : {M : Type 1} → statement M
++agree-entries+agree-members+agree-type-spec =
+    close μ-agree-entries μ-agree-members μ-agree-type (λ t. agree-entries-lts.spec (
+      agree-type-below t,
+      agree-type.Post,
+    )
+    (agree-entries-at t)
+    agree-entries.Post
+    agree-entries-Inv-loop
+    agree-entries-μ-loop
+    (agree-entries-loop-holds t)
+    (agree-entries-sub-if1 t)
+    (agree-entries-returns t)
+    (agree-entries-agree-type-requires t)
+    (agree-entries-enum-told t)
+    (agree-entries-returns-2 t)
+    (agree-entries-enum-told-2 t)
+    (agree-entries-returns-3 t)
+    (agree-entries-enum-told-3 t)
+    (agree-entries-add-start t)
+    (agree-entries-add-done t)
+    (agree-entries-loop-less t)
+    (agree-entries-loop-again t)
+    (agree-entries-returns-4 t))
+    (λ t. agree-members-lts.spec (
+      member-at-reads.Asked,
+      member-at-reads.Learnt,
+      enter-reads.Asked,
+      enter-reads.Learnt,
+      agree-type-below t,
+      agree-type.Post,
+    )
+    (agree-members-at t)
+    agree-members.Post
+    agree-members-Inv-loop
+    agree-members-μ-loop
+    (agree-members-loop-holds t)
+    (agree-members-returns t)
+    (agree-members-member-at-requires t)
+    (agree-members-enum-told t)
+    (agree-members-returns-2 t)
+    (agree-members-enum-known-member t)
+    (agree-members-sub-if2 t)
+    (agree-members-cast-if2 t)
+    (agree-members-returns-3 t)
+    (agree-members-add-enter t)
+    (agree-members-enter-requires t)
+    (agree-members-cast-agree-type t)
+    (agree-members-add-agree-type t)
+    (agree-members-cast-agree-type-2 t)
+    (agree-members-add-agree-type-2 t)
+    (agree-members-agree-type-requires t)
+    (agree-members-enum-told-2 t)
+    (agree-members-returns-4 t)
+    (agree-members-enum-told-3 t)
+    (agree-members-returns-5 t)
+    (agree-members-enum-known-got t)
+    (agree-members-sub-left t)
+    (agree-members-loop-less t)
+    (agree-members-loop-again t)
+    (agree-members-returns-6 t))
+    λ t. agree-type-lts.spec (
+      entry-at-reads.Asked,
+      entry-at-reads.Learnt,
+      agree-field-reads.Asked,
+      agree-field-reads.Learnt,
+      agree-enumeration-reads.Asked,
+      agree-enumeration-reads.Learnt,
+      agree-members-below t,
+      agree-members.Post,
+      survey-type-reads.Asked,
+      survey-type-reads.Learnt,
+      scaled-reads.Asked,
+      scaled-reads.Learnt,
+      is-field-reads.Asked,
+      is-field-reads.Learnt,
+      enter-reads.Asked,
+      enter-reads.Learnt,
+      agree-entries-below t,
+      agree-entries.Post,
+    )
+    (agree-type-at t)
+    agree-type.Post
+    (agree-type-sub-row t)
+    (agree-type-mul-row t)
+    (agree-type-array-read-row t)
+    (agree-type-entry-at-requires t)
+    (agree-type-enum-told t)
+    (agree-type-enum-told-2 t)
+    (agree-type-enum-known-entry t)
+    (agree-type-cast-agree-field t)
+    (agree-type-add-t32 t)
+    (agree-type-cast-t33 t)
+    (agree-type-add-t34 t)
+    (agree-type-agree-field-requires t)
+    (agree-type-enum-known-entry-2 t)
+    (agree-type-sub-agree-enumeration t)
+    (agree-type-agree-enumeration-requires t)
+    (agree-type-enum-known-entry-3 t)
+    (agree-type-add-agree-members t)
+    (agree-type-agree-members-requires t)
+    (agree-type-enum-known-entry-4 t)
+    (agree-type-add-below t)
+    (agree-type-cast-inner t)
+    (agree-type-mul-inner t)
+    (agree-type-add-inner t)
+    (agree-type-sub-survey-type t)
+    (agree-type-survey-type-requires t)
+    (agree-type-enum-told-3 t)
+    (agree-type-enum-known-base t)
+    (agree-type-cast-size t)
+    (agree-type-returns t)
+    (agree-type-scaled-requires t)
+    (agree-type-is-field-requires t)
+    (agree-type-agree-field-requires-2 t)
+    (agree-type-returns-2 t)
+    (agree-type-enter-requires t)
+    (agree-type-div-agree-entries t)
+    (agree-type-agree-entries-requires t)
+    (agree-type-returns-3 t)
+    (agree-type-returns-4 t)
+    (agree-type-returns-5 t)
+    (agree-type-returns-6 t)
+    (agree-type-returns-7 t)
+    (agree-type-returns-8 t)
+    (agree-type-returns-9 t)

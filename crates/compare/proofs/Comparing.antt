@@ -1,0 +1,163 @@
+-- `same`: one law for each way out of it.
+use Prim.Native.Nat.{ℕ, suc, _+_, _-_, _<_}
+use mathlib.Core.Path.{_≡_, refl, sym, ap, _∙_}
+use mathlib.Core.Bool.{Bool, true, false, cond}
+use mathlib.Core.List.{List}
+use mathlib.Core.Option.{Option, none, some}
+use native.Mathlib.Omega.{arith}
+use lib.ListN.{length, getD}
+use lib.Dec.{eqb}
+use Rattle.refusal.specs.declared.Refusal.the-variants.{BadTable, ZeroSize, OutsideRecord, HeapHeld, WrongLength}
+use Rattle.format.specs.Datatype.{Datatype, fixedPoint, floatingPoint, time, string, bitField, opaque, compound, reference, enumeration, variableLength, array, Members, noMembers, member, typeSize}
+use Rattle.format.specs.Outcome.{gives}
+use Rattle.format.specs.Ownership.{owned, outside, heapHeld, agree, comparing}
+use Rattle.format.specs.Slots.{firstZero, memberFirstZero, orElse, zeroClass}
+use Rattle.format.specs.Table.{found, typeAt}
+use Rattle.format.proofs.Ownership.{owned-inside, agree-holds, agree-differs, comparing-refused, comparing-zero, comparing-outside, comparing-heap, comparing-length, comparing-records}
+use Rattle.table.specs.Survey.{zeroCode, Sets, Checks}
+use Rattle.table.specs.declared.Survey.{Survey}
+use Rattle.table.specs.declared.Checked.{Checked}
+use Rattle.table.specs.declared.Checked.the-variants.{Bad}
+use Rattle.table.specs.declared.Spot.{Spot}
+use Rattle.table.proofs.Surveys.{Says, told, Told}
+use Rattle.compare.specs.Agreeing.{equalRange, Agreement, Answers, Agrees, comparisonOf}
+use Rattle.compare.specs.declared.Agreed.{Agreed}
+use Rattle.compare.specs.declared.Agreed.the-variants.{Apart, Together, Lost}
+use Rattle.compare.specs.declared.Comparison.{Comparison}
+use Rattle.compare.specs.declared.Comparison.the-variants.{Same, Differs, Refused}
+use Rattle.compare.proofs.Ranges.{range-says}
+
+-- ---- the class of a size 0
+
+class-below : (k n c : ℕ) → k < 11 → zeroClass k n ≡ some c → c < 11
+unfolding zeroClass
+class-below k n c h e = go (eqb n 0) e
+  where
+    go : (b : Bool) → cond b (some k) none ≡ some c → c < 11
+    go true f = let g : k ≡ c = cc in omega arith
+    go false f = let z : _≡_ {A = ℕ} 0 1 = cc in absurd (omega arith)
+
+else-below : (x y : Option ℕ) (c : ℕ) → ((d : ℕ) → x ≡ some d → d < 11) → ((d : ℕ) → y ≡ some d → d < 11) → orElse x y ≡ some c → c < 11
+unfolding orElse
+else-below none y c h g e = g c e
+else-below (some d) y c h g e = h c e
+
+mutual
+  unfolding firstZero
+
+  pub zero-below : (t : Datatype) (c : ℕ) → firstZero t ≡ some c → c < 11
+  zero-below (fixedPoint n o s f q) c e = class-below 0 n c (omega arith) e
+  zero-below (floatingPoint n o f q el es ml ms x) c e = class-below 1 n c (omega arith) e
+  zero-below (time n o q) c e = class-below 2 n c (omega arith) e
+  zero-below (string n a d) c e = class-below 3 n c (omega arith) e
+  zero-below (bitField n o f q) c e = class-below 4 n c (omega arith) e
+  zero-below (opaque n g) c e = class-below 5 n c (omega arith) e
+  zero-below (compound n ms) c e = else-below (zeroClass 6 n) (memberFirstZero ms) c (λ d. class-below 6 n d (omega arith)) (λ d f. member-zero-below ms d f) e
+  zero-below (reference n k) c e = class-below 7 n c (omega arith) e
+  zero-below (enumeration n t ms) c e = else-below (zeroClass 8 n) (firstZero t) c (λ d. class-below 8 n d (omega arith)) (λ d f. zero-below t d f) e
+  zero-below (variableLength i a d t) c e = zero-below t c e
+  zero-below (array ds t) c e =
+      else-below (zeroClass 10 (typeSize (array ds t))) (firstZero t) c (λ d. class-below 10 (typeSize (array ds t)) d (omega arith)) (λ d f. zero-below t d f) e
+
+  member-zero-below : (ms : Members) (c : ℕ) → memberFirstZero ms ≡ some c → c < 11
+  member-zero-below noMembers c e = let z : _≡_ {A = ℕ} 0 1 = cc in absurd (omega arith)
+  member-zero-below (member b o t ms) c e = else-below (firstZero t) (memberFirstZero ms) c (λ d f. zero-below t d f) (λ d f. member-zero-below ms d f) e
+
+no-zero : (x : Option ℕ) → zeroCode x ≡ 0 → x ≡ none
+unfolding zeroCode
+no-zero none e = refl
+no-zero (some c) e = absurd (omega arith)
+
+some-zero : (x : Option ℕ) → (zeroCode x ≡ 0 → ⊥) → x ≡ some (zeroCode x - 1)
+unfolding zeroCode
+some-zero none h = absurd (h refl)
+some-zero (some c) h = let e : suc c - 1 ≡ c = omega arith in rw e
+
+-- ---- the ways out
+
+pub same-bad : (table pool a b : List ℕ) {x : Checked} → Checks table pool x → x ≡ Bad → Refused BadTable ≡ comparisonOf (comparing table pool a b)
+unfolding comparisonOf
+same-bad table pool a b h e = rw (comparing-refused table pool a b BadTable (h .bad-table e))
+
+-- the check found a type, and a survey of it
+module _ (table pool : List ℕ) {s : Survey} (g : Sets table pool s) where
+  says : Says s (g .type) (s .row) (s .place)
+  says = unfold Told in told (found (g .type) (s .row) (s .place)) s refl (g .says)
+
+  zero-is : s .zero ≡ zeroCode (firstZero (g .type))
+  zero-is = ap (λ (u : Survey). u .zero) (says .is)
+
+  zero-some : (s .zero ≡ 0 → ⊥) → firstZero (g .type) ≡ some (s .zero - 1)
+  zero-some n = some-zero _ (λ z. n (zero-is ∙ z)) ∙ ap (λ (k : ℕ). some (k - 1)) (sym zero-is)
+
+  pub zero-fits : (s .zero ≡ 0 → ⊥) → s .zero - 1 < 11
+  zero-fits n = zero-below (g .type) (s .zero - 1) (zero-some n)
+
+  size-is : s .size ≡ typeSize (g .type)
+  size-is = ap (λ (u : Survey). u .size) (says .is)
+
+  outside-is : {c : Bool} → s .outside ≡ c → outside (g .type) ≡ c
+  outside-is f = sym (ap (λ (u : Survey). u .outside) (says .is)) ∙ f
+
+  heap-is : {c : Bool} → s .heap ≡ c → heapHeld (g .type) ≡ c
+  heap-is f = sym (ap (λ (u : Survey). u .heap) (says .is)) ∙ f
+
+  module _ (a b : List ℕ) where
+    pub same-zero : (s .zero ≡ 0 → ⊥) → Refused (ZeroSize (s .zero - 1)) ≡ comparisonOf (comparing table pool a b)
+    unfolding comparisonOf
+    same-zero n = rw (comparing-zero table pool a b (g .type) (g .is) (s .zero - 1) (zero-some n))
+
+    module _ (z : s .zero ≡ 0) where
+      sized : firstZero (g .type) ≡ none
+      sized = no-zero _ (sym zero-is ∙ z)
+
+      pub same-outside : s .outside ≡ true → Refused OutsideRecord ≡ comparisonOf (comparing table pool a b)
+      unfolding comparisonOf
+      same-outside o = rw (comparing-outside table pool a b (g .type) (g .is) sized (outside-is o))
+
+      module _ (o : s .outside ≡ false) where
+        pub same-heap : s .heap ≡ true → Refused HeapHeld ≡ comparisonOf (comparing table pool a b)
+        unfolding comparisonOf
+        same-heap p = rw (comparing-heap table pool a b (g .type) (g .is) sized (outside-is o) (heap-is p))
+
+        module _ (p : s .heap ≡ false) where
+          wrong : (length a ≡ s .size → length b ≡ s .size → ⊥) → Refused WrongLength ≡ comparisonOf (comparing table pool a b)
+          unfolding comparisonOf
+          wrong n = rw (comparing-length table pool a b (g .type) (g .is) sized (outside-is o) (heap-is p) (λ la lb. n (la ∙ sym size-is) (lb ∙ sym size-is)))
+
+          pub same-length : (length a ≡ s .size → ⊥) → Refused WrongLength ≡ comparisonOf (comparing table pool a b)
+          same-length n = wrong (λ la lb. n la)
+
+          pub same-length-b : (length b ≡ s .size → ⊥) → Refused WrongLength ≡ comparisonOf (comparing table pool a b)
+          same-length-b n = wrong (λ la lb. n lb)
+
+          module _ (la : length a ≡ s .size) (lb : length b ≡ s .size) where
+            given : comparing table pool a b ≡ gives (agree (g .type) a b)
+            given = comparing-records table pool a b (g .type) (g .is) sized (outside-is o) (heap-is p) (la ∙ size-is) (lb ∙ size-is)
+
+            same-if : ((i : ℕ) → i < typeSize (g .type) → owned (g .type) i ≡ true → getD a (0 + i) 0 ≡ getD b (0 + i) 0) → Same ≡ comparisonOf (comparing table pool a b)
+            unfolding comparisonOf
+            same-if f = rw (given, agree-holds (g .type) a b (λ i l w. let j : 0 + i ≡ i = omega arith in rw j at (f i l w)))
+
+            pub same-equal : {r : Bool} → r ≡ equalRange a b 0 (s .size) → r ≡ true → Same ≡ comparisonOf (comparing table pool a b)
+            same-equal q t = same-if (λ i l w. range-says a b 0 (s .size) (sym q ∙ t) i (omega (arith, size-is)))
+
+            -- by the walk over its fields
+            module _ (got : Agreed) (w : Agrees (typeAt 32 table pool 0 0) a b 0 got) where
+              answer : Answers (owned (g .type)) a b 0 (record { row = s .row; place = s .place }) got
+              unfolding Agrees
+              answer = rw (g .stands) at w (record { sized = sized; inside = outside-is o; plain = heap-is p }) (omega (arith, size-is))
+
+              pub same-together : {next : Spot} → got ≡ Together next → Same ≡ comparisonOf (comparing table pool a b)
+              unfolding Agreement
+              same-together {next = next} f = same-if (λ i l v. answer .together next f .0 i v)
+
+              pub same-apart : got ≡ Apart → Differs ≡ comparisonOf (comparing table pool a b)
+              unfolding comparisonOf
+              same-apart f =
+                  let d = answer .apart f in
+                  let j : 0 + d .place ≡ d .place = omega arith in
+                  rw (given, agree-differs (g .type) a b (record { place = d .place; inside = owned-inside (g .type) (d .place) (outside-is o) (d .is-owned); is-owned = d .is-owned; differs = rw j at (d .differs) }))
+
+              pub same-lost : (z : Comparison) → got ≡ Lost → z ≡ comparisonOf (comparing table pool a b)
+              same-lost z f = absurd (answer .kept f)

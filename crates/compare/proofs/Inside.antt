@@ -1,0 +1,255 @@
+-- The walk over a compound's members, and over an array's entries: one law for each way out of them.
+use Prim.Native.Nat.{ℕ, suc, _+_, _-_, _*_, _<_, _≤_}
+use mathlib.Core.Path.{_≡_, refl, sym, _∙_}
+use mathlib.Core.Logic.{⊎-elim}
+use mathlib.Core.Bool.{_&&_, _||_, false≢true}
+use mathlib.Core.List.{List}
+use native.Mathlib.Omega.{arith}
+use native.Mathlib.Numerals.{add-one}
+use native.Mathlib.Nat.{suc-mul, mul-le-mul-right}
+use lib.ListN.{length, take, drop}
+use lib.Dec.{leb, ltb}
+use borrow.Author.Tests.{leb-true, le-leb, ltb-false}
+use Rattle.format.specs.Datatype.{Datatype, Members, member, typeSize}
+use Rattle.format.specs.Ownership.{inEntries, owned, memberOwned, outside, memberOutside, heapHeld, memberHeapHeld}
+use Rattle.format.specs.Slots.{firstZero, memberFirstZero}
+use Rattle.format.specs.Table.{Found, found, bad, Walk, andThen, typeAt, membersAt}
+use Rattle.format.proofs.Booleans.{and-both, or-either, or-neither, or-second}
+use Rattle.format.proofs.Ownership.{entry-complete}
+use Rattle.rows.specs.Entries.{memberAt, fromMember}
+use Rattle.rows.specs.declared.Member.{Member}
+use Rattle.rows.specs.declared.Member.the-variants.{Named, Unnamed}
+use Rattle.rows.proofs.Decode.{membersAt-entry}
+use Rattle.table.specs.declared.Spot.{Spot}
+use Rattle.compare.specs.Agreeing.{topOf, Admitted, AdmittedIn, Agreement, Apartness, Answers, Agrees, AgreesIn, AgreesEach}
+use Rattle.compare.specs.declared.Path.{Path}
+use Rattle.compare.specs.declared.Agreed.{Agreed}
+use Rattle.compare.specs.declared.Agreed.the-variants.{Apart, Together, Lost}
+use Rattle.compare.proofs.Ranges.{answers-together, answers-apart}
+use Rattle.compare.proofs.Types.{else-none}
+
+-- ---- one member more
+
+-- what is known of an admitted compound's first member, and of the others
+record First (size offset : ℕ) (t : Datatype) (ms : Members) : Type 0 where
+  pub type : Admitted t
+  pub ends : offset + typeSize t ≤ size
+  pub others : AdmittedIn size ms
+
+first-of : (size : ℕ) (name : List ℕ) (offset : ℕ) (t : Datatype) (ms : Members) → AdmittedIn size (member name offset t ms) → First size offset t ms
+unfolding firstZero outside heapHeld
+first-of size name offset t ms d =
+    let z = else-none (firstZero t) (memberFirstZero ms) (d .sized) in
+    let o = or-neither (ltb size (offset + typeSize t)) (outside t || memberOutside size ms) (d .inside) in
+    let i = or-neither (outside t) (memberOutside size ms) (o .1) in
+    let p = or-neither (heapHeld t) (memberHeapHeld ms) (d .plain) in
+    record {
+      type = record { sized = z .0; inside = i .0; plain = p .0 };
+      ends = ltb-false size (offset + typeSize t) (o .0);
+      others = record { sized = z .1; inside = i .1; plain = p .1 };
+    }
+
+module _ (name : List ℕ) (o : ℕ) (t : Datatype) (ms : Members) (a b : List ℕ) (at : ℕ) where
+  first-place : (i : ℕ) → o ≤ i → at + o + (i - o) ≡ at + i
+  first-place i h = omega arith
+
+  join : {next : Spot} {x : Agreed} → Agreement (owned t) a b (at + o) → Answers (memberOwned ms) a b at next x → Answers (memberOwned (member name o t ms)) a b at next x
+  unfolding Agreement owned
+  join h w =
+      record {
+        together = λ s e. (
+          λ i v.
+              ⊎-elim
+              (λ p. let q = and-both (leb o i) (owned t (i - o)) p in
+              rw (first-place i (leb-true o i (q .0))) at (h (i - o) (q .1)))
+              (λ p. w .together s e .0 i p)
+              (or-either (leb o i && owned t (i - o)) (memberOwned ms i) v),
+          w .together s e .1,
+        );
+        apart = λ e.
+            let d = w .apart e in
+            record { place = d .place; is-owned = or-second (leb o (d .place) && owned t (d .place - o)) (memberOwned ms (d .place)) (d .is-owned); differs = d .differs };
+        kept = w .kept;
+      }
+
+  first-apart : {next : Spot} → Apartness (owned t) a b (at + o) → Answers (memberOwned (member name o t ms)) a b at next Apart
+  unfolding owned
+  first-apart d =
+      let e : o + d .place - o ≡ d .place = omega arith in
+      let f : at + (o + d .place) ≡ at + o + d .place = omega arith in
+      answers-apart (record { place = o + d .place; is-owned = rw (le-leb o (o + d .place) (omega arith), e, d .is-owned); differs = rw f (d .differs) })
+
+others-answer : (a b : List ℕ) (at : ℕ) (z : Agreed) (y : Found Members) (ms : Members) (r p n : ℕ) → y ≡ found ms r p → AgreesIn y a b at z → AdmittedIn n ms → at + n ≤ length a
+    → Answers (memberOwned ms) a b at (record { row = r; place = p }) z
+unfolding AgreesIn
+others-answer a b at z y ms r p n u v d l = rw u at v n d l
+
+module _ (name : List ℕ) (o : ℕ) (rest : Walk Members) (a b : List ℕ) (at : ℕ) where
+  -- the walk from the member on, by the walk to its type
+  abbrev Behind : Found Datatype → Found Members
+  Behind x = andThen x (λ t r₁ p₁. andThen (rest r₁ p₁) (λ ms r₂ p₂. found (member name o t ms) r₂ p₂))
+
+  -- what is to be shown where a first member and others are found
+  behind : (z : Agreed) (x : Found Datatype)
+      → ((t : Datatype) (r p : ℕ) (ms : Members) (r′ p′ n : ℕ) → x ≡ found t r p → rest r p ≡ found ms r′ p′ → First n o t ms → at + n ≤ length a
+      → Answers (memberOwned (member name o t ms)) a b at (record { row = r′; place = p′ }) z)
+      → AgreesIn (Behind x) a b at z
+  unfolding andThen
+  behind z (found t r p) h = go (rest r p) refl
+    where
+      go : (w : Found Members) → rest r p ≡ w → AgreesIn (andThen w (λ ms r₂ p₂. found (member name o t ms) r₂ p₂)) a b at z
+      go (found ms r′ p′) e = unfold andThen AgreesIn in λ n d l. h t r p ms r′ p′ n refl e (first-of n name o t ms d) l
+      go bad e = unfold andThen AgreesIn in tt
+  behind z bad h = unfold AgreesIn in tt
+
+  past : (z : Agreed) (x : Found Datatype) → length a - at < o → AgreesIn (Behind x) a b at z
+  past z x h = behind z x (λ t r p ms r′ p′ n e g f l. absurd (omega (arith, f .ends)))
+
+  module _ (x : Found Datatype) (got : Agreed) (h : Agrees x a b (at + o) got) where
+    -- the first member's answer
+    answer : (t : Datatype) (r p : ℕ) (ms : Members) (n : ℕ) → x ≡ found t r p → First n o t ms → at + n ≤ length a → Answers (owned t) a b (at + o) (record { row = r; place = p }) got
+    unfolding Agrees
+    answer t r p ms n e f l = rw e at h (f .type) (omega (arith, f .ends))
+
+    lost : (z : Agreed) → got ≡ Lost → AgreesIn (Behind x) a b at z
+    lost z q = behind z x (λ t r p ms r′ p′ n e g f l. absurd (answer t r p ms n e f l .kept q))
+
+    apart : got ≡ Apart → AgreesIn (Behind x) a b at Apart
+    apart q = behind Apart x (λ t r p ms r′ p′ n e g f l. first-apart name o t ms a b at (answer t r p ms n e f l .apart q))
+
+    next : (z : Agreed) (s : Spot) → got ≡ Together s → AgreesIn (rest (s .row) (s .place)) a b at z → AgreesIn (Behind x) a b at z
+    next z s q v =
+        behind z x (λ t r p ms r′ p′ n e g f l.
+        let w = answer t r p ms n e f l .together s q in
+        let u : rest (s .row) (s .place) ≡ found ms r′ p′ = rw (w .1) g in
+        join name o t ms a b at (w .0) (others-answer a b at z (rest (s .row) (s .place)) ms r′ p′ n u v (f .others) l))
+
+-- ---- members
+
+-- what is answered of the one is answered of the other
+unfoldable pub Leads : (x y : Found Members) (a b : List ℕ) (at : ℕ) → Type 0
+Leads x y a b at = (z : Agreed) → AgreesIn x a b at z → AgreesIn y a b at z
+
+pub leads-same : (x : Found Members) (a b : List ℕ) (at : ℕ) → Leads x x a b at
+unfolding Leads
+leads-same x a b at z h = h
+
+module _ (table pool : List ℕ) (depth r p left : ℕ) (a b : List ℕ) (at : ℕ) (y : Found Members)
+    (inv : Leads (membersAt (typeAt (32 - depth) table pool) table pool left r p) y a b at) where
+  pub members-end : left ≤ 0 → AgreesIn y a b at (Together (record { row = r; place = p }))
+  unfolding Leads
+  members-end e =
+      let k : left ≡ 0 = omega arith in
+      inv _ (rw k (unfold membersAt AgreesIn in λ n d l. answers-together (unfold Agreement owned in λ i o. absurd (false≢true o))))
+
+  module _ (some-left : 0 < left) where
+    members-as : (z : Agreed) → AgreesIn (fromMember (typeAt (32 - depth) table pool) (membersAt (typeAt (32 - depth) table pool) table pool (left - 1)) pool r p (memberAt table pool r p)) a b at z
+        → AgreesIn y a b at z
+    unfolding Leads
+    members-as z h =
+        let j : left ≡ suc (left - 1) = omega arith in
+        inv z (rw (j, membersAt-entry table pool (left - 1) r p (typeAt (32 - depth) table pool)) h)
+
+    pub members-deep : (z : Agreed) → 32 ≤ depth → AgreesIn y a b at z
+    members-deep z h = members-as z (go (memberAt table pool r p))
+      where
+        go : (m : Member) → AgreesIn (fromMember (typeAt (32 - depth) table pool) (membersAt (typeAt (32 - depth) table pool) table pool (left - 1)) pool r p m) a b at z
+        go (Named o n) = let k : 32 - depth ≡ 0 = omega arith in rw k (unfold fromMember typeAt andThen AgreesIn in tt)
+        go Unnamed = unfold fromMember AgreesIn in tt
+
+    module _ {m : Member} (q : m ≡ memberAt table pool r p) where
+      pub members-unnamed : (z : Agreed) → m ≡ Unnamed → AgreesIn y a b at z
+      members-unnamed z e = members-as z (rw (sym q ∙ e) (unfold fromMember AgreesIn in tt))
+
+      module _ {o n : ℕ} (e : m ≡ Named o n) where
+        members-named : (z : Agreed)
+            → AgreesIn (Behind (take n (drop p pool)) o (membersAt (typeAt (32 - depth) table pool) table pool (left - 1)) a b at (typeAt (32 - depth) table pool (r + 1) (p + n))) a b at z
+            → AgreesIn y a b at z
+        members-named z h = members-as z (rw (sym q ∙ e) (unfold fromMember in (rw (add-one r) at h)))
+
+        pub members-past : (z : Agreed) → length a - at < o → AgreesIn y a b at z
+        members-past z h = members-named z (past _ o _ a b at z _ h)
+
+        module _ (inner : Path) (got : Agreed) (hd : inner .depth ≡ depth + 1) (hr : topOf inner ≡ r + 1)
+            (g : Agrees (typeAt (33 - inner .depth) table pool (topOf inner) (p + n)) a b (at + o) got) where
+          inner-is : Agrees (typeAt (32 - depth) table pool (r + 1) (p + n)) a b (at + o) got
+          inner-is = let j : 33 - inner .depth ≡ 32 - depth = omega arith in rw (j, hr) at g
+
+          pub members-lost : (z : Agreed) → got ≡ Lost → AgreesIn y a b at z
+          members-lost z f = members-named z (lost _ o _ a b at _ got inner-is z f)
+
+          pub members-apart : got ≡ Apart → AgreesIn y a b at Apart
+          members-apart f = members-named Apart (apart _ o _ a b at _ got inner-is f)
+
+          pub members-next : {s : Spot} → got ≡ Together s → Leads (membersAt (typeAt (32 - depth) table pool) table pool (left - 1) (s .row) (s .place)) y a b at
+          unfolding Leads
+          members-next {s = s} f z h = members-named z (next _ o _ a b at _ got inner-is z s f h)
+
+-- ---- entries
+
+-- the first k entries agree
+unfoldable pub Done : Found Datatype → (stride k : ℕ) (a b : List ℕ) (at : ℕ) → Type 0
+Done (found t r p) stride k a b at = Admitted t → stride ≡ typeSize t → Agreement (inEntries (owned t) stride k) a b at
+Done bad stride k a b at = Unit {0}
+
+pub done-none : (x : Found Datatype) (stride : ℕ) (a b : List ℕ) (at : ℕ) → Done x stride 0 a b at
+unfolding Done Agreement inEntries
+done-none (found t r p) stride a b at = λ d e i o. absurd (false≢true o)
+done-none bad stride a b at = tt
+
+pub entries-end : (x : Found Datatype) (stride count k : ℕ) (a b : List ℕ) (at : ℕ) (next : Spot) → Done x stride k a b at → k ≤ count → count ≤ k → AgreesEach x stride count a b at next (Together next)
+entries-end x stride count k a b at next h m l =
+    let e : k ≡ count = omega arith in
+    go x (rw e at h)
+  where
+    go : (x : Found Datatype) → Done x stride count a b at → AgreesEach x stride count a b at next (Together next)
+    go (found t r p) h = unfold Done AgreesEach in λ d e l. answers-together (h d e)
+    go bad h = unfold AgreesEach in tt
+
+pub entries-start : (stride k start at : ℕ) → start ≡ at + k * stride → start + stride ≡ at + (k + 1) * stride
+entries-start stride k start at h = rw (add-one k) (omega (arith, suc-mul k stride))
+
+module _ (stride count k start : ℕ) (a b : List ℕ) (at : ℕ) (here : start ≡ at + k * stride) (some-left : k < count) where
+  -- the entry at hand ends before the last does
+  within : at + count * stride ≤ length a → start + stride ≤ length a
+  within l = omega (arith, mul-le-mul-right stride some-left, suc-mul k stride)
+
+  pub entries-past : (x : Found Datatype) (next : Spot) (z : Agreed) → start ≤ length a → length a - start < stride → AgreesEach x stride count a b at next z
+  entries-past x next z m h = go x
+    where
+      go : (x : Found Datatype) → AgreesEach x stride count a b at next z
+      go (found t r p) = unfold AgreesEach in λ d e l. absurd (omega (arith, within l))
+      go bad = unfold AgreesEach in tt
+
+  pub entries-lost : (x : Found Datatype) (next : Spot) (z : Agreed) {got : Agreed} → Agrees x a b start got → got ≡ Lost → AgreesEach x stride count a b at next z
+  unfolding Agrees AgreesEach
+  entries-lost (found t r p) next z g f = λ d e l. absurd (g d (omega (arith, within l)) .kept f)
+  entries-lost bad next z g f = tt
+
+  pub entries-apart : (x : Found Datatype) (next : Spot) {got : Agreed} → Agrees x a b start got → got ≡ Apart → AgreesEach x stride count a b at next Apart
+  unfolding Agrees AgreesEach
+  entries-apart (found t r p) next g f =
+      λ d e l.
+      let w = g d (omega (arith, within l)) .apart f in
+      let i : k * stride + w .place - k * stride ≡ w .place = omega arith in
+      let j : at + (k * stride + w .place) ≡ start + w .place = omega arith in
+      answers-apart (record {
+        place = k * stride + w .place;
+        is-owned = entry-complete (owned t) stride count (k * stride + w .place) k some-left (omega arith) (rw i (w .is-owned));
+        differs = rw j (w .differs);
+      })
+  entries-apart bad next g f = tt
+
+  pub entries-next : (x : Found Datatype) {got : Agreed} {s : Spot} → start ≤ length a → stride ≤ length a - start → Done x stride k a b at → Agrees x a b start got → got ≡ Together s → Done x stride (k + 1) a b at
+  unfolding Agrees Done Agreement
+  entries-next (found t r p) {s = s} m v h g f =
+      λ d e.
+      let w = g d (omega arith) .together s f .0 in
+      rw (add-one k) (unfold inEntries in λ i o.
+      ⊎-elim
+      (λ q. let u = and-both (leb (k * stride) i) (owned t (i - k * stride)) q in
+      let j : start + (i - k * stride) ≡ at + i = omega (arith, leb-true (k * stride) i (u .0)) in
+      rw j at (w (i - k * stride) (u .1)))
+      (λ q. h d e i q)
+      (or-either (leb (k * stride) i && owned t (i - k * stride)) (inEntries (owned t) stride k i) o))
+  entries-next bad m v h g f = tt

@@ -1,0 +1,5 @@
+pub mod Ranges
+pub mod Fields
+pub mod Types
+pub mod Inside
+pub mod Comparing

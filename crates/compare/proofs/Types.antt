@@ -1,0 +1,243 @@
+-- The walk's ways out at a type's row, but for what its members and entries answer.
+use Prim.Native.Nat.{ℕ, zero, suc, _+_, _-_, _*_, _/_, _%_, _<_, _≤_, min}
+use mathlib.Core.Path.{_≡_, refl, sym, ap, _∙_}
+use mathlib.Core.Bool.{Bool, true, _&&_, false≢true}
+use mathlib.Core.List.{List}
+use mathlib.Core.Option.{Option, none, some}
+use native.Mathlib.Omega.{arith}
+use native.Mathlib.Numerals.{add-one}
+use native.Mathlib.Nat.{mul-comm, mul-div-cancel-left, mod-lt}
+use lib.ListN.{take, drop}
+use lib.Dec.{ltb}
+use borrow.Author.Tests.{ltb-false, lt-ltb}
+use Rattle.format.specs.Bytes.{dimensionsFrom}
+use Rattle.format.specs.Datatype.{Datatype, compound, enumeration, variableLength, array, Members, EnumMember, product, typeSize, maxSize}
+use Rattle.format.specs.Ownership.{owned, outside, heapHeld}
+use Rattle.format.specs.Slots.{firstZero, orElse}
+use Rattle.format.specs.Table.{Found, found, bad, andThen, typeAt, membersAt, enumNamesAt, enumValuesAt}
+use Rattle.format.proofs.Booleans.{or-neither}
+use Rattle.format.proofs.Ownership.{array-size, owned-remainder}
+use Rattle.format.proofs.Slots.{first-zero-size}
+use Rattle.format.proofs.TableSteps.{then-found}
+use Rattle.rows.specs.Entries.{entryAt, fromEntry}
+use Rattle.rows.specs.declared.Entry.{Entry}
+use Rattle.rows.specs.declared.Entry.the-variants.{Leaf, Compound, Enumeration, VariableLength, Array, Unknown}
+use Rattle.rows.proofs.Decode.{typeAt-entry}
+use Rattle.rows.proofs.Zeros.{and-true}
+use Rattle.table.specs.Survey.{surveyOf, spotOf, enumSpotOf}
+use Rattle.table.specs.declared.Survey.{Survey}
+use Rattle.table.specs.declared.Surveyed.{Surveyed}
+use Rattle.table.specs.declared.Surveyed.the-variants.{Sound, Unsound}
+use Rattle.table.specs.declared.Spot.{Spot}
+use Rattle.table.specs.declared.Found.{Found as Walked}
+use Rattle.table.specs.declared.Found.the-variants.{At, Lost as Astray}
+use Rattle.table.proofs.Surveys.{Told, told, untold}
+use Rattle.compare.specs.Agreeing.{topOf, isField, Admitted, Agrees, AgreesIn, AgreesEach, AgreesBytes}
+use Rattle.compare.specs.declared.Path.{Path}
+use Rattle.compare.specs.declared.Agreed.{Agreed}
+use Rattle.compare.proofs.Fields.{OwnsAll, owns-agrees, leaf-owns, enumeration-owns, Solid, field-solid}
+
+pub else-none : (x y : Option ℕ) → orElse x y ≡ none → (x ≡ none) × (y ≡ none)
+unfolding orElse
+else-none none y h = (refl, h)
+else-none (some c) y h = (h, cc)
+
+-- ---- an enumeration
+
+module _ (table pool : List ℕ) (n k : ℕ) (a b : List ℕ) (at : ℕ) (x : Agreed) where
+  values-agree : (t : Datatype) (y : Found (List EnumMember)) (end : Spot) → At end ≡ spotOf y → AgreesBytes n a b at end x
+      → Agrees (andThen y (λ ms r p. found (enumeration n t ms) r p)) a b at x
+  unfolding spotOf andThen
+  values-agree t (found ms r p) end e h = owns-agrees (enumeration n t ms) r p n a b at end x (λ d. enumeration-owns n t ms) (cc) h
+  values-agree t bad end e h = let z : _≡_ {A = ℕ} 0 1 = cc in absurd (omega arith)
+
+  values-astray : (t : Datatype) (y : Found (List EnumMember)) → Astray ≡ spotOf y → Agrees (andThen y (λ ms r p. found (enumeration n t ms) r p)) a b at x
+  unfolding spotOf andThen Agrees
+  values-astray t (found ms r p) e = let z : _≡_ {A = ℕ} 0 1 = cc in absurd (omega arith)
+  values-astray t bad e = tt
+
+  -- names and values as one walk
+  members-as-one : (t : Datatype) (r p : ℕ)
+      → andThen (enumNamesAt table pool k r p) (λ ns r₂ p₂. andThen (enumValuesAt pool ns r₂ p₂) (λ ms r₃ p₃. found (enumeration n t ms) r₃ p₃))
+      ≡ andThen (andThen (enumNamesAt table pool k r p) (enumValuesAt pool)) (λ ms r₃ p₃. found (enumeration n t ms) r₃ p₃)
+  members-as-one t r p = go (enumNamesAt table pool k r p)
+    where
+      go : (y : Found (List (List ℕ × ℕ)))
+          → andThen y (λ ns r₂ p₂. andThen (enumValuesAt pool ns r₂ p₂) (λ ms r₃ p₃. found (enumeration n t ms) r₃ p₃))
+          ≡ andThen (andThen y (enumValuesAt pool)) (λ ms r₃ p₃. found (enumeration n t ms) r₃ p₃)
+      go (found ns r₂ p₂) = unfold andThen in refl
+      go bad = unfold andThen in refl
+
+  module _ (levels row place : ℕ) {y : Surveyed} (g : y ≡ surveyOf (typeAt levels table pool (row + 1) place)) where
+    pub enumeration-unsound : y ≡ Unsound → Agrees (fromEntry (typeAt levels table pool) table pool row place (Enumeration n k)) a b at x
+    unfolding fromEntry andThen Agrees
+    enumeration-unsound e = rw (← add-one row, untold _ g e) tt
+
+    module _ {s : Survey} {w : Walked} (e : y ≡ Sound s) (v : w ≡ enumSpotOf table pool k (s .row) (s .place)) where
+      below-enumeration : (z : Found Datatype) → Told z s
+          → ((t : Datatype) → Agrees (andThen (andThen (enumNamesAt table pool k (s .row) (s .place)) (enumValuesAt pool)) (λ ms r₃ p₃. found (enumeration n t ms) r₃ p₃)) a b at x)
+          → Agrees (andThen z (λ t r₁ p₁. andThen (enumNamesAt table pool k r₁ p₁) (λ ns r₂ p₂. andThen (enumValuesAt pool ns r₂ p₂) (λ ms r₃ p₃. found (enumeration n t ms) r₃ p₃)))) a b at x
+      unfolding Told
+      below-enumeration (found t r p) h f =
+          let fr : s .row ≡ r = ap (λ (u : Survey). u .row) (h .is) in
+          let fp : s .place ≡ p = ap (λ (u : Survey). u .place) (h .is) in
+          rw (then-found t _ r p, ← fr, ← fp, members-as-one t (s .row) (s .place)) (f t)
+      below-enumeration bad h f = absurd h
+
+      pub enumeration-lost : w ≡ Astray → Agrees (fromEntry (typeAt levels table pool) table pool row place (Enumeration n k)) a b at x
+      unfolding fromEntry enumSpotOf
+      enumeration-lost f = rw (← add-one row) (below-enumeration _ (told _ s g e) (λ t. values-astray t _ (sym f ∙ v)))
+
+      pub enumeration-agrees : {end : Spot} → w ≡ At end → AgreesBytes n a b at end x
+          → Agrees (fromEntry (typeAt levels table pool) table pool row place (Enumeration n k)) a b at x
+      unfolding fromEntry enumSpotOf
+      enumeration-agrees {end = end} f h = rw (← add-one row) (below-enumeration _ (told _ s g e) (λ t. values-agree t _ end (sym f ∙ v) h))
+
+-- ---- an array
+
+module _ (ds : List ℕ) (t : Datatype) (d : Admitted (array ds t)) where
+  base-admitted : Admitted t
+  unfolding firstZero outside heapHeld
+  base-admitted =
+      record {
+        sized = else-none _ _ (d .sized) .1;
+        inside = or-neither (ltb maxSize (typeSize t * product ds)) (outside t) (d .inside) .1;
+        plain = d .plain;
+      }
+
+  base-sized : 0 < typeSize t
+  base-sized = first-zero-size t (base-admitted .sized)
+
+  -- its size, uncapped
+  true-size : typeSize t * product ds ≤ maxSize
+  unfolding outside
+  true-size = ltb-false maxSize (typeSize t * product ds) (or-neither (ltb maxSize (typeSize t * product ds)) (outside t) (d .inside) .0)
+
+  total-is : {size total : ℕ} → size ≡ typeSize t → total ≡ min (size * product ds) 4294967296 → total ≡ typeSize t * product ds
+  total-is e h = omega (arith, true-size, h, ap (λ (k : ℕ). k * product ds) e)
+
+  count-is : {size total : ℕ} → size ≡ typeSize t → total ≡ min (size * product ds) 4294967296 → total / size ≡ product ds
+  count-is e h = rw (total-is e h, e) (mul-div-cancel-left (product ds) base-sized)
+
+  solid-array : {size total : ℕ} → size ≡ typeSize t → total ≡ min (size * product ds) 4294967296 → OwnsAll t (typeSize t) → OwnsAll (array ds t) total
+  solid-array e h w =
+      let f = total-is e h in
+      let g = array-size ds t (d .inside) in
+      let m = mul-comm (typeSize t) (product ds) in
+      let q : typeSize (array ds t) ≡ _ = g ∙ sym m ∙ sym f in
+      record {
+        size = q;
+        places = λ i.
+            owned-remainder ds t (d .inside) base-sized i
+            ∙ ap (λ (u : Bool). ltb i (typeSize (array ds t)) && u) (w .places (i % typeSize t) ∙ lt-ltb (i % typeSize t) (typeSize t) (mod-lt i base-sized))
+            ∙ and-true (ltb i (typeSize (array ds t)))
+            ∙ ap (ltb i) q;
+      }
+
+module _ (ds : List ℕ) (s : Survey) (a b : List ℕ) (at : ℕ) (x : Agreed) where
+  array-zero : (y : Found Datatype) → Told y s → s .size ≡ 0 → Agrees (andThen y (λ t r p. found (array ds t) r p)) a b at x
+  unfolding Told andThen Agrees
+  array-zero (found t r p) h e =
+      λ d l.
+      let f : s .size ≡ typeSize t = ap (λ (u : Survey). u .size) (h .is) in
+      absurd (omega (arith, base-sized ds t d))
+  array-zero bad h e = tt
+
+  module _ {total : ℕ} (ht : total ≡ min (s .size * product ds) 4294967296) where
+    array-solid : (y : Found Datatype) → Told y s → Solid y → AgreesBytes total a b at (record { row = s .row; place = s .place }) x
+        → Agrees (andThen y (λ t r p. found (array ds t) r p)) a b at x
+    unfolding Told Solid andThen
+    array-solid (found t r p) h w v =
+        let f : s .size ≡ typeSize t = ap (λ (u : Survey). u .size) (h .is) in
+        let fr : s .row ≡ r = ap (λ (u : Survey). u .row) (h .is) in
+        let fp : s .place ≡ p = ap (λ (u : Survey). u .place) (h .is) in
+        owns-agrees (array ds t) r p total a b at (record { row = s .row; place = s .place }) x (λ d. solid-array ds t d f ht w) (rw (fr, fp)) v
+    array-solid bad h w v = unfold Agrees in tt
+
+    array-each : (y : Found Datatype) → Told y s → AgreesEach y (s .size) (total / s .size) a b at (record { row = s .row; place = s .place }) x
+        → Agrees (andThen y (λ t r p. found (array ds t) r p)) a b at x
+    unfolding Told andThen Agrees AgreesEach owned
+    array-each (found t r p) h v =
+        λ d l.
+        let f : s .size ≡ typeSize t = ap (λ (u : Survey). u .size) (h .is) in
+        let fr : s .row ≡ r = ap (λ (u : Survey). u .row) (h .is) in
+        let fp : s .place ≡ p = ap (λ (u : Survey). u .place) (h .is) in
+        let k = count-is ds t d f ht in
+        rw (fr, fp, k, f) at v (base-admitted ds t d) refl (omega (arith, array-size ds t (d .inside), l))
+    array-each bad h v = tt
+
+-- ---- by the row
+
+module _ (table pool : List ℕ) (depth row place : ℕ) (a b : List ℕ) (at : ℕ) {e : Entry} (shallow : depth ≤ 32) (q : e ≡ entryAt table pool row place) where
+  type-as : {f : Entry} → e ≡ f → typeAt (33 - depth) table pool row place ≡ fromEntry (typeAt (32 - depth) table pool) table pool row place f
+  type-as h =
+      let j : 33 - depth ≡ suc (32 - depth) = omega arith in
+      ap (λ (k : ℕ). typeAt k table pool row place) j
+      ∙ typeAt-entry (32 - depth) table pool row place
+      ∙ ap (fromEntry (typeAt (32 - depth) table pool) table pool row place) (sym q ∙ h)
+
+  pub type-unknown : (x : Agreed) → e ≡ Unknown → Agrees (typeAt (33 - depth) table pool row place) a b at x
+  unfolding fromEntry Agrees
+  type-unknown x h = rw (type-as h) tt
+
+  pub type-variableLength : (x : Agreed) {i p c : ℕ} → e ≡ VariableLength i p c → Agrees (typeAt (33 - depth) table pool row place) a b at x
+  unfolding fromEntry
+  type-variableLength x {i = i} {p = p} {c = c} h = rw (type-as h) (go (typeAt (32 - depth) table pool (suc row) place))
+    where
+      go : (y : Found Datatype) → Agrees (andThen y (λ t r′ p′. found (variableLength i p c t) r′ p′)) a b at x
+      go (found t r′ p′) = unfold andThen Agrees heapHeld in λ d l. absurd (false≢true (sym (d .plain)))
+      go bad = unfold andThen Agrees in tt
+
+  pub type-leaf : (x : Agreed) {k n l y : ℕ} → e ≡ Leaf k n l y → AgreesBytes n a b at (record { row = row + 1; place = place + l }) x
+      → Agrees (typeAt (33 - depth) table pool row place) a b at x
+  unfolding fromEntry
+  type-leaf x {k = k} {n = n} {l = l} h v =
+      rw (type-as h) (owns-agrees _ _ _ n a b at (record { row = row + 1; place = place + l }) x (λ d. leaf-owns table pool row place q h) (rw (add-one row)) v)
+
+  pub type-enumeration : (x : Agreed) {n k : ℕ} → e ≡ Enumeration n k
+      → Agrees (fromEntry (typeAt (32 - depth) table pool) table pool row place (Enumeration n k)) a b at x → Agrees (typeAt (33 - depth) table pool row place) a b at x
+  type-enumeration x h v = rw (type-as h) v
+
+  pub type-compound : (x : Agreed) {n k : ℕ} → e ≡ Compound n k → AgreesIn (membersAt (typeAt (32 - depth) table pool) table pool k (row + 1) place) a b at x
+      → Agrees (typeAt (33 - depth) table pool row place) a b at x
+  unfolding fromEntry
+  type-compound x {n = n} {k = k} h v = rw (type-as h) (go _ (rw (add-one row) at v))
+    where
+      go : (y : Found Members) → AgreesIn y a b at x → Agrees (andThen y (λ ms r′ p′. found (compound n ms) r′ p′)) a b at x
+      go (found ms r p) w =
+          unfold andThen Agrees AgreesIn owned typeSize in
+          λ d l. w n (unfold firstZero outside heapHeld in record { sized = else-none _ _ (d .sized) .1; inside = d .inside; plain = d .plain }) l
+      go bad w = unfold andThen Agrees in tt
+
+  module _ (x : Agreed) {k : ℕ} {y : Surveyed} (h : e ≡ Array k) (g : y ≡ surveyOf (typeAt (32 - depth) table pool (row + 1) (place + k * 4))) where
+    pub type-array-unsound : y ≡ Unsound → Agrees (typeAt (33 - depth) table pool row place) a b at x
+    unfolding fromEntry andThen Agrees
+    type-array-unsound u = rw (type-as h, ← add-one row, untold _ g u) tt
+
+    module _ {s : Survey} (u : y ≡ Sound s) where
+      pub type-array-zero : s .size ≡ 0 → Agrees (typeAt (33 - depth) table pool row place) a b at x
+      unfolding fromEntry
+      type-array-zero z = rw (type-as h, ← add-one row) (array-zero _ s a b at x _ (told _ s g u) z)
+
+      module _ {total : ℕ} (ht : total ≡ min (s .size * product (dimensionsFrom k (take (k * 4) (drop place pool)))) 4294967296) {solid : Bool}
+          (hs : solid ≡ isField (entryAt table pool (row + 1) (place + k * 4))) where
+        pub type-array-solid : solid ≡ true → AgreesBytes total a b at (record { row = s .row; place = s .place }) x → Agrees (typeAt (33 - depth) table pool row place) a b at x
+        unfolding fromEntry
+        type-array-solid w v = rw (type-as h, ← add-one row) (array-solid _ s a b at x ht _ (told _ s g u) (field-solid _ table pool (row + 1) _ hs w) v)
+
+      pub type-array : {total : ℕ} (inner : Path) → total ≡ min (s .size * product (dimensionsFrom k (take (k * 4) (drop place pool)))) 4294967296
+          → inner .depth ≡ depth + 1 → topOf inner ≡ row + 1
+          → AgreesEach (typeAt (33 - inner .depth) table pool (topOf inner) (place + k * 4)) (s .size) (total / s .size) a b at (record { row = s .row; place = s .place }) x
+          → Agrees (typeAt (33 - depth) table pool row place) a b at x
+      unfolding fromEntry
+      type-array inner ht hd hr v =
+          let j : 33 - inner .depth ≡ 32 - depth = omega arith in
+          rw (type-as h, ← add-one row) (array-each _ s a b at x ht _ (told _ s g u) (rw (j, hr) at v))
+
+-- where a walk found something there was a level left
+pub sound-level : (table pool : List ℕ) (depth row place : ℕ) {y : Surveyed} {s : Survey} → y ≡ surveyOf (typeAt (32 - depth) table pool row place) → y ≡ Sound s → depth < 32
+sound-level table pool depth row place {s = s} g e = go (32 - depth) refl (told _ s g e)
+  where
+    go : (k : ℕ) → 32 - depth ≡ k → Told (typeAt k table pool row place) s → depth < 32
+    go zero j h = absurd (unfold Told typeAt in h)
+    go (suc k) j h = omega arith

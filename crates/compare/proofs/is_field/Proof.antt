@@ -1,0 +1,61 @@
+use borrow.Author.Needs.{needs}
+use Rattle.compare.proofs.Fields.{leaf-is, enumeration-is, compound-is-not, variableLength-is-not, array-is-not, unknown-is-not}
+use Rattle.compare.proofs.is_field.Statement.{statement}
+use Rattle.compare.proofs.is_field.Tie as tie
+
+entry-at-requires : tie.Need-entry-at-requires
+entry-at-requires c κs = search needs
+
+enum-told : tie.Need-enum-told
+enum-told c = search needs
+
+enum-told-2 : tie.Need-enum-told-2
+enum-told-2 c = search needs
+
+enum-told-3 : tie.Need-enum-told-3
+enum-told-3 c = search needs
+
+enum-told-4 : tie.Need-enum-told-4
+enum-told-4 c = search needs
+
+enum-told-5 : tie.Need-enum-told-5
+enum-told-5 c = search needs
+
+enum-told-6 : tie.Need-enum-told-6
+enum-told-6 c = search needs
+
+returns : tie.Need-returns
+returns c = search leaf-is
+
+returns-2 : tie.Need-returns-2
+returns-2 c = search enumeration-is
+
+returns-3 : tie.Need-returns-3
+returns-3 c = search compound-is-not
+
+returns-4 : tie.Need-returns-4
+returns-4 c = search variableLength-is-not
+
+returns-5 : tie.Need-returns-5
+returns-5 c = search array-is-not
+
+returns-6 : tie.Need-returns-6
+returns-6 c = search unknown-is-not
+
+pub is-field-spec : {M : Type 1} → statement M
+is-field-spec =
+    tie.close
+    (tie.spec
+    entry-at-requires
+    enum-told
+    enum-told-2
+    enum-told-3
+    enum-told-4
+    enum-told-5
+    enum-told-6
+    returns
+    returns-2
+    returns-3
+    returns-4
+    returns-5
+    returns-6)

@@ -1,0 +1,116 @@
+-- What the walk over fields answers of a type that is found; and the answer of `same`.
+use Prim.Native.Nat.{ℕ, zero, suc, _+_, _-_, _*_, _<_, _≤_}
+use mathlib.Core.Path.{_≡_}
+use mathlib.Core.Bool.{Bool, true, false, _&&_}
+use mathlib.Core.List.{List, [], _∷_}
+use mathlib.Core.Option.{none}
+use lib.ListN.{length, getD}
+use lib.Dec.{ltb, eqb}
+use Rattle.refusal.specs.Refusal.{numberOf, valuesOf}
+use Rattle.format.specs.Datatype.{Datatype, Members, typeSize}
+use Rattle.format.specs.Outcome.{Outcome, gives, refuses}
+use Rattle.format.specs.Ownership.{inEntries, owned, memberOwned, outside, memberOutside, heapHeld, memberHeapHeld}
+use Rattle.format.specs.Slots.{firstZero, memberFirstZero}
+use Rattle.format.specs.Table.{Found, found, bad}
+use Rattle.rows.specs.declared.Entry.{Entry}
+use Rattle.rows.specs.declared.Entry.the-variants.{Leaf, Compound, Enumeration, VariableLength, Array, Unknown}
+use Rattle.table.specs.declared.Spot.{Spot}
+use Rattle.compare.specs.declared.Path.{Path}
+use Rattle.compare.specs.declared.Agreed.{Agreed}
+use Rattle.compare.specs.declared.Agreed.the-variants.{Apart, Together, Lost}
+use Rattle.compare.specs.declared.Comparison.{Comparison}
+use Rattle.compare.specs.declared.Comparison.the-variants.{Same, Differs, Refused}
+
+-- the row at the end of the path
+abbrev pub topOf : Path → ℕ
+topOf w = getD (w .rows) (w .depth - 1) 0
+
+-- the path has a row at its end, and a record begins within two of the same length
+pub record Standing (path : Path) (a b : List ℕ) (at : ℕ) : Type 0 where
+  pub deep : 0 < path .depth
+  pub shallow : path .depth ≤ 32
+  pub begins : at ≤ length a
+  pub lengths : length b ≡ length a
+
+-- n bytes from at on are equal
+unfoldable pub equalRange : (a b : List ℕ) (at n : ℕ) → Bool
+equalRange a b at zero = true
+equalRange a b at (suc n) = eqb (getD a at 0) (getD b at 0) && equalRange a b (suc at) n
+
+-- the row's type is other than a compound or an array, and of its row's size
+unfoldable pub isField : Entry → Bool
+isField (Leaf c n l x) = true
+isField (Compound n k) = false
+isField (Enumeration n k) = true
+isField (VariableLength i p c) = false
+isField (Array k) = false
+isField Unknown = false
+
+-- "A type is admitted to comparison": it has no size 0, nothing outside and nothing heap-held
+pub record Admitted (t : Datatype) : Type 0 where
+  pub sized : firstZero t ≡ none
+  pub inside : outside t ≡ false
+  pub plain : heapHeld t ≡ false
+
+-- and so the members of a compound of a size
+pub record AdmittedIn (size : ℕ) (ms : Members) : Type 0 where
+  pub sized : memberFirstZero ms ≡ none
+  pub inside : memberOutside size ms ≡ false
+  pub plain : memberHeapHeld ms ≡ false
+
+-- two records, of which a type's begins at a place, agree at each place that f says is owned
+unfoldable pub Agreement : (ℕ → Bool) → (a b : List ℕ) (at : ℕ) → Type 0
+Agreement f a b at = (i : ℕ) → f i ≡ true → getD a (at + i) 0 ≡ getD b (at + i) 0
+
+-- an owned place at which they differ
+pub record Apartness (f : ℕ → Bool) (a b : List ℕ) (at : ℕ) : Type 0 where
+  pub place : ℕ
+  pub is-owned : f place ≡ true
+  pub differs : getD a (at + place) 0 ≡ getD b (at + place) 0 → ⊥
+
+-- by what is answered, of the places that f says are owned; never lost
+pub record Answers (f : ℕ → Bool) (a b : List ℕ) (at : ℕ) (next : Spot) (x : Agreed) : Type 0 where
+  pub together : (s : Spot) → x ≡ Together s → Agreement f a b at × (s ≡ next)
+  pub apart : x ≡ Apart → Apartness f a b at
+  pub kept : x ≡ Lost → ⊥
+
+-- of an admitted type whose record lies within both
+unfoldable pub Agrees : Found Datatype → (a b : List ℕ) (at : ℕ) → Agreed → Type 0
+Agrees (found t r p) a b at x = Admitted t → at + typeSize t ≤ length a → Answers (owned t) a b at (record { row = r; place = p }) x
+Agrees bad a b at x = Unit {0}
+
+-- of the members of an admitted compound, whatever its size
+unfoldable pub AgreesIn : Found Members → (a b : List ℕ) (at : ℕ) → Agreed → Type 0
+AgreesIn (found ms r p) a b at x =
+    (n : ℕ) → AdmittedIn n ms → at + n ≤ length a → Answers (memberOwned ms) a b at (record { row = r; place = p }) x
+AgreesIn bad a b at x = Unit {0}
+
+-- of n entries of an admitted base, its size apart
+unfoldable pub AgreesEach : Found Datatype → (stride n : ℕ) (a b : List ℕ) (at : ℕ) → Spot → Agreed → Type 0
+AgreesEach (found t r p) stride n a b at next x =
+    Admitted t → stride ≡ typeSize t → at + n * stride ≤ length a → Answers (inEntries (owned t) stride n) a b at next x
+AgreesEach bad stride n a b at next x = Unit {0}
+
+-- of n bytes that are all owned
+abbrev pub below : (n i : ℕ) → Bool
+below n i = ltb i n
+
+unfoldable pub AgreesBytes : (n : ℕ) (a b : List ℕ) (at : ℕ) → Spot → Agreed → Type 0
+AgreesBytes n a b at next x = at + n ≤ length a → Answers (below n) a b at next x
+
+-- Document 01's number and values of an answer of `same`: 0 and 0 for same, 0 and 1 for differs, or the refusal's
+unfoldable pub comparisonNumber : Comparison → ℕ
+comparisonNumber Same = 0
+comparisonNumber Differs = 0
+comparisonNumber (Refused e) = numberOf e
+
+unfoldable pub comparisonValues : Comparison → List ℕ
+comparisonValues Same = 0 ∷ []
+comparisonValues Differs = 1 ∷ []
+comparisonValues (Refused e) = valuesOf e
+
+-- the answer that the definition's is
+unfoldable pub comparisonOf : Outcome Bool → Comparison
+comparisonOf (gives true) = Same
+comparisonOf (gives false) = Differs
+comparisonOf (refuses e) = Refused e

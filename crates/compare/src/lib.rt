@@ -1,0 +1,385 @@
+// Whether two records are the same: they agree on each byte that a field owns.
+use refusal::Refusal;
+use rows::Entry;
+use rows::Member;
+use rows::entry_at;
+use rows::member_at;
+use table::Checked;
+use table::Found;
+use table::Spot;
+use table::Surveyed;
+use table::check;
+use table::scaled;
+use table::skip_enum_members;
+use table::survey_type;
+ghost use mathlib.Core.Path.{_≡_};
+ghost use mathlib.Core.Bool.{true, false};
+ghost use Prim.Native.Nat.{ℕ, _+_, _*_, _-_, _≤_, _<_};
+ghost use lib.ListN.{length};
+ghost use Rattle.format.specs.Ownership.{comparing};
+ghost use Rattle.format.specs.Table.{typeAt, membersAt};
+ghost use Rattle.rows.specs.Entries.{entryAt, fromEntry, EntryInside};
+ghost use Rattle.rows.specs.declared.Entry.the-variants.{Enumeration};
+ghost use Rattle.compare.specs.Agreeing.{topOf, equalRange, isField, Standing, Agrees, AgreesIn, AgreesEach, AgreesBytes, comparisonOf};
+
+// The rows of the open levels, outermost first: its top is the row at hand.
+pub struct Path {
+    pub rows: [usize; 32],
+    pub depth: usize,
+}
+
+// What a walk over a type's fields finds: two bytes of a field differ, or none do, with the next row and pool place.
+pub enum Agreed {
+    Apart,
+    Together(Spot),
+    Lost,
+}
+
+// The answer of `same`.
+pub enum Comparison {
+    Same,
+    Differs,
+    Refused(Refusal),
+}
+
+// One level further down, at a row.
+fn enter(path: Path, row: usize) -> Path
+    requires { ⌜ path .depth < 32 ⌝ }
+    ensures { λ r. ⌜ (r .depth ≡ path .depth + 1) × (topOf r ≡ row) ⌝ }
+{
+    let depth = path.depth;
+    let mut rows = path.rows;
+    rows[depth] = row;
+    Path {
+        rows: rows,
+        depth: depth + 1,
+    }
+}
+
+// Whether the 128 bytes from `at` on are equal: without leaving early, so that they are compared side by side.
+fn equal_block(a: &[u8], b: &[u8], at: usize) -> bool
+    requires { ⌜ (at + 128 ≤ length (now a)) × (at + 128 ≤ length (now b)) ⌝ }
+    ensures { λ r. ⌜ r ≡ equalRange (now (a .entry)) (now (b .entry)) at 128 ⌝ }
+{
+    let mut count: u8 = 0;
+    let mut i = 0;
+    while i < 128 {
+        if a[at + i] != b[at + i] {
+            count += 1;
+        }
+        i += 1;
+    }
+    count == 0
+}
+
+// Whether n bytes from `at` on are equal.
+fn equal_range(a: &[u8], b: &[u8], at: usize, n: usize) -> bool
+    requires { ⌜ (at + n ≤ length (now a)) × (at + n ≤ length (now b)) ⌝ }
+    ensures { λ r. ⌜ r ≡ equalRange (now (a .entry)) (now (b .entry)) at n ⌝ }
+{
+    let mut i = 0;
+    while 128 <= n - i {
+        if equal_block(a, b, at + i) {
+            i += 128;
+        } else {
+            return false;
+        }
+    }
+    while i < n {
+        if a[at + i] != b[at + i] {
+            return false;
+        }
+        i += 1;
+    }
+    true
+}
+
+// A field owns all its bytes: n of them from `at` on.
+fn agree_field(a: &[u8], b: &[u8], at: usize, n: usize, next: Spot) -> Agreed
+    requires { ⌜ (at ≤ length (now a)) × (length (now b) ≡ length (now a)) ⌝ }
+    ensures { λ r. ⌜ AgreesBytes n (now (a .entry)) (now (b .entry)) at next r ⌝ }
+{
+    if a.len() - at < n {
+        return Agreed::Lost;
+    }
+    if equal_range(a, b, at, n) {
+        Agreed::Together(next)
+    } else {
+        Agreed::Apart
+    }
+}
+
+// An enumeration's row, with so many levels left below it.
+fn agree_enumeration(
+    table: &[u32],
+    pool: &[u8],
+    row: usize,
+    place: usize,
+    levels: usize,
+    size: u32,
+    count: u32,
+    a: &[u8],
+    b: &[u8],
+    at: usize,
+) -> Agreed
+    requires { ⌜ (row * 16 + 16 ≤ length (now table)) × ((at ≤ length (now a)) × (length (now b) ≡ length (now a))) ⌝ }
+    ensures { λ r. ⌜ Agrees (fromEntry (typeAt levels (now (table .entry)) (now (pool .entry))) (now (table .entry)) (now (pool .entry)) row place (Enumeration size count)) (now (a .entry)) (now (b .entry)) at r ⌝ }
+{
+    let base = survey_type(table, pool, row + 1, place, levels);
+    match base {
+        Surveyed::Unsound => Agreed::Lost,
+        Surveyed::Sound(s) => {
+            let end = skip_enum_members(table, pool, s.row, s.place, count);
+            match end {
+                Found::Lost => Agreed::Lost,
+                Found::At(spot) => agree_field(a, b, at, size as usize, spot),
+            }
+        }
+    }
+}
+
+// Whether the row's type is a field, an entry of which follows the one before without a gap.
+fn is_field(table: &[u32], pool: &[u8], row: usize, place: usize) -> bool
+    ensures { λ r. ⌜ r ≡ isField (entryAt (now (table .entry)) (now (pool .entry)) row place) ⌝ }
+{
+    let entry = entry_at(table, pool, row, place);
+    match entry {
+        Entry::Leaf(_, _, _, _) => true,
+        Entry::Enumeration(_, _) => true,
+        Entry::Compound(_, _) => false,
+        Entry::VariableLength(_, _, _) => false,
+        Entry::Array(_) => false,
+        Entry::Unknown => false,
+    }
+}
+
+// The fields of the type at the top of the path, its pool bytes at a place, whose record begins at `at`.
+fn agree_type(
+    table: &[u32],
+    pool: &[u8],
+    path: Path,
+    place: usize,
+    a: &[u8],
+    b: &[u8],
+    at: usize,
+) -> Agreed
+    requires { ⌜ Standing path (now a) (now b) at ⌝ }
+    ensures { λ r. ⌜ Agrees (typeAt (33 - path .depth) (now (table .entry)) (now (pool .entry)) (topOf path) place) (now (a .entry)) (now (b .entry)) at r ⌝ }
+{
+    let depth = path.depth;
+    let rows = path.rows;
+    let row = rows[depth - 1];
+    let entry = entry_at(table, pool, row, place);
+    match entry {
+        Entry::Unknown => Agreed::Lost,
+        Entry::VariableLength(_, _, _) => Agreed::Lost,
+        Entry::Leaf(_, size, length, _) => agree_field(
+            a,
+            b,
+            at,
+            size as usize,
+            Spot {
+                row: row + 1,
+                place: place + length as usize,
+            },
+        ),
+        Entry::Enumeration(size, count) => agree_enumeration(
+            table,
+            pool,
+            row,
+            place,
+            32 - depth,
+            size,
+            count,
+            a,
+            b,
+            at,
+        ),
+        Entry::Compound(_, count) => agree_members(
+            table,
+            pool,
+            path,
+            row + 1,
+            place,
+            count,
+            a,
+            b,
+            at,
+        ),
+        Entry::Array(rank) => {
+            let below = row + 1;
+            let inner = place + (rank as usize) * 4;
+            let base = survey_type(table, pool, below, inner, 32 - depth);
+            match base {
+                Surveyed::Unsound => Agreed::Lost,
+                Surveyed::Sound(s) => {
+                    let size = s.size as u64;
+                    if size == 0 {
+                        return Agreed::Lost;
+                    }
+                    let next = Spot {
+                        row: s.row,
+                        place: s.place,
+                    };
+                    let total = scaled(pool, place, rank, s.size);
+                    if is_field(table, pool, below, inner) {
+                        return agree_field(a, b, at, total as usize, next);
+                    }
+                    agree_entries(
+                        table,
+                        pool,
+                        enter(path, below),
+                        inner,
+                        a,
+                        b,
+                        at,
+                        size as usize,
+                        (total / size) as usize,
+                        next,
+                    )
+                }
+            }
+        }
+    }
+}
+
+// The members of a compound whose record begins at `at`.
+fn agree_members(
+    table: &[u32],
+    pool: &[u8],
+    path: Path,
+    row: usize,
+    place: usize,
+    count: u32,
+    a: &[u8],
+    b: &[u8],
+    at: usize,
+) -> Agreed
+    requires { ⌜ Standing path (now a) (now b) at ⌝ }
+    ensures { λ r. ⌜ AgreesIn (membersAt (typeAt (32 - path .depth) (now (table .entry)) (now (pool .entry))) (now (table .entry)) (now (pool .entry)) count row place) (now (a .entry)) (now (b .entry)) at r ⌝ }
+{
+    let depth = path.depth;
+    let mut r = row;
+    let mut p = place;
+    let mut left = count;
+    while left > 0 {
+        if depth >= 32 {
+            return Agreed::Lost;
+        }
+        let member = member_at(table, pool, r, p);
+        match member {
+            Member::Unnamed => {
+                return Agreed::Lost;
+            }
+            Member::Named(offset, name) => {
+                if a.len() - at < offset as usize {
+                    return Agreed::Lost;
+                }
+                let got = agree_type(
+                    table,
+                    pool,
+                    enter(path, r + 1),
+                    p + name as usize,
+                    a,
+                    b,
+                    at + offset as usize,
+                );
+                match got {
+                    Agreed::Lost => {
+                        return Agreed::Lost;
+                    }
+                    Agreed::Apart => {
+                        return Agreed::Apart;
+                    }
+                    Agreed::Together(spot) => {
+                        r = spot.row;
+                        p = spot.place;
+                        left -= 1;
+                    }
+                }
+            }
+        }
+    }
+    Agreed::Together(Spot { row: r, place: p })
+}
+
+// So many entries of an array, a base size apart; the path's top is the base's row.
+fn agree_entries(
+    table: &[u32],
+    pool: &[u8],
+    path: Path,
+    place: usize,
+    a: &[u8],
+    b: &[u8],
+    at: usize,
+    stride: usize,
+    count: usize,
+    next: Spot,
+) -> Agreed
+    requires { ⌜ Standing path (now a) (now b) at ⌝ }
+    ensures { λ r. ⌜ AgreesEach (typeAt (33 - path .depth) (now (table .entry)) (now (pool .entry)) (topOf path) place) stride count (now (a .entry)) (now (b .entry)) at next r ⌝ }
+{
+    let mut start = at;
+    let mut done: usize = 0;
+    while done < count {
+        if a.len() - start < stride {
+            return Agreed::Lost;
+        }
+        let got = agree_type(table, pool, path, place, a, b, start);
+        match got {
+            Agreed::Lost => {
+                return Agreed::Lost;
+            }
+            Agreed::Apart => {
+                return Agreed::Apart;
+            }
+            Agreed::Together(_) => {
+                start += stride;
+                done += 1;
+            }
+        }
+    }
+    Agreed::Together(next)
+}
+
+// Whether two records of the type that a table and pool set out agree on each byte that a field owns. Refused, in this order: BadTable,
+// ZeroSize, OutsideRecord, HeapHeld, WrongLength. Cost: the check of the table and, where the records differ at all, one walk over the fields.
+pub fn same(table: &[u32], pool: &[u8], a: &[u8], b: &[u8]) -> Comparison
+    ensures { λ r. ⌜ r ≡ comparisonOf (comparing (now (table .entry)) (now (pool .entry)) (now (a .entry)) (now (b .entry))) ⌝ }
+{
+    let checked = check(table, pool);
+    match checked {
+        Checked::Bad => Comparison::Refused(Refusal::BadTable),
+        Checked::Good(s) => {
+            if s.zero != 0 {
+                return Comparison::Refused(Refusal::ZeroSize((s.zero - 1) as u8));
+            }
+            if s.outside {
+                return Comparison::Refused(Refusal::OutsideRecord);
+            }
+            if s.heap {
+                return Comparison::Refused(Refusal::HeapHeld);
+            }
+            let size = s.size as usize;
+            if a.len() != size {
+                return Comparison::Refused(Refusal::WrongLength);
+            }
+            if b.len() != size {
+                return Comparison::Refused(Refusal::WrongLength);
+            }
+            if equal_range(a, b, 0, size) {
+                return Comparison::Same;
+            }
+            let path = Path {
+                rows: [0; 32],
+                depth: 1,
+            };
+            let got = agree_type(table, pool, path, 0, a, b, 0);
+            match got {
+                Agreed::Together(_) => Comparison::Same,
+                Agreed::Apart => Comparison::Differs,
+                Agreed::Lost => Comparison::Differs,
+            }
+        }
+    }
+}
