@@ -1,3 +1,4 @@
 pub mod Stepping
 pub mod Storing
 pub mod Passing
+pub mod Validity

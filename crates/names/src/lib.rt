@@ -1,9 +1,11 @@
-// Reads a name up to its NUL and stores it, made valid UTF-8, in one pass.
+// Reads a name up to its NUL and stores it, made valid UTF-8, in one pass; tells whether a name is valid.
 ghost use mathlib.Core.Path.{_≡_};
 ghost use mathlib.Core.List.{[], _∷_, _++_};
 ghost use Prim.Native.Nat.{_+_, _-_, _≤_, _<_};
-ghost use lib.ListN.{length, take};
-ghost use Rattle.format.specs.Utf8.{upTo, leads, begin, broken, going, step, carried, atEnd};
+ghost use lib.ListN.{length, take, drop};
+ghost use mathlib.Core.Bool.{_&&_};
+ghost use Rattle.format.specs.Message.{noNul};
+ghost use Rattle.format.specs.Utf8.{upTo, leads, begin, broken, going, step, carried, atEnd, wellFormed};
 ghost use Rattle.names.specs.Pass.{stateOf, leadOf, Fits, Sized, Steps};
 ghost use Rattle.names.specs.Names.{Stored, Reads};
 
@@ -297,4 +299,55 @@ pub fn read_name(msg: &[u8], at: usize, pool: &mut [u8], place: usize, room: usi
         i += 1;
     }
     Name::Missing
+}
+
+// Whether the bytes from `from` up to `to` are valid UTF-8 without NUL.
+pub fn valid_name(pool: &[u8], from: usize, to: usize) -> bool
+    requires { ⌜ (from ≤ to) × (to ≤ length (now pool)) ⌝ }
+    ensures { λ r. ⌜ r ≡ (noNul (take (to - from) (drop from (now (pool .entry)))) && wellFormed (take (to - from) (drop from (now (pool .entry))))) ⌝ }
+{
+    let mut i = from;
+    let mut more: u8 = 0;
+    let mut low: u8 = 0;
+    let mut high: u8 = 0;
+    while i < to {
+        let byte = pool[i];
+        if byte == 0 {
+            return false;
+        }
+        if more == 0 {
+            if byte < 0x80 {
+                i += 1;
+                continue;
+            }
+            let start = start_of(byte);
+            match start {
+                Start::Single => {
+                    i += 1;
+                    continue;
+                }
+                Start::Ill => {
+                    return false;
+                }
+                Start::More(n, first, last) => {
+                    more = n;
+                    low = first;
+                    high = last;
+                    i += 1;
+                    continue;
+                }
+            }
+        }
+        if byte < low {
+            return false;
+        }
+        if high < byte {
+            return false;
+        }
+        more -= 1;
+        low = 0x80;
+        high = 0xbf;
+        i += 1;
+    }
+    more == 0
 }

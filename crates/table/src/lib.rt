@@ -121,7 +121,7 @@ pub fn scaled(pool: &[u8], place: usize, rank: u32, size: u32) -> u64
     total
 }
 
-fn capped(total: u64) -> u32
+pub fn capped(total: u64) -> u32
     ensures { λ r. ⌜ r ≡ min total 4294967295 ⌝ }
 {
     if total < 4294967295 {

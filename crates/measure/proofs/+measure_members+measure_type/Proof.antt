@@ -1,0 +1,389 @@
+use Prim.Native.Nat.{ℕ, _+_, _*_, _<_, _≤_}
+use mathlib.Core.Path.{_≡_, refl}
+use native.Mathlib.Omega.{arith}
+use borrow.Author.Needs.{needs}
+use Rattle.format.specs.Table.{typeAt, membersAt}
+use Rattle.rows.proofs.Decode.{leaf-inside, compound-inside, enumeration-inside, variableLength-inside, array-inside, named-inside}
+use Rattle.measure.specs.Measure.{measureIn}
+use Rattle.measure.proofs.Measures.{gathered, type-none, type-unknown, type-leaf, type-compound-lost, type-compound, type-enumeration-lost, type-unlisted, type-enumeration, type-variableLength-lost, type-variableLength, type-array-lost, type-array, members-start, members-unnamed, members-lost, members-next, member-size, member-short, members-end}
+use Prim.Native.Nat.{ℕ, _<_}
+use borrow.Fn.Kinds.{In}
+use borrow.Fn.PlainCycle.{Measures, is, falls, and}
+use Rattle.measure.proofs.measure_members.Reads as measure-members
+use Rattle.measure.proofs.measure_members.Kinds as measure-members-kinds
+use Rattle.measure.proofs.+measure_members+measure_type.Lts-measure_members as measure-members-lts
+use Rattle.measure.proofs.measure_type.Reads as measure-type
+use Rattle.measure.proofs.measure_type.Kinds as measure-type-kinds
+use Rattle.measure.proofs.+measure_members+measure_type.Lts-measure_type as measure-type-lts
+use Rattle.measure.proofs.array_measure.Reads as array-measure-reads
+use Rattle.measure.proofs.compound_measure.Reads as compound-measure-reads
+use Rattle.measure.proofs.enumeration_measure.Reads as enumeration-measure-reads
+use Rattle.measure.proofs.leaf_length.Reads as leaf-length-reads
+use Rattle.measure.proofs.leaf_storable.Reads as leaf-storable-reads
+use Rattle.measure.proofs.measure_enum_members.Reads as measure-enum-members-reads
+use Rattle.measure.proofs.member_head.Reads as member-head-reads
+use Rattle.measure.proofs.most.Reads as most-reads
+use Rattle.measure.proofs.variable_measure.Reads as variable-measure-reads
+use Rattle.measure.proofs.with_member.Reads as with-member-reads
+use Rattle.names.proofs.valid_name.Reads as valid-name-reads
+use Rattle.rows.proofs.entry_at.Reads as entry-at-reads
+use Rattle.rows.proofs.member_at.Reads as member-at-reads
+use Rattle.measure.proofs.+measure_members+measure_type.{statement}
+use Rattle.measure.proofs.+measure_members+measure_type.Tie.{close}
+
+abbrev μ-measure-members : Measures 2 measure-members-kinds.ps ℕ
+μ-measure-members κs a =
+    a .1 .1 .1 .1 .1 .1 .0 * 2 + 1
+
+abbrev μ-measure-type : Measures 2 measure-type-kinds.ps ℕ
+μ-measure-type κs a =
+    a .1 .1 .1 .1 .0 * 2
+
+abbrev measure-members-at : ℕ → In 2 measure-members-kinds.ps
+measure-members-at t =
+    and
+    2
+    measure-members-kinds.ps
+    (is 2 measure-members-kinds.ps μ-measure-members t)
+    measure-members.Pre
+
+abbrev measure-members-below : ℕ → In 2 measure-members-kinds.ps
+measure-members-below t =
+    and
+    2
+    measure-members-kinds.ps
+    (falls 2 measure-members-kinds.ps _<_ μ-measure-members t)
+    measure-members.Pre
+
+abbrev measure-type-at : ℕ → In 2 measure-type-kinds.ps
+measure-type-at t =
+    and 2 measure-type-kinds.ps (is 2 measure-type-kinds.ps μ-measure-type t) measure-type.Pre
+
+abbrev measure-type-below : ℕ → In 2 measure-type-kinds.ps
+measure-type-below t =
+    and
+    2
+    measure-type-kinds.ps
+    (falls 2 measure-type-kinds.ps _<_ μ-measure-type t)
+    measure-type.Pre
+
+abbrev measure-members-Inv-loop : measure-members-lts.InvT-loop
+measure-members-Inv-loop table pool row place count size levels edition left₀ sum₀ left sum =
+    (sum .size ≡ size) × ((sum .length ≤ 4294967296) × (measureIn edition size (membersAt (typeAt levels table pool) table pool count row place) ≡ gathered edition sum (membersAt (typeAt levels table pool) table pool left (sum .row) (sum .place))))
+
+abbrev measure-members-μ-loop : measure-members-lts.MeasureT-loop
+measure-members-μ-loop table pool row place count size levels edition left₀ sum₀ left sum =
+    left
+
+abbrev measure-members-calls : ℕ → measure-members-lts.Claims
+measure-members-calls t = (member-at-reads.Asked, member-at-reads.Learnt, measure-type-below t, measure-type.Post, valid-name-reads.Asked, valid-name-reads.Learnt, member-head-reads.Asked, member-head-reads.Learnt, with-member-reads.Asked, with-member-reads.Learnt)
+
+abbrev measure-type-calls : ℕ → measure-type-lts.Claims
+measure-type-calls t = (entry-at-reads.Asked, entry-at-reads.Learnt, leaf-storable-reads.Asked, leaf-storable-reads.Learnt, leaf-length-reads.Asked, leaf-length-reads.Learnt, most-reads.Asked, most-reads.Learnt, measure-members-below t, measure-members.Post, compound-measure-reads.Asked, compound-measure-reads.Learnt, measure-type-below t, measure-type.Post, measure-enum-members-reads.Asked, measure-enum-members-reads.Learnt, enumeration-measure-reads.Asked, enumeration-measure-reads.Learnt, variable-measure-reads.Asked, variable-measure-reads.Learnt, array-measure-reads.Asked, array-measure-reads.Learnt)
+
+measure-members-loop-holds : (t : ℕ) → measure-members-lts.Need-loop-holds (measure-members-calls t) (measure-members-at t) measure-members.Post measure-members-Inv-loop measure-members-μ-loop
+measure-members-loop-holds t c = (refl, (omega arith, members-start _ _ _ _ _))
+
+measure-members-member-at-requires : (t : ℕ) → measure-members-lts.Need-member-at-requires (measure-members-calls t) (measure-members-at t) measure-members.Post measure-members-Inv-loop measure-members-μ-loop
+measure-members-member-at-requires t c κs = search needs
+
+measure-members-enum-told : (t : ℕ) → measure-members-lts.Need-enum-told (measure-members-calls t) (measure-members-at t) measure-members.Post measure-members-Inv-loop measure-members-μ-loop
+measure-members-enum-told t c = search needs
+
+measure-members-returns : (t : ℕ) → measure-members-lts.Need-returns (measure-members-calls t) (measure-members-at t) measure-members.Post measure-members-Inv-loop measure-members-μ-loop
+measure-members-returns t c = search members-unnamed
+
+measure-members-enum-known-member : (t : ℕ) → measure-members-lts.Need-enum-known-member (measure-members-calls t) (measure-members-at t) measure-members.Post measure-members-Inv-loop measure-members-μ-loop
+measure-members-enum-known-member t c = search needs
+
+measure-members-cast-end : (t : ℕ) → measure-members-lts.Need-cast-end (measure-members-calls t) (measure-members-at t) measure-members.Post measure-members-Inv-loop measure-members-μ-loop
+measure-members-cast-end t c = search needs
+
+measure-members-add-end : (t : ℕ) → measure-members-lts.Need-add-end (measure-members-calls t) (measure-members-at t) measure-members.Post measure-members-Inv-loop measure-members-μ-loop
+measure-members-add-end t c = let i = named-inside _ _ _ _ ((c .before .member) .given .1) ((c .before .before .before .member-at) .ensures .1) in omega arith
+
+measure-members-add-measure-type : (t : ℕ) → measure-members-lts.Need-add-measure-type (measure-members-calls t) (measure-members-at t) measure-members.Post measure-members-Inv-loop measure-members-μ-loop
+measure-members-add-measure-type t c = let i = named-inside _ _ _ _ ((c .before .member) .given .1) ((c .before .before .before .member-at) .ensures .1) in omega arith
+
+measure-members-measure-type-requires : (t : ℕ) → measure-members-lts.Need-measure-type-requires (measure-members-calls t) (measure-members-at t) measure-members.Post measure-members-Inv-loop measure-members-μ-loop
+measure-members-measure-type-requires t c κs = search needs
+
+measure-members-enum-told-2 : (t : ℕ) → measure-members-lts.Need-enum-told-2 (measure-members-calls t) (measure-members-at t) measure-members.Post measure-members-Inv-loop measure-members-μ-loop
+measure-members-enum-told-2 t c = search needs
+
+measure-members-returns-2 : (t : ℕ) → measure-members-lts.Need-returns-2 (measure-members-calls t) (measure-members-at t) measure-members.Post measure-members-Inv-loop measure-members-μ-loop
+measure-members-returns-2 t c = search members-lost
+
+measure-members-enum-known-got : (t : ℕ) → measure-members-lts.Need-enum-known-got (measure-members-calls t) (measure-members-at t) measure-members.Post measure-members-Inv-loop measure-members-μ-loop
+measure-members-enum-known-got t c = search needs
+
+measure-members-valid-name-requires : (t : ℕ) → measure-members-lts.Need-valid-name-requires (measure-members-calls t) (measure-members-at t) measure-members.Post measure-members-Inv-loop measure-members-μ-loop
+measure-members-valid-name-requires t c κs = let i = named-inside _ _ _ _ ((c .before .before .before .before .before .member) .given .1) ((c .before .before .before .before .before .before .before .member-at) .ensures .1) in (omega arith, omega arith)
+
+measure-members-member-head-requires : (t : ℕ) → measure-members-lts.Need-member-head-requires (measure-members-calls t) (measure-members-at t) measure-members.Post measure-members-Inv-loop measure-members-μ-loop
+measure-members-member-head-requires t c κs = search needs
+
+measure-members-with-member-requires : (t : ℕ) → measure-members-lts.Need-with-member-requires (measure-members-calls t) (measure-members-at t) measure-members.Post measure-members-Inv-loop measure-members-μ-loop
+measure-members-with-member-requires t c κs = search needs
+
+measure-members-sub-left : (t : ℕ) → measure-members-lts.Need-sub-left (measure-members-calls t) (measure-members-at t) measure-members.Post measure-members-Inv-loop measure-members-μ-loop
+measure-members-sub-left t c = search needs
+
+measure-members-loop-less : (t : ℕ) → measure-members-lts.Need-loop-less (measure-members-calls t) (measure-members-at t) measure-members.Post measure-members-Inv-loop measure-members-μ-loop
+measure-members-loop-less t c = search needs
+
+measure-members-loop-again : (t : ℕ) → measure-members-lts.Need-loop-again (measure-members-calls t) (measure-members-at t) measure-members.Post measure-members-Inv-loop measure-members-μ-loop
+measure-members-loop-again t c = let i = named-inside _ _ _ _ ((c .before .before .before .before .before .before .before .before .member) .given .1) ((c .before .before .before .before .before .before .before .before .before .before .member-at) .ensures .1) in (member-size _ _ _ _ _ ((c .with-member) .ensures) ((c .before .before .before .before .before .before .before .before .before .before .before .before .loop) .inv .0), (member-short _ _ _ _ _ ((c .with-member) .ensures), members-next _ _ _ _ _ _ ((c .before .before .before .before .before .before .before .before .before .before .before .before .loop) .inv .1 .1) (omega arith) ((c .before .before .before .before .before .before .before .before .before .before .member-at) .ensures .0) ((c .before .before .before .before .before .before .before .before .member) .given .1) ((c .before .before .before .before .before .before .measure-type) .ensures) (i .1) ((c .before .before .before .before .before .before .before .before .before .before .before .before .loop) .inv .0) ((c .before .before .before .before .got) .given .1) ((c .before .before .valid-name) .ensures) ((c .before .member-head) .ensures) ((c .with-member) .ensures)))
+
+measure-members-returns-3 : (t : ℕ) → measure-members-lts.Need-returns-3 (measure-members-calls t) (measure-members-at t) measure-members.Post measure-members-Inv-loop measure-members-μ-loop
+measure-members-returns-3 t c = search members-end
+
+measure-type-returns : (t : ℕ) → measure-type-lts.Need-returns (measure-type-calls t) (measure-type-at t) measure-type.Post
+measure-type-returns t c = search type-none
+
+measure-type-entry-at-requires : (t : ℕ) → measure-type-lts.Need-entry-at-requires (measure-type-calls t) (measure-type-at t) measure-type.Post
+measure-type-entry-at-requires t c κs = search needs
+
+measure-type-enum-told : (t : ℕ) → measure-type-lts.Need-enum-told (measure-type-calls t) (measure-type-at t) measure-type.Post
+measure-type-enum-told t c = search needs
+
+measure-type-enum-known-entry : (t : ℕ) → measure-type-lts.Need-enum-known-entry (measure-type-calls t) (measure-type-at t) measure-type.Post
+measure-type-enum-known-entry t c = search needs
+
+measure-type-add-t31 : (t : ℕ) → measure-type-lts.Need-add-t31 (measure-type-calls t) (measure-type-at t) measure-type.Post
+measure-type-add-t31 t c = let i = leaf-inside _ _ _ _ ((c .before .before .before .entry-at) .ensures .1) ((c .before .entry) .given .1) in omega arith
+
+measure-type-cast-t32 : (t : ℕ) → measure-type-lts.Need-cast-t32 (measure-type-calls t) (measure-type-at t) measure-type.Post
+measure-type-cast-t32 t c = search needs
+
+measure-type-add-t33 : (t : ℕ) → measure-type-lts.Need-add-t33 (measure-type-calls t) (measure-type-at t) measure-type.Post
+measure-type-add-t33 t c = let i = leaf-inside _ _ _ _ ((c .before .before .before .entry-at) .ensures .1) ((c .before .entry) .given .1) in omega arith
+
+measure-type-leaf-storable-requires : (t : ℕ) → measure-type-lts.Need-leaf-storable-requires (measure-type-calls t) (measure-type-at t) measure-type.Post
+measure-type-leaf-storable-requires t c κs = let i = leaf-inside _ _ _ _ ((c .before .before .before .entry-at) .ensures .1) ((c .before .entry) .given .1) in i .0
+
+measure-type-leaf-length-requires : (t : ℕ) → measure-type-lts.Need-leaf-length-requires (measure-type-calls t) (measure-type-at t) measure-type.Post
+measure-type-leaf-length-requires t c κs = search needs
+
+measure-type-most-requires : (t : ℕ) → measure-type-lts.Need-most-requires (measure-type-calls t) (measure-type-at t) measure-type.Post
+measure-type-most-requires t c κs = search needs
+
+measure-type-enum-known-entry-2 : (t : ℕ) → measure-type-lts.Need-enum-known-entry-2 (measure-type-calls t) (measure-type-at t) measure-type.Post
+measure-type-enum-known-entry-2 t c = search needs
+
+measure-type-add-measure-members : (t : ℕ) → measure-type-lts.Need-add-measure-members (measure-type-calls t) (measure-type-at t) measure-type.Post
+measure-type-add-measure-members t c = let i = compound-inside _ _ _ _ ((c .before .before .before .entry-at) .ensures .1) ((c .before .entry2) .given .1) in omega arith
+
+measure-type-sub-measure-members : (t : ℕ) → measure-type-lts.Need-sub-measure-members (measure-type-calls t) (measure-type-at t) measure-type.Post
+measure-type-sub-measure-members t c = search needs
+
+measure-type-measure-members-requires : (t : ℕ) → measure-type-lts.Need-measure-members-requires (measure-type-calls t) (measure-type-at t) measure-type.Post
+measure-type-measure-members-requires t c κs = search needs
+
+measure-type-enum-told-2 : (t : ℕ) → measure-type-lts.Need-enum-told-2 (measure-type-calls t) (measure-type-at t) measure-type.Post
+measure-type-enum-told-2 t c = search needs
+
+measure-type-enum-known-got : (t : ℕ) → measure-type-lts.Need-enum-known-got (measure-type-calls t) (measure-type-at t) measure-type.Post
+measure-type-enum-known-got t c = search needs
+
+measure-type-compound-measure-requires : (t : ℕ) → measure-type-lts.Need-compound-measure-requires (measure-type-calls t) (measure-type-at t) measure-type.Post
+measure-type-compound-measure-requires t c κs = search needs
+
+measure-type-enum-known-entry-3 : (t : ℕ) → measure-type-lts.Need-enum-known-entry-3 (measure-type-calls t) (measure-type-at t) measure-type.Post
+measure-type-enum-known-entry-3 t c = search needs
+
+measure-type-add-measure-type : (t : ℕ) → measure-type-lts.Need-add-measure-type (measure-type-calls t) (measure-type-at t) measure-type.Post
+measure-type-add-measure-type t c = let i = enumeration-inside _ _ _ _ ((c .before .before .before .entry-at) .ensures .1) ((c .before .entry3) .given .1) in omega arith
+
+measure-type-sub-measure-type : (t : ℕ) → measure-type-lts.Need-sub-measure-type (measure-type-calls t) (measure-type-at t) measure-type.Post
+measure-type-sub-measure-type t c = search needs
+
+measure-type-measure-type-requires : (t : ℕ) → measure-type-lts.Need-measure-type-requires (measure-type-calls t) (measure-type-at t) measure-type.Post
+measure-type-measure-type-requires t c κs = search needs
+
+measure-type-enum-told-3 : (t : ℕ) → measure-type-lts.Need-enum-told-3 (measure-type-calls t) (measure-type-at t) measure-type.Post
+measure-type-enum-told-3 t c = search needs
+
+measure-type-enum-known-got-2 : (t : ℕ) → measure-type-lts.Need-enum-known-got-2 (measure-type-calls t) (measure-type-at t) measure-type.Post
+measure-type-enum-known-got-2 t c = search needs
+
+measure-type-measure-enum-members-requires : (t : ℕ) → measure-type-lts.Need-measure-enum-members-requires (measure-type-calls t) (measure-type-at t) measure-type.Post
+measure-type-measure-enum-members-requires t c κs = search needs
+
+measure-type-enum-told-4 : (t : ℕ) → measure-type-lts.Need-enum-told-4 (measure-type-calls t) (measure-type-at t) measure-type.Post
+measure-type-enum-told-4 t c = search needs
+
+measure-type-enum-known-listed : (t : ℕ) → measure-type-lts.Need-enum-known-listed (measure-type-calls t) (measure-type-at t) measure-type.Post
+measure-type-enum-known-listed t c = search needs
+
+measure-type-enumeration-measure-requires : (t : ℕ) → measure-type-lts.Need-enumeration-measure-requires (measure-type-calls t) (measure-type-at t) measure-type.Post
+measure-type-enumeration-measure-requires t c κs = search needs
+
+measure-type-enum-known-entry-4 : (t : ℕ) → measure-type-lts.Need-enum-known-entry-4 (measure-type-calls t) (measure-type-at t) measure-type.Post
+measure-type-enum-known-entry-4 t c = search needs
+
+measure-type-add-measure-type-2 : (t : ℕ) → measure-type-lts.Need-add-measure-type-2 (measure-type-calls t) (measure-type-at t) measure-type.Post
+measure-type-add-measure-type-2 t c = let i = variableLength-inside _ _ _ _ ((c .before .before .before .entry-at) .ensures .1) ((c .before .entry4) .given .1) in omega arith
+
+measure-type-sub-measure-type-2 : (t : ℕ) → measure-type-lts.Need-sub-measure-type-2 (measure-type-calls t) (measure-type-at t) measure-type.Post
+measure-type-sub-measure-type-2 t c = search needs
+
+measure-type-measure-type-requires-2 : (t : ℕ) → measure-type-lts.Need-measure-type-requires-2 (measure-type-calls t) (measure-type-at t) measure-type.Post
+measure-type-measure-type-requires-2 t c κs = search needs
+
+measure-type-enum-told-5 : (t : ℕ) → measure-type-lts.Need-enum-told-5 (measure-type-calls t) (measure-type-at t) measure-type.Post
+measure-type-enum-told-5 t c = search needs
+
+measure-type-enum-known-got-3 : (t : ℕ) → measure-type-lts.Need-enum-known-got-3 (measure-type-calls t) (measure-type-at t) measure-type.Post
+measure-type-enum-known-got-3 t c = search needs
+
+measure-type-variable-measure-requires : (t : ℕ) → measure-type-lts.Need-variable-measure-requires (measure-type-calls t) (measure-type-at t) measure-type.Post
+measure-type-variable-measure-requires t c κs = search needs
+
+measure-type-enum-known-entry-5 : (t : ℕ) → measure-type-lts.Need-enum-known-entry-5 (measure-type-calls t) (measure-type-at t) measure-type.Post
+measure-type-enum-known-entry-5 t c = search needs
+
+measure-type-add-measure-type-3 : (t : ℕ) → measure-type-lts.Need-add-measure-type-3 (measure-type-calls t) (measure-type-at t) measure-type.Post
+measure-type-add-measure-type-3 t c = let i = array-inside _ _ _ _ ((c .before .before .before .entry-at) .ensures .1) ((c .before .entry5) .given .1) in omega arith
+
+measure-type-cast-measure-type : (t : ℕ) → measure-type-lts.Need-cast-measure-type (measure-type-calls t) (measure-type-at t) measure-type.Post
+measure-type-cast-measure-type t c = search needs
+
+measure-type-mul-measure-type : (t : ℕ) → measure-type-lts.Need-mul-measure-type (measure-type-calls t) (measure-type-at t) measure-type.Post
+measure-type-mul-measure-type t c = let i = array-inside _ _ _ _ ((c .before .before .before .entry-at) .ensures .1) ((c .before .entry5) .given .1) in omega arith
+
+measure-type-add-measure-type-4 : (t : ℕ) → measure-type-lts.Need-add-measure-type-4 (measure-type-calls t) (measure-type-at t) measure-type.Post
+measure-type-add-measure-type-4 t c = let i = array-inside _ _ _ _ ((c .before .before .before .entry-at) .ensures .1) ((c .before .entry5) .given .1) in omega arith
+
+measure-type-sub-measure-type-3 : (t : ℕ) → measure-type-lts.Need-sub-measure-type-3 (measure-type-calls t) (measure-type-at t) measure-type.Post
+measure-type-sub-measure-type-3 t c = search needs
+
+measure-type-measure-type-requires-3 : (t : ℕ) → measure-type-lts.Need-measure-type-requires-3 (measure-type-calls t) (measure-type-at t) measure-type.Post
+measure-type-measure-type-requires-3 t c κs = search needs
+
+measure-type-enum-told-6 : (t : ℕ) → measure-type-lts.Need-enum-told-6 (measure-type-calls t) (measure-type-at t) measure-type.Post
+measure-type-enum-told-6 t c = search needs
+
+measure-type-enum-known-got-4 : (t : ℕ) → measure-type-lts.Need-enum-known-got-4 (measure-type-calls t) (measure-type-at t) measure-type.Post
+measure-type-enum-known-got-4 t c = search needs
+
+measure-type-array-measure-requires : (t : ℕ) → measure-type-lts.Need-array-measure-requires (measure-type-calls t) (measure-type-at t) measure-type.Post
+measure-type-array-measure-requires t c κs = let i = array-inside _ _ _ _ ((c .before .before .before .before .before .before .before .entry-at) .ensures .1) ((c .before .before .before .before .before .entry5) .given .1) in i .1
+
+measure-type-returns-2 : (t : ℕ) → measure-type-lts.Need-returns-2 (measure-type-calls t) (measure-type-at t) measure-type.Post
+measure-type-returns-2 t c = search type-unknown
+
+measure-type-returns-3 : (t : ℕ) → measure-type-lts.Need-returns-3 (measure-type-calls t) (measure-type-at t) measure-type.Post
+measure-type-returns-3 t c = search type-leaf
+
+measure-type-returns-4 : (t : ℕ) → measure-type-lts.Need-returns-4 (measure-type-calls t) (measure-type-at t) measure-type.Post
+measure-type-returns-4 t c = search type-compound-lost
+
+measure-type-returns-5 : (t : ℕ) → measure-type-lts.Need-returns-5 (measure-type-calls t) (measure-type-at t) measure-type.Post
+measure-type-returns-5 t c = search type-compound
+
+measure-type-returns-6 : (t : ℕ) → measure-type-lts.Need-returns-6 (measure-type-calls t) (measure-type-at t) measure-type.Post
+measure-type-returns-6 t c = search type-enumeration-lost
+
+measure-type-returns-7 : (t : ℕ) → measure-type-lts.Need-returns-7 (measure-type-calls t) (measure-type-at t) measure-type.Post
+measure-type-returns-7 t c = search type-unlisted
+
+measure-type-returns-8 : (t : ℕ) → measure-type-lts.Need-returns-8 (measure-type-calls t) (measure-type-at t) measure-type.Post
+measure-type-returns-8 t c = type-enumeration _ _ _ _ _ _ ((c .before .before .before .before .before .before .before .before .before .before .before .before .before .if1) .left) ((c .before .before .before .before .before .before .before .before .before .before .before .before .entry-at) .ensures .0) ((c .before .before .before .before .before .before .before .before .measure-type) .ensures) ((c .before .before .before .before .before .before .got2) .given .1) ((c .before .before .before .before .before .before .before .before .before .before .entry3) .given .1) ((c .before .before .before .before .measure-enum-members) .ensures) ((c .before .before .listed) .given .1) ((c .enumeration-measure) .ensures)
+
+measure-type-returns-9 : (t : ℕ) → measure-type-lts.Need-returns-9 (measure-type-calls t) (measure-type-at t) measure-type.Post
+measure-type-returns-9 t c = search type-variableLength-lost
+
+measure-type-returns-10 : (t : ℕ) → measure-type-lts.Need-returns-10 (measure-type-calls t) (measure-type-at t) measure-type.Post
+measure-type-returns-10 t c = search type-variableLength
+
+measure-type-returns-11 : (t : ℕ) → measure-type-lts.Need-returns-11 (measure-type-calls t) (measure-type-at t) measure-type.Post
+measure-type-returns-11 t c = search type-array-lost
+
+measure-type-returns-12 : (t : ℕ) → measure-type-lts.Need-returns-12 (measure-type-calls t) (measure-type-at t) measure-type.Post
+measure-type-returns-12 t c = search type-array
+
+pub +measure-members+measure-type-spec : {M : Type 1} → statement M
++measure-members+measure-type-spec =
+    close μ-measure-members μ-measure-type (λ t. measure-members-lts.spec (measure-members-calls t)
+    (measure-members-at t)
+    measure-members.Post
+    measure-members-Inv-loop
+    measure-members-μ-loop
+    (measure-members-loop-holds t)
+    (measure-members-member-at-requires t)
+    (measure-members-enum-told t)
+    (measure-members-returns t)
+    (measure-members-enum-known-member t)
+    (measure-members-cast-end t)
+    (measure-members-add-end t)
+    (measure-members-add-measure-type t)
+    (measure-members-measure-type-requires t)
+    (measure-members-enum-told-2 t)
+    (measure-members-returns-2 t)
+    (measure-members-enum-known-got t)
+    (measure-members-valid-name-requires t)
+    (measure-members-member-head-requires t)
+    (measure-members-with-member-requires t)
+    (measure-members-sub-left t)
+    (measure-members-loop-less t)
+    (measure-members-loop-again t)
+    (measure-members-returns-3 t))
+    λ t. measure-type-lts.spec (measure-type-calls t)
+    (measure-type-at t)
+    measure-type.Post
+    (measure-type-returns t)
+    (measure-type-entry-at-requires t)
+    (measure-type-enum-told t)
+    (measure-type-enum-known-entry t)
+    (measure-type-add-t31 t)
+    (measure-type-cast-t32 t)
+    (measure-type-add-t33 t)
+    (measure-type-leaf-storable-requires t)
+    (measure-type-leaf-length-requires t)
+    (measure-type-most-requires t)
+    (measure-type-enum-known-entry-2 t)
+    (measure-type-add-measure-members t)
+    (measure-type-sub-measure-members t)
+    (measure-type-measure-members-requires t)
+    (measure-type-enum-told-2 t)
+    (measure-type-enum-known-got t)
+    (measure-type-compound-measure-requires t)
+    (measure-type-enum-known-entry-3 t)
+    (measure-type-add-measure-type t)
+    (measure-type-sub-measure-type t)
+    (measure-type-measure-type-requires t)
+    (measure-type-enum-told-3 t)
+    (measure-type-enum-known-got-2 t)
+    (measure-type-measure-enum-members-requires t)
+    (measure-type-enum-told-4 t)
+    (measure-type-enum-known-listed t)
+    (measure-type-enumeration-measure-requires t)
+    (measure-type-enum-known-entry-4 t)
+    (measure-type-add-measure-type-2 t)
+    (measure-type-sub-measure-type-2 t)
+    (measure-type-measure-type-requires-2 t)
+    (measure-type-enum-told-5 t)
+    (measure-type-enum-known-got-3 t)
+    (measure-type-variable-measure-requires t)
+    (measure-type-enum-known-entry-5 t)
+    (measure-type-add-measure-type-3 t)
+    (measure-type-cast-measure-type t)
+    (measure-type-mul-measure-type t)
+    (measure-type-add-measure-type-4 t)
+    (measure-type-sub-measure-type-3 t)
+    (measure-type-measure-type-requires-3 t)
+    (measure-type-enum-told-6 t)
+    (measure-type-enum-known-got-4 t)
+    (measure-type-array-measure-requires t)
+    (measure-type-returns-2 t)
+    (measure-type-returns-3 t)
+    (measure-type-returns-4 t)
+    (measure-type-returns-5 t)
+    (measure-type-returns-6 t)
+    (measure-type-returns-7 t)
+    (measure-type-returns-8 t)
+    (measure-type-returns-9 t)
+    (measure-type-returns-10 t)
+    (measure-type-returns-11 t)
+    (measure-type-returns-12 t)

@@ -1,0 +1,3 @@
+pub mod Placing
+pub mod Leaves
+pub mod Enums
