@@ -1,0 +1,204 @@
+-- The answers of `embedded_reference_slots`.
+use Prim.Native.Nat.{ℕ, suc, _+_, _-_, _/_, _<_, _≤_, min}
+use mathlib.Core.Path.{_≡_, refl, sym, ap, _∙_}
+use mathlib.Core.Bool.{Bool, true, false, cond, _||_, or-true}
+use mathlib.Core.List.{List, [], _∷_, _++_}
+use mathlib.Core.Option.{Option, none, some}
+use native.Mathlib.Omega.{arith}
+use native.Mathlib.Nat.{div-mul-le-self}
+use lib.ListN.{length, drop}
+use lib.Seq.{sets, sets-eq}
+use lib.Dec.{ltb, eqb}
+use borrow.Author.Tests.{lt-ltb, le-ltb, le-leb, lt-leb, ltb-false}
+use Rattle.refusal.specs.declared.Refusal.{Refusal}
+use Rattle.refusal.specs.declared.Refusal.the-variants.{BadTable, ZeroSize, Unmapped, NoRoom}
+use Rattle.format.specs.Datatype.{Datatype, fixedPoint, floatingPoint, time, string, bitField, opaque, compound, reference, enumeration, variableLength, array, Members, noMembers, member, typeSize}
+use Rattle.format.specs.Outcome.{Outcome, gives, refuses, whenGiven, unless, needed, outputAfter}
+use Rattle.format.specs.Slots.{slots, slotCount, slotEnd, shifted, holdsOtherReference, holdsHiddenReference, someOutside, unmapped, orElse, zeroClass, firstZero, memberFirstZero, unlessZero, slotting, findingSlots}
+use Rattle.format.specs.Table.{typeAt}
+use Rattle.format.proofs.Booleans.{or-neither}
+use Rattle.format.proofs.Slots.{length-slots, slots-outside, unmapped-counted}
+use Rattle.table.specs.Survey.{surveyOf, zeroCode, Sets, Checks}
+use Rattle.table.specs.declared.Survey.{Survey}
+use Rattle.table.specs.declared.Checked.{Checked}
+use Rattle.table.specs.declared.Checked.the-variants.{Good, Bad}
+use Rattle.slots.specs.Slots.{mostSlots, mostEnd, CountedAs, AllBelow, Fits, Listed, PutAs, answerOf, SlotsAre}
+use Rattle.slots.specs.declared.Tally.{Tally}
+use Rattle.slots.specs.declared.Tallied.{Tallied}
+use Rattle.slots.specs.declared.Tallied.the-variants.{At, Lost}
+use Rattle.slots.specs.declared.Slots.the-variants.{Found as SlotsFound, Refused}
+use Rattle.slots.proofs.Listing.{shifted-zero}
+
+-- ---- a class is at most 10
+
+low-class : (c n : ℕ) → c ≤ 10 → zeroCode (zeroClass c n) ≤ 11
+unfolding zeroClass
+low-class c n h = go (eqb n 0)
+  where
+    go : (b : Bool) → zeroCode (cond b (some c) none) ≤ 11
+    go true = unfold zeroCode in omega arith
+    go false = unfold zeroCode in omega arith
+
+low-else : (x y : Option ℕ) → zeroCode x ≤ 11 → zeroCode y ≤ 11 → zeroCode (orElse x y) ≤ 11
+unfolding orElse
+low-else none y h k = k
+low-else (some c) y h k = h
+
+no-class : zeroCode none ≤ 11
+unfolding zeroCode
+no-class = omega arith
+
+mutual
+  unfolding firstZero
+
+  low-zero : (t : Datatype) → zeroCode (firstZero t) ≤ 11
+  low-zero (fixedPoint n o s f q) = low-class 0 n (omega arith)
+  low-zero (floatingPoint n o f q el es ml ms b) = low-class 1 n (omega arith)
+  low-zero (time n o q) = low-class 2 n (omega arith)
+  low-zero (string n a d) = low-class 3 n (omega arith)
+  low-zero (bitField n o f q) = low-class 4 n (omega arith)
+  low-zero (opaque n g) = low-class 5 n (omega arith)
+  low-zero (compound n ms) = low-else (zeroClass 6 n) (memberFirstZero ms) (low-class 6 n (omega arith)) (low-member-zero ms)
+  low-zero (reference n k) = low-class 7 n (omega arith)
+  low-zero (enumeration n t ms) = low-else (zeroClass 8 n) (firstZero t) (low-class 8 n (omega arith)) (low-zero t)
+  low-zero (variableLength i a d t) = low-zero t
+  low-zero (array ds t) = low-else (zeroClass 10 (typeSize (array ds t))) (firstZero t) (low-class 10 (typeSize (array ds t)) (omega arith)) (low-zero t)
+
+  low-member-zero : (ms : Members) → zeroCode (memberFirstZero ms) ≤ 11
+  low-member-zero noMembers = no-class
+  low-member-zero (member b o t ms) = low-else (firstZero t) (memberFirstZero ms) (low-zero t) (low-member-zero ms)
+
+-- ---- the answers
+
+all-low : (size : ℕ) (ss : List ℕ) → size < 4294967296 → someOutside size ss ≡ false → AllBelow 4294967296 ss
+unfolding someOutside AllBelow
+all-low size [] h k = tt
+all-low size (s ∷ ss) h k =
+    let u = or-neither (ltb size (s + 8)) (someOutside size ss) k in
+    (omega (arith, ltb-false size (s + 8) (u .0)), all-low size ss h (u .1))
+
+zero-code : (x : Option ℕ) → zeroCode x ≡ 0 → x ≡ none
+unfolding zeroCode
+zero-code none h = refl
+zero-code (some c) h = absurd (omega arith)
+
+some-code : {A : Type 0} (x : Option ℕ) (y : Outcome A) → (zeroCode x ≡ 0 → ⊥) → unlessZero x y ≡ refuses (ZeroSize (zeroCode x - 1))
+unfolding zeroCode unlessZero
+some-code none y h = absurd (h refl)
+some-code (some c) y h = let e : suc c - 1 ≡ c = omega arith in rw e
+
+refused : (table pool out : List ℕ) (e : Refusal) → findingSlots table pool (length out) ≡ refuses e → SlotsAre table pool (Refused e) out out
+unfolding answerOf outputAfter
+refused table pool out e h = record { answer = rw h; out-is = rw h }
+
+module _ (table pool out : List ℕ) {k : Checked} (h : Checks table pool k) where
+  pub slots-bad : k ≡ Bad → SlotsAre table pool (Refused BadTable) out out
+  unfolding findingSlots whenGiven
+  slots-bad e = refused table pool out BadTable (rw (h .bad-table e))
+
+  module _ {s : Survey} (e : k ≡ Good s) where
+    given : Sets table pool s
+    given = h .good s e
+
+    sized : s .size ≡ typeSize (given .type)
+    unfolding surveyOf
+    sized = let g = given .says in cc
+
+    zeroed : s .zero ≡ zeroCode (firstZero (given .type))
+    unfolding surveyOf
+    zeroed = let g = given .says in cc
+
+    pub zero-fits : s .zero ≤ 11
+    zero-fits = rw zeroed (low-zero (given .type))
+
+    finding : findingSlots table pool (length out) ≡ slotting (length out) (given .type)
+    unfolding findingSlots whenGiven
+    finding = rw (given .is)
+
+    pub slots-zero : (s .zero ≡ 0 → ⊥) → SlotsAre table pool (Refused (ZeroSize (s .zero - 1))) out out
+    unfolding slotting
+    slots-zero z =
+        refused table pool out _ (finding ∙ some-code (firstZero (given .type)) _ (λ f. z (zeroed ∙ f)) ∙ ap (λ (n : ℕ). refuses (ZeroSize (n - 1))) (sym zeroed))
+
+    module _ (z : s .zero ≡ 0) (y : Tallied) (g : CountedAs (typeAt 32 table pool 0 0) y) where
+      none-zero : firstZero (given .type) ≡ none
+      none-zero = zero-code _ (sym zeroed ∙ z)
+
+      counted : y ≡ At (record { row = s .row; place = s .place; unmapped = holdsOtherReference (given .type) || holdsHiddenReference (given .type); count = mostSlots (slotCount (given .type)); end = mostEnd (slotEnd (given .type)) })
+      unfolding CountedAs
+      counted = rw (given .stands) at g none-zero
+
+      pub slots-lost : y ≡ Lost → SlotsAre table pool (Refused Unmapped) out out
+      slots-lost f = let c = counted in let w : _≡_ {A = ℕ} 0 1 = cc in absurd (omega arith)
+
+      module _ {t : Tally} (f : y ≡ At t) where
+        tally : t ≡ record { row = s .row; place = s .place; unmapped = holdsOtherReference (given .type) || holdsHiddenReference (given .type); count = mostSlots (slotCount (given .type)); end = mostEnd (slotEnd (given .type)) }
+        tally = let c = counted in cc
+
+        count-is : t .count ≡ mostSlots (slotCount (given .type))
+        count-is = ap (λ (v : Tally). v .count) tally
+
+        end-is : t .end ≡ mostEnd (slotEnd (given .type))
+        end-is = ap (λ (v : Tally). v .end) tally
+
+        refused-unmapped : unmapped (given .type) ≡ true → SlotsAre table pool (Refused Unmapped) out out
+        unfolding slotting unlessZero unless
+        refused-unmapped u = refused table pool out Unmapped (finding ∙ rw (none-zero, u))
+
+        pub slots-other : t .unmapped ≡ true → SlotsAre table pool (Refused Unmapped) out out
+        slots-other u =
+            refused-unmapped (unmapped-counted (given .type) ∙ go (holdsOtherReference (given .type)) (holdsHiddenReference (given .type)) _ (sym (ap (λ (v : Tally). v .unmapped) tally) ∙ u))
+          where
+            go : (a b c : Bool) → (a || b) ≡ true → (a || (b || c)) ≡ true
+            go true b c h = refl
+            go false b c h = rw h
+
+        pub slots-many : s .size / 8 < t .count → SlotsAre table pool (Refused Unmapped) out out
+        slots-many l =
+            let w : typeSize (given .type) / 8 < slotCount (given .type) = omega (arith, count-is, ap (λ (n : ℕ). n / 8) sized) in
+            refused-unmapped (unmapped-counted (given .type) ∙ rw (lt-ltb (typeSize (given .type) / 8) (slotCount (given .type)) w, or-true, or-true))
+
+        pub slots-far : s .size < t .end → SlotsAre table pool (Refused Unmapped) out out
+        slots-far l =
+            let w : typeSize (given .type) < slotEnd (given .type) = omega (arith, end-is, sized) in
+            refused-unmapped (unmapped-counted (given .type) ∙ rw (lt-ltb (typeSize (given .type)) (slotEnd (given .type)) w, or-true, or-true, or-true))
+
+        module _ (u : t .unmapped ≡ false) (m : t .count ≤ s .size / 8) (n : t .end ≤ s .size) (low : s .size < 4294967296) where
+          all-counted : slotCount (given .type) ≡ t .count
+          all-counted = omega (arith, count-is, div-mul-le-self (s .size) 8)
+
+          all-ends : slotEnd (given .type) ≤ typeSize (given .type)
+          all-ends = omega (arith, end-is, sized)
+
+          neither : (holdsOtherReference (given .type) || holdsHiddenReference (given .type)) ≡ false
+          neither = sym (ap (λ (v : Tally). v .unmapped) tally) ∙ u
+
+          mapped : unmapped (given .type) ≡ false
+          mapped =
+              let w = or-neither (holdsOtherReference (given .type)) (holdsHiddenReference (given .type)) neither in
+              let q : slotCount (given .type) ≤ typeSize (given .type) / 8 = omega (arith, all-counted, ap (λ (n : ℕ). n / 8) sized) in
+              unmapped-counted (given .type) ∙ rw (w .0, w .1, le-ltb (typeSize (given .type) / 8) (slotCount (given .type)) q, le-ltb (typeSize (given .type)) (slotEnd (given .type)) all-ends)
+
+          long : length (slots (given .type)) ≡ t .count
+          long = length-slots (given .type) ∙ all-counted
+
+          pub slots-room : length out < t .count → SlotsAre table pool (Refused (NoRoom (t .count))) out out
+          unfolding slotting unlessZero unless needed
+          slots-room l =
+              let e : min (t .count) 18446744073709551615 ≡ t .count = omega (arith, div-mul-le-self (s .size) 8) in
+              refused table pool out (NoRoom (t .count)) (finding ∙ rw (none-zero, mapped, long, lt-leb (t .count) (length out) l, e))
+
+          pub slots-found : (x : ℕ) (out′ : List ℕ) → t .count ≤ length out → PutAs (typeAt 32 table pool 0 0) 0 out 0 x out′ → SlotsAre table pool (SlotsFound (t .count)) out out′
+          unfolding PutAs slotting unlessZero unless answerOf outputAfter
+          slots-found x out′ r v =
+              let w = rw (given .stands) at v in
+              let q : shifted 0 (slots (given .type)) ≡ slots (given .type) = shifted-zero (slots (given .type)) in
+              let o : someOutside (typeSize (given .type)) (slots (given .type)) ≡ false =
+              slots-outside (given .type) (typeSize (given .type)) ∙ le-ltb (typeSize (given .type)) (slotEnd (given .type)) all-ends in
+              let p : Fits (slots (given .type)) out 0 = record { room = omega (arith, long); low = all-low (typeSize (given .type)) (slots (given .type)) (omega (arith, sized)) o } in
+              let l : Listed (slots (given .type)) out 0 x out′ = rw q at (w (record { sized = none-zero; mapped = neither }) (rw q p)) in
+              let d : findingSlots table pool (length out) ≡ gives (slots (given .type)) = finding ∙ rw (none-zero, mapped, long, le-leb (t .count) (length out) r) in
+              record { answer = rw (d, long); out-is = l .out-is ∙ rw d (written (slots (given .type)) out (omega (arith, long))) }
+            where
+              written : (vs out : List ℕ) → length vs ≤ length out → sets out 0 vs ≡ vs ++ drop (length vs) out
+              written vs out h = let e : 0 + length vs ≡ length vs = omega arith in sets-eq vs out 0 (omega arith) ∙ ap (λ (k : ℕ). vs ++ drop k out) e
