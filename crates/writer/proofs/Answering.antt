@@ -106,9 +106,11 @@ module _ (table pool : List ℕ) (e : ℕ) (out : List ℕ) {y : Measured} (q : 
     module _ (lo : 1 ≤ e) (hi : e ≤ 3) where
       pub checked-unstorable : not (m .storable) ≡ true → WritesType table pool e (AnswerRefused Unstorable) out out
       checked-unstorable s =
-          record { writes = λ t h.
-            let f : m .storable ≡ storable t = ap (λ (x : Measure). x .storable) (said t h .is) in
-            refused (writingType-unstorable e (length out) t lo hi (sym f ∙ not-true s)) }
+          record {
+            writes = λ t h.
+                let f : m .storable ≡ storable t = ap (λ (x : Measure). x .storable) (said t h .is) in
+                refused (writingType-unstorable e (length out) t lo hi (sym f ∙ not-true s));
+          }
 
       module _ (s : not (m .storable) ≡ false) where
         is-storable : (t : Datatype) → typeOf table pool ≡ gives t → storable t ≡ true
@@ -116,9 +118,11 @@ module _ (table pool : List ℕ) (e : ℕ) (out : List ℕ) {y : Measured} (q : 
 
         pub checked-not-carried : not (m .carried) ≡ true → WritesType table pool e (AnswerRefused NotInEdition) out out
         checked-not-carried c =
-            record { writes = λ t h.
-              let f : m .carried ≡ carried e t = ap (λ (x : Measure). x .carried) (said t h .is) in
-              refused (writingType-not-in-edition e (length out) t lo hi (is-storable t h) (sym f ∙ not-true c)) }
+            record {
+              writes = λ t h.
+                  let f : m .carried ≡ carried e t = ap (λ (x : Measure). x .carried) (said t h .is) in
+                  refused (writingType-not-in-edition e (length out) t lo hi (is-storable t h) (sym f ∙ not-true c));
+            }
 
         module _ (c : not (m .carried) ≡ false) (small : (i : ℕ) → getD pool i 0 < 256) where
           is-carried : (t : Datatype) → typeOf table pool ≡ gives t → carried e t ≡ true
@@ -136,8 +140,10 @@ module _ (table pool : List ℕ) (e : ℕ) (out : List ℕ) {y : Measured} (q : 
 
           pub checked-no-room : length out < m .length → WritesType table pool e (AnswerRefused (NoRoom (m .length))) out out
           checked-no-room l =
-              record { writes = λ t h.
-                refused (writingType-no-room e (length out) t lo hi (is-storable t h) (is-carried t h) (omega (arith, exact t h)) ∙ ap (λ (n : ℕ). refuses (NoRoom n)) (needs-all t h)) }
+              record {
+                writes = λ t h.
+                    refused (writingType-no-room e (length out) t lo hi (is-storable t h) (is-carried t h) (omega (arith, exact t h)) ∙ ap (λ (n : ℕ). refuses (NoRoom n)) (needs-all t h));
+              }
 
           module _ (l : m .length ≤ length out) {z : Put} {out′ : List ℕ} (k : PutsType e 0 (typeAt 32 table pool 0 0) z out out′) where
             stood : (t : Datatype) (h : typeOf table pool ≡ gives t) → Stands (message e t) (type-found table pool t h .row) (type-found table pool t h .place) 0 z out out′
@@ -153,9 +159,11 @@ module _ (table pool : List ℕ) (e : ℕ) (out : List ℕ) {y : Measured} (q : 
 
             pub checked-written : {w : Written} → z ≡ At w → WritesType table pool e (AnswerWritten (m .length)) out out′
             checked-written f =
-                record { writes = λ t h.
-                  given (writingType-given e (length out) t lo hi (is-storable t h) (is-carried t h) (omega (arith, exact t h))) (exact t h ∙ sym (length-message e t))
-                  (stood t h .written (fits t h) ∙ at-start (message e t) out (fits t h)) }
+                record {
+                  writes = λ t h.
+                      given (writingType-given e (length out) t lo hi (is-storable t h) (is-carried t h) (omega (arith, exact t h))) (exact t h ∙ sym (length-message e t))
+                      (stood t h .written (fits t h) ∙ at-start (message e t) out (fits t h));
+                }
 
 -- ---- a table that is checked
 

@@ -143,10 +143,10 @@ module _ (e s a o : ℕ) (b out : List ℕ) {y : Placed} {out₁ : List ℕ} (h 
             unfold PutsFoundMembers andThen in λ g c.
             let n : Stands (message e t) r p d z out₁ out₂ = found-puts k (first-storable e s b o t ms g .0) (first-carried e s b o t ms c .0) in
             let m : Stands (message e t ++ memberBytes e s ms) r₂ p₂ d u out₁ out′ =
-                where-fits λ fit.
-                let i : w ≡ record { row = r; place = p; at = d + length (message e t) } = row-known n l (omega (arith, length-append (message e t) (memberBytes e s ms))) in
-                let j : PutsMembers e s (d + length (message e t)) (found ms r₂ p₂) u out₂ out′ = rw (i, q) at v in
-                stands-behind (message e t) (memberBytes e s ms) r₂ p₂ d out₁ (rw i at (placed n l)) refl (found-members j (first-storable e s b o t ms g .1) (first-carried e s b o t ms c .1))
+            where-fits λ fit.
+            let i : w ≡ record { row = r; place = p; at = d + length (message e t) } = row-known n l (omega (arith, length-append (message e t) (memberBytes e s ms))) in
+            let j : PutsMembers e s (d + length (message e t)) (found ms r₂ p₂) u out₂ out′ = rw (i, q) at v in
+            stands-behind (message e t) (memberBytes e s ms) r₂ p₂ d out₁ (rw i at (placed n l)) refl (found-members j (first-storable e s b o t ms g .1) (first-carried e s b o t ms c .1))
             in
             rw (member-is e s b o t ms) (stands-behind (headBytes e s b o) _ r₂ p₂ a out h f m)
         go bad q = unfold PutsFoundMembers andThen in tt

@@ -118,7 +118,7 @@ module _ (levels e at : ℕ) (table pool : List ℕ) (r p : ℕ) (out : List ℕ
     module _ {n k : ℕ} (i : y ≡ Compound n k) {w : Placed} {out₁ : List ℕ} (g : k < 65536 → Places (header 6 e (k % 256) (k / 256) n) at w out out₁) where
       compound-is : (z : Found Members) → membersAt (typeAt (levels - 1) table pool) table pool k (r + 1) p ≡ z → (x : Put) (out₂ : List ℕ)
           → ((ms : Members) (r′ p′ : ℕ) → z ≡ found ms r′ p′ → Places (header 6 e (k % 256) (k / 256) n) at w out out₁ → storableMembers n ms ≡ true → carriedMembers e ms ≡ true
-            → Stands (header 6 e (k % 256) (k / 256) n ++ memberBytes e n ms) r′ p′ at x out out₂)
+          → Stands (header 6 e (k % 256) (k / 256) n ++ memberBytes e n ms) r′ p′ at x out out₂)
           → PutsFound e at (andThen z (λ ms r′ p′. found (compound n ms) r′ p′)) x out out₂
       unfolding PutsFound andThen message carried
       compound-is (found ms r′ p′) f x out₂ s =
@@ -141,8 +141,8 @@ module _ (levels e at : ℕ) (table pool : List ℕ) (r p : ℕ) (out : List ℕ
       type-compound {a = a} {x = x} {out₂ = out₂} f m =
           as-compound
           (compound-is _ refl x out₂ (λ ms r′ p′ o h s c.
-            let j : PutsMembers e n a (found ms r′ p′) x out₁ out₂ = rw o at m in
-            stands-behind (header 6 e (k % 256) (k / 256) n) (memberBytes e n ms) r′ p′ at out h f (found-members j s c)))
+          let j : PutsMembers e n a (found ms r′ p′) x out₁ out₂ = rw o at m in
+          stands-behind (header 6 e (k % 256) (k / 256) n) (memberBytes e n ms) r′ p′ at out h f (found-members j s c)))
 
     -- ---- a variable-length type
 
@@ -150,7 +150,7 @@ module _ (levels e at : ℕ) (table pool : List ℕ) (r p : ℕ) (out : List ℕ
         (g : storableVariable i a c ≡ true → Places (header 9 1 (variableFlags i a) (variableCharset i c) 16) at w out out₁) where
       variable-is : (z : Found Datatype) (x : Put) (out₂ : List ℕ)
           → ((t : Datatype) (r′ p′ : ℕ) → z ≡ found t r′ p′ → Places (header 9 1 (variableFlags i a) (variableCharset i c) 16) at w out out₁ → storable t ≡ true → carried e t ≡ true
-            → Stands (header 9 1 (variableFlags i a) (variableCharset i c) 16 ++ message e t) r′ p′ at x out out₂)
+          → Stands (header 9 1 (variableFlags i a) (variableCharset i c) 16 ++ message e t) r′ p′ at x out out₂)
           → PutsFound e at (andThen z (λ t r′ p′. found (variableLength i a c t) r′ p′)) x out out₂
       unfolding PutsFound andThen message carried
       variable-is (found t r′ p′) x out₂ s =
@@ -172,8 +172,8 @@ module _ (levels e at : ℕ) (table pool : List ℕ) (r p : ℕ) (out : List ℕ
       type-variable {b = b} {x = x} {out₂ = out₂} f m =
           as-variable
           (variable-is _ x out₂ (λ t r′ p′ o h s d.
-            let n : PutsType e b (found t r′ p′) x out₁ out₂ = rw o at m in
-            stands-behind (header 9 1 (variableFlags i a) (variableCharset i c) 16) (message e t) r′ p′ at out h f (found-puts n s d)))
+          let n : PutsType e b (found t r′ p′) x out₁ out₂ = rw o at m in
+          stands-behind (header 9 1 (variableFlags i a) (variableCharset i c) 16) (message e t) r′ p′ at out h f (found-puts n s d)))
 
     -- ---- an array
 
@@ -210,8 +210,8 @@ module _ (levels e at : ℕ) (table pool : List ℕ) (r p : ℕ) (out : List ℕ
       type-array {b = b} {x = x} {out₂ = out₂} f m =
           as-array
           (array-is _ array-found x out₂ (λ t r′ p′ o h s d.
-            let n : PutsType e b (found t r′ p′) x out₁ out₂ = rw o at m in
-            stands-behind (arrayHead e size k p pool) (message e t) r′ p′ at out h f (found-puts n s d)))
+          let n : PutsType e b (found t r′ p′) x out₁ out₂ = rw o at m in
+          stands-behind (arrayHead e size k p pool) (message e t) r′ p′ at out h f (found-puts n s d)))
 
     -- ---- an enumeration
 
@@ -253,23 +253,23 @@ module _ (levels e at : ℕ) (table pool : List ℕ) (r p : ℕ) (out : List ℕ
         type-enumeration-lost {out₃ = out₃} l =
             as-enumeration
             (enumeration-is _ Lost out₃ (λ t r₁ p₁ o ms r₂ p₂ q h s d.
-              let b : PutsType e a (found t r₁ p₁) z out₁ out₂ = rw o at m in
-              let v : Places (message e t) a Full out₁ out₃ = unplaced (found-puts b s d) l in
-              stands-behind (header 8 e (k % 256) (k / 256) n) (message e t ++ (enumNameBytes e ms ++ enumValues ms)) r₂ p₂ at out h f
-              (lost-behind (message e t) (enumNameBytes e ms ++ enumValues ms) r₂ p₂ a out₁ v refl)))
+            let b : PutsType e a (found t r₁ p₁) z out₁ out₂ = rw o at m in
+            let v : Places (message e t) a Full out₁ out₃ = unplaced (found-puts b s d) l in
+            stands-behind (header 8 e (k % 256) (k / 256) n) (message e t ++ (enumNameBytes e ms ++ enumValues ms)) r₂ p₂ at out h f
+            (lost-behind (message e t) (enumNameBytes e ms ++ enumValues ms) r₂ p₂ a out₁ v refl)))
 
         pub type-enumeration : {b : Written} {x : Put} {out₃ : List ℕ} → z ≡ At b → PutsEnum e (b .at) table pool k (b .row) (b .place) x out₂ out₃
             → PutsType e at (typeAt levels table pool r p) x out out₃
         type-enumeration {b = b} {x = x} {out₃ = out₃} l u =
             as-enumeration
             (enumeration-is _ x out₃ (λ t r₁ p₁ o ms r₂ p₂ q h s d.
-              let v : PutsType e a (found t r₁ p₁) z out₁ out₂ = rw o at m in
-              let j = found-puts v s d in
-              stands-behind (header 8 e (k % 256) (k / 256) n) (message e t ++ (enumNameBytes e ms ++ enumValues ms)) r₂ p₂ at out h f
-              (where-fits λ fit.
-                let c : b ≡ record { row = r₁; place = p₁; at = a + length (message e t) } = row-known j l (omega (arith, length-append (message e t) (enumNameBytes e ms ++ enumValues ms))) in
-                let y′ : PutsEnum e (a + length (message e t)) table pool k r₁ p₁ x out₂ out₃ = rw c at u in
-                stands-behind (message e t) (enumNameBytes e ms ++ enumValues ms) r₂ p₂ a out₁ (rw c at (placed j l)) refl (enum-stands y′ q))))
+            let v : PutsType e a (found t r₁ p₁) z out₁ out₂ = rw o at m in
+            let j = found-puts v s d in
+            stands-behind (header 8 e (k % 256) (k / 256) n) (message e t ++ (enumNameBytes e ms ++ enumValues ms)) r₂ p₂ at out h f
+            (where-fits λ fit.
+            let c : b ≡ record { row = r₁; place = p₁; at = a + length (message e t) } = row-known j l (omega (arith, length-append (message e t) (enumNameBytes e ms ++ enumValues ms))) in
+            let y′ : PutsEnum e (a + length (message e t)) table pool k r₁ p₁ x out₂ out₃ = rw c at u in
+            stands-behind (message e t) (enumNameBytes e ms ++ enumValues ms) r₂ p₂ a out₁ (rw c at (placed j l)) refl (enum-stands y′ q))))
 
 -- ---- the size of the type at a row
 

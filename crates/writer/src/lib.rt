@@ -123,14 +123,32 @@ fn put_type(
     match entry {
         Entry::Unknown => Put::Lost,
         Entry::Leaf(class, size, length, code) => put_leaf(
-            table, pool, row, place, class, size, length, code, out, at,
+            table,
+            pool,
+            row,
+            place,
+            class,
+            size,
+            length,
+            code,
+            out,
+            at,
         ),
         Entry::Compound(size, count) => {
             let headed = put_group_header(out, at, 6, edition, count, size);
             match headed {
                 Placed::Full => Put::Lost,
                 Placed::Behind(a) => put_members(
-                    table, pool, row + 1, place, count, size, inner, edition, out, a,
+                    table,
+                    pool,
+                    row + 1,
+                    place,
+                    count,
+                    size,
+                    inner,
+                    edition,
+                    out,
+                    a,
                 ),
             }
         }
@@ -143,7 +161,14 @@ fn put_type(
                     match put {
                         Put::Lost => Put::Lost,
                         Put::At(base) => put_enum_members(
-                            table, pool, base.row, base.place, count, out, base.at, edition,
+                            table,
+                            pool,
+                            base.row,
+                            base.place,
+                            count,
+                            out,
+                            base.at,
+                            edition,
                         ),
                     }
                 }
