@@ -3,3 +3,4 @@ pub mod Fields
 pub mod Types
 pub mod Inside
 pub mod Comparing
+pub mod Promises

@@ -20,8 +20,8 @@ use writer_parts::put_leaf;
 use writer_parts::put_member_head;
 use writer_parts::put_variable_header;
 ghost use mathlib.Core.Path.{_≡_};
-ghost use Prim.Native.Nat.{ℕ, _+_, _*_, _-_, _≤_, _<_};
-ghost use lib.ListN.{length, take, drop};
+ghost use Prim.Native.Nat.{_+_, _*_, _-_, _≤_, _<_};
+ghost use lib.ListN.{length};
 ghost use Rattle.format.specs.Table.{typeAt, membersAt};
 ghost use Rattle.writer.specs.Writes.{PutsType, PutsMembers, sizeIn, WritesType, Writes};
 
