@@ -1,5 +1,7 @@
-// Runs document 01's cases and the examples of its readings, and writes what each gives.
+// Runs document 01's cases, the examples of its readings and one of each refusal, and writes what each gives.
+mod calls;
 mod messages;
+mod records;
 mod show;
 
 fn main() {
@@ -9,4 +11,8 @@ fn main() {
     messages::pool_and_name_cases();
     messages::size_and_version_cases();
     messages::class_cases();
+    records::writing_cases();
+    records::unstorable_cases();
+    records::comparing_cases();
+    records::slot_cases();
 }

@@ -31,6 +31,13 @@ fn bytes(s: &[u8], count: usize)
     }
 }
 
+// The first bytes, if there are so many.
+pub fn shown_bytes(s: &[u8], count: usize) {
+    if count <= s.len() {
+        bytes(s, count);
+    }
+}
+
 // `refused`, number and values.
 pub fn refusal_line(e: Refusal) {
     let values = refusal::values(e);
