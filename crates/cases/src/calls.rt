@@ -79,6 +79,32 @@ pub fn writing_changed(
     }
 }
 
+// Writes an opaque type whose tag is a whole pool.
+pub fn writing_tag(label: &[u8], length: u32, pool: &[u8]) {
+    let mut table = [0u32; 16];
+    let mut out = [7u8; 160];
+    table[0] = 6;
+    table[1] = 1;
+    table[3] = length;
+    text(label);
+    text(b": ");
+    write_and_show(&table, pool, 3, &mut out);
+}
+
+// Writes an array of U1 whose dimensions are a whole pool.
+pub fn writing_array(label: &[u8], rank: u32, pool: &[u8]) {
+    let mut table = [0u32; 32];
+    let mut out = [7u8; 160];
+    table[0] = 11;
+    table[3] = rank;
+    table[16] = 1;
+    table[17] = 1;
+    table[24] = 8;
+    text(label);
+    text(b": ");
+    write_and_show(&table, pool, 3, &mut out);
+}
+
 fn round_trip_line(answer: RoundTrip) {
     match answer {
         RoundTrip::Refused(e) => refusal_line(e),
@@ -214,4 +240,19 @@ pub fn references(label: &[u8], block: &[u8], record_size: u64, slots: &[u64]) {
         &mut values,
     );
     references_line(answer, &places, &values);
+}
+
+// Each call on a table that sets out no type.
+pub fn bad_table() {
+    let table = [0u32; 16];
+    let pool = [0u8; 8];
+    let mut out = [7u8; 16];
+    let mut places = [7u64; 4];
+    text(b"no type, written: ");
+    write_and_show(&table, &pool, 3, &mut out);
+    text(b"no type, compared: ");
+    comparison_line(compare::same(&table, &pool, b"", b""));
+    text(b"no type, slots: ");
+    let answer = slots::embedded_reference_slots(&table, &pool, &mut places);
+    slots_line(answer, &places);
 }

@@ -15,4 +15,5 @@ fn main() {
     records::unstorable_cases();
     records::comparing_cases();
     records::slot_cases();
+    records::tag_and_rank_cases();
 }

@@ -1,9 +1,12 @@
 // Document 01's cases of writing, comparing and slots, and one for each refusal. U1, U2, R and P are document 01's.
+use crate::calls::bad_table;
 use crate::calls::comparing;
 use crate::calls::references;
 use crate::calls::slots;
 use crate::calls::writing;
+use crate::calls::writing_array;
 use crate::calls::writing_changed;
+use crate::calls::writing_tag;
 use crate::calls::written_and_read;
 
 pub fn writing_cases() {
@@ -395,4 +398,16 @@ pub fn slot_cases() {
         0,
         &[],
     );
+}
+
+pub fn tag_and_rank_cases() {
+    let short_tag = [1u8; 255];
+    let tag = [1u8; 256];
+    let short_dimensions = [1u8; 1020];
+    let dimensions = [1u8; 1024];
+    writing_tag(b"a tag of 255 bytes", 255, &short_tag);
+    writing_tag(b"a tag of 256 bytes", 256, &tag);
+    writing_array(b"an array of 255 dimensions", 255, &short_dimensions);
+    writing_array(b"an array of 256 dimensions", 256, &dimensions);
+    bad_table();
 }
