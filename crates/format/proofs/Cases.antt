@@ -138,3 +138,16 @@ others =
 pub other-cases : answers others ≡ expected others
 unfolding answers expected others sequences sequenceType ask answer readHere onTable setOut computing
 other-cases = refl
+
+-- Document 01's "Errors that sound reasonable": a nested Short is counted in the nested message; a compound of size 0 whose member is
+-- lacking is Short; an enumeration of size 2 over a base of size 1 is compared in both bytes
+unfoldable pub reasonable : List Case
+reasonable =
+    record { question = reads 15 (0x36 ∷ 1 ∷ 0 ∷ 0 ∷ 4 ∷ 0 ∷ 0 ∷ 0 ∷ 0x61 ∷ 0 ∷ 0 ∷ 0x10 ∷ 0 ∷ []); says = 4 ∷ 8 ∷ 2 ∷ [] }
+    ∷ record { question = reads 15 (0x36 ∷ 1 ∷ 0 ∷ 0 ∷ 0 ∷ 0 ∷ 0 ∷ 0 ∷ 0x61 ∷ 0 ∷ 0 ∷ []); says = 4 ∷ 8 ∷ 0 ∷ [] }
+    ∷ record { question = compares (0x38 ∷ 0 ∷ 0 ∷ 0 ∷ 2 ∷ 0 ∷ 0 ∷ 0 ∷ U1) (0 ∷ 0 ∷ []) (0 ∷ 1 ∷ []); says = 0 ∷ 0 ∷ [] }
+    ∷ []
+
+pub reasonable-cases : answers reasonable ≡ expected reasonable
+unfolding answers expected reasonable ask answer readHere onTable setOut computing
+reasonable-cases = refl

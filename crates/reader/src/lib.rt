@@ -138,7 +138,7 @@ fn read_type(
                 count as usize,
             );
             match got {
-                Step::Refused(e) => Step::Refused(e),
+                Step::Refused(first) => Step::Refused(first),
                 Step::Done(s) => end_compound(table, used, header, count, s),
             }
         }
@@ -156,8 +156,9 @@ fn read_type(
             match got {
                 Step::Refused(e) => Step::Refused(e),
                 Step::Done(s) => {
+                    let at = from + s.at;
                     let inner = State {
-                        at: from + s.at,
+                        at: at,
                         rows: s.rows,
                         pooled: s.pooled,
                         size: s.size,

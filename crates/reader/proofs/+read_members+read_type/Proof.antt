@@ -209,8 +209,8 @@ read-type-enum-known-got-3 t c = search needs
 read-type-enum-known-got-4 : (t : ℕ) → read-type-lts.Need-enum-known-got-4 (read-type-calls t) (read-type-at t) read-type.Post
 read-type-enum-known-got-4 t c = search needs
 
-read-type-add-t55 : (t : ℕ) → read-type-lts.Need-add-t55 (read-type-calls t) (read-type-at t) read-type.Post
-read-type-add-t55 t c = omega (arith, based-near ((c .before .before .before .before .before .before .before .before .before .before .before .before .before .before .before .before .if1) .left) ((c .before .before .before .before .before .before .before .before .before .before .before .before .before .before .before .open-type) .ensures) ((c .before .before .before .before .before .before .before .before .before .before .before .before .before .opened4) .given .1) ((c .before .before .before .before .before .before .before .before .read-type) .ensures) ((c .before .before .got4) .given .1), (c .before .before .before .before .before .before .before .before .before .before .before .before .before .before .before .before .before .before .before .before) .good .0 .1)
+read-type-add-at : (t : ℕ) → read-type-lts.Need-add-at (read-type-calls t) (read-type-at t) read-type.Post
+read-type-add-at t c = omega (arith, based-near ((c .before .before .before .before .before .before .before .before .before .before .before .before .before .before .before .before .if1) .left) ((c .before .before .before .before .before .before .before .before .before .before .before .before .before .before .before .open-type) .ensures) ((c .before .before .before .before .before .before .before .before .before .before .before .before .before .opened4) .given .1) ((c .before .before .before .before .before .before .before .before .read-type) .ensures) ((c .before .before .got4) .given .1), (c .before .before .before .before .before .before .before .before .before .before .before .before .before .before .before .before .before .before .before .before) .good .0 .1)
 
 read-type-end-based-requires : (t : ℕ) → read-type-lts.Need-end-based-requires (read-type-calls t) (read-type-at t) read-type.Post
 read-type-end-based-requires t c κs = based-asks ((c .before .before .before .before .before .before .before .before .before .before .before .before .before .before .before .before .before .before .if1) .left) ((c .before .before .before .before .before .before .before .before .before .before .before .before .before .before .before .before .before .open-type) .ensures) ((c .before .before .before .before .before .before .before .before .before .before .before .before .before .before .before .opened4) .given .1) ((c .before .before .before .before .before .before .before .before .before .before .read-type) .ensures) ((c .before .before .before .before .got4) .given .1) ((c .before .before .before .before .before .before .before .before .before .before .before .before .before .before .before .before .before .before .before .before .before .before) .pre .1)
@@ -341,7 +341,7 @@ pub +read-members+read-type-spec : {M : Type 1} → statement M
     (read-type-read-type-requires t)
     (read-type-enum-known-got-3 t)
     (read-type-enum-known-got-4 t)
-    (read-type-add-t55 t)
+    (read-type-add-at t)
     (read-type-end-based-requires t)
     (read-type-returns-2 t)
     (read-type-same-length t)
