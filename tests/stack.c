@@ -1,11 +1,11 @@
-// Reads messages with thousands of members on a thread whose stack has 256 KiB: the stack must not grow with a count.
+// Reads types with thousands of members, and writes, compares and lists the slots of what was read, on a thread whose stack has 256 KiB: the
+// stack must not grow with a count.
 #include <pthread.h>
 #include <stdint.h>
 #include <stdio.h>
 #include <stdlib.h>
 #include <string.h>
-
-uint32_t datatype_read(const uint8_t *data, size_t length, uint32_t limit, uint32_t *table, size_t words, uint8_t *pool, size_t bytes, uint64_t *first, uint64_t *second);
+#include "datatype.h"
 
 enum { ROWS = 4096, POOL = 65536, MOST = 1 << 20 };
 
@@ -43,27 +43,51 @@ static void enumeration(unsigned members) {
     for (unsigned i = 0; i < members; i++) put("\1", 1);
 }
 
+static uint8_t written[MOST], a[255], b[255];
 static int failed;
 
-static void *read_it(void *name) {
-    uint64_t first = 0, second = 0;
-    uint32_t number = datatype_read(message, length, 15, table, ROWS * 16, pool, POOL, &first, &second);
-    if (number != 0 || first != length) {
-        printf("%s: refused %u %llu %llu\n", (char *)name, number, (unsigned long long)first, (unsigned long long)second);
+static void expect(const char *name, const char *call, uint32_t number, uint32_t expected) {
+    if (number != expected) {
+        printf("%s: %s answers %u\n", name, call, number);
         failed = 1;
-    } else {
-        printf("%s: read %zu bytes\n", (char *)name, length);
     }
+}
+
+// The record's size, the bytes in which two records differ, and what comparing answers.
+struct run {
+    const char *name;
+    size_t size;
+    uint32_t compared;
+    uint64_t differs;
+};
+
+static void *calls(void *given) {
+    const struct run *run = given;
+    uint64_t first = 0, second = 0, slot;
+    uint32_t number = datatype_read(message, length, 15, table, ROWS * 16, pool, POOL, &first, &second);
+    expect(run->name, "read", number, 0);
+    expect(run->name, "the length read", first == length, 1);
+    number = datatype_write(table, ROWS * 16, pool, POOL, 3, written, MOST, &first, &second);
+    expect(run->name, "write", number, 0);
+    expect(run->name, "the message written", first == length && memcmp(written, message, length) == 0, 1);
+    memset(a, 1, run->size);
+    memset(b, 2, run->size);
+    number = datatype_compare(table, ROWS * 16, pool, POOL, a, run->size, b, run->size, &first, &second);
+    expect(run->name, "compare", number, run->compared);
+    expect(run->name, "the comparison", first == run->differs, 1);
+    number = datatype_slots(table, ROWS * 16, pool, POOL, &slot, 1, &first, &second);
+    expect(run->name, "slots", number, 0);
+    if (!failed) printf("%s: %zu bytes read, written, compared, searched for slots\n", run->name, length);
     return 0;
 }
 
-static void run(char *name) {
+static void run(struct run given) {
     pthread_attr_t attributes;
     pthread_t thread;
     pthread_attr_init(&attributes);
     pthread_attr_setstacksize(&attributes, 256 * 1024);
-    if (pthread_create(&thread, &attributes, read_it, name) != 0) {
-        printf("%s: no thread\n", name);
+    if (pthread_create(&thread, &attributes, calls, &given) != 0) {
+        printf("%s: no thread\n", given.name);
         failed = 1;
         return;
     }
@@ -73,11 +97,11 @@ static void run(char *name) {
 
 int main(void) {
     compound(2047);
-    run("2,047 compound members");
+    run((struct run){"2,047 compound members", 255, 0, 1});
     enumeration(4094);
-    run("4,094 enumeration members");
+    run((struct run){"4,094 enumeration members", 1, 0, 1});
     for (int i = 0; i < 30; i++) header(0x19, 0, 16);
     compound(2032);
-    run("2,032 members under 30 sequences");
+    run((struct run){"2,032 members under 30 sequences", 16, DATATYPE_HEAP_HELD, 0});
     return failed;
 }

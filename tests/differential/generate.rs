@@ -1,17 +1,23 @@
-//! Messages: short ones exhaustively, random types in every version, damaged copies.
-use crate::{compare, Counts};
+//! Messages: short ones exhaustively, random types in every version, damaged copies. Types that no message gives.
+use crate::compare;
+use crate::counts::Counts;
+use crate::datatype::{CharacterSet, CompoundMember, Datatype, DatatypeByteOrder, EnumMember, ReferenceType, StringPadding};
 
 pub struct Random(u64);
 
 impl Random {
-    fn next(&mut self) -> u64 {
+    pub fn new(seed: u64) -> Random {
+        Random(seed.wrapping_mul(0x9E37_79B9_7F4A_7C15) | 1)
+    }
+
+    pub fn next(&mut self) -> u64 {
         self.0 ^= self.0 << 13;
         self.0 ^= self.0 >> 7;
         self.0 ^= self.0 << 17;
         self.0
     }
 
-    fn below(&mut self, n: u64) -> u64 {
+    pub fn below(&mut self, n: u64) -> u64 {
         self.next() % n
     }
 }
@@ -135,45 +141,197 @@ fn message(r: &mut Random, out: &mut Vec<u8>, levels: u64) {
     }
 }
 
-fn all_headers(counts: &mut Counts) {
+/// A message with so many levels: compounds, variable lengths, arrays and enumerations round a leaf.
+fn nested(r: &mut Random, out: &mut Vec<u8>, levels: u64) {
+    if levels <= 1 {
+        return message(r, out, 0);
+    }
+    match r.below(4) {
+        0 => {
+            header(out, 6, 3, 1, 0, 255);
+            name(r, out, false);
+            out.push(r.below(8) as u8);
+            nested(r, out, levels - 1);
+        }
+        1 => {
+            header(out, 10, 3, 0, 0, 0);
+            out.extend_from_slice(&[1, 1 + r.below(2) as u8, 0, 0, 0]);
+            nested(r, out, levels - 1);
+        }
+        2 => {
+            header(out, 8, 3, 0, 0, 8);
+            nested(r, out, levels - 1);
+        }
+        _ => {
+            header(out, 9, 1, 0, 0, 16);
+            nested(r, out, levels - 1);
+        }
+    }
+}
+
+fn order(r: &mut Random) -> DatatypeByteOrder {
+    match r.below(12) {
+        0..=5 => DatatypeByteOrder::LittleEndian,
+        6..=10 => DatatypeByteOrder::BigEndian,
+        _ => DatatypeByteOrder::Vax,
+    }
+}
+
+fn padding(r: &mut Random) -> StringPadding {
+    [StringPadding::NullTerminate, StringPadding::NullPad, StringPadding::SpacePad][r.below(3) as usize].clone()
+}
+
+fn charset(r: &mut Random) -> CharacterSet {
+    if r.below(2) == 0 { CharacterSet::Ascii } else { CharacterSet::Utf8 }
+}
+
+fn text(r: &mut Random) -> String {
+    let mut name = String::new();
+    for _ in 0..r.below(6) {
+        let letters = if r.below(60) == 0 { 4000 } else { 25 };
+        name.push(char::from_u32(97 + r.below(letters) as u32).unwrap_or('a'));
+    }
+    if r.below(200) == 0 {
+        name.push('\0');
+    }
+    name
+}
+
+fn leaf(r: &mut Random) -> Datatype {
+    let size = if r.below(60) == 0 { size(r) } else { 1 + r.below(8) as u32 };
+    match r.below(7) {
+        0 => Datatype::FixedPoint { size, byte_order: order(r), signed: r.below(2) == 0, bit_offset: r.next() as u16, bit_precision: r.next() as u16 },
+        1 => Datatype::FloatingPoint {
+            size,
+            byte_order: order(r),
+            bit_offset: r.next() as u16,
+            bit_precision: r.next() as u16,
+            exponent_location: r.next() as u8,
+            exponent_size: r.next() as u8,
+            mantissa_location: r.next() as u8,
+            mantissa_size: r.next() as u8,
+            exponent_bias: r.next() as u32,
+        },
+        2 => Datatype::Time { size, byte_order: order(r), bit_precision: r.next() as u16 },
+        3 => Datatype::String { size, padding: padding(r), charset: charset(r) },
+        4 => Datatype::BitField { size, byte_order: order(r), bit_offset: r.next() as u16, bit_precision: r.next() as u16 },
+        5 => Datatype::Opaque { size, tag: vec![b't'; if r.below(40) == 0 { 254 + r.below(4) } else { r.below(10) } as usize] },
+        _ => {
+            let region = r.below(6) == 0;
+            let size = if r.below(8) == 0 { size } else { 8 };
+            Datatype::Reference { size, ref_type: if region { ReferenceType::DatasetRegion } else { ReferenceType::Object } }
+        }
+    }
+}
+
+/// A type whose members most often lie within their compound, with gaps and overlaps.
+fn datatype(r: &mut Random, levels: u64) -> Datatype {
+    if levels == 0 {
+        return leaf(r);
+    }
+    match r.below(12) {
+        0..=5 => {
+            let mut end = 0;
+            let mut members = Vec::new();
+            for _ in 0..r.below(6) {
+                let inner = datatype(r, levels - 1);
+                let offset = if r.below(10) == 0 { r.below(u64::from(end) + 1) as u32 } else { end + r.below(3) as u32 };
+                end = end.max(offset.saturating_add(inner.type_size().min(1 << 20)));
+                members.push(CompoundMember { name: text(r), byte_offset: u64::from(offset), datatype: inner });
+            }
+            let size = if r.below(40) == 0 { r.below(u64::from(end) + 1) as u32 } else { end + 1 + r.below(2) as u32 };
+            Datatype::Compound { size, members }
+        }
+        6..=8 => {
+            let rank = if r.below(60) == 0 { 254 + r.below(4) } else { r.below(4) };
+            let dimensions = (0..rank).map(|_| if rank > 4 { 1 } else if r.below(40) == 0 { [0, 65536, u32::MAX][r.below(3) as usize] } else { 1 + r.below(3) as u32 }).collect();
+            Datatype::Array { base_type: Box::new(datatype(r, levels - 1)), dimensions }
+        }
+        9 => {
+            let base = if r.below(4) == 0 { datatype(r, levels - 1) } else { leaf(r) };
+            let wide = base.type_size().min(300);
+            let members = (0..r.below(4)).map(|_| EnumMember { name: text(r), value: vec![1; wide as usize + usize::from(r.below(40) == 0)] }).collect();
+            Datatype::Enumeration { size: 1 + r.below(9) as u32, base_type: Box::new(base), members }
+        }
+        10 if r.below(3) == 0 => {
+            let is_string = r.below(2) == 0;
+            let odd = r.below(20) == 0;
+            let (padding, charset) = ((is_string != odd).then(|| padding(r)), is_string.then(|| charset(r)));
+            Datatype::VariableLength { is_string, padding, charset, base_type: Box::new(datatype(r, levels - 1)) }
+        }
+        _ => leaf(r),
+    }
+}
+
+fn all_headers(r: &mut Random, counts: &mut Counts) {
     let tails: [&[u8]; 4] = [&[], &[0; 6], &[0, 0, 1, 0, 0, 0, 0, 0, 8, 0, 0, 0], &[0, 0, 4, 0, 0, 0, b'a', 0, 0, 0x10, 0, 0, 0, 1, 0, 0, 0, 0, 0, 8, 0, 0, 0, 0]];
     for first in 0..=255u8 {
+        compare::message(&[first], r, counts);
         for second in 0..=255u8 {
             for tail in tails {
                 let mut m = vec![first, second];
                 m.extend_from_slice(tail);
-                compare(&m, counts);
+                compare::message(&m, r, counts);
             }
         }
     }
 }
 
-pub fn run(seed: u64, messages: u64, counts: &mut Counts) {
-    let mut r = Random(seed.wrapping_mul(0x9E37_79B9_7F4A_7C15) | 1);
-    compare(&[], counts);
-    all_headers(counts);
-    for i in 0..messages {
+/// A good message with its prefixes, damaged copies, and bytes behind.
+fn round(mut m: Vec<u8>, r: &mut Random, counts: &mut Counts) {
+    compare::message(&m, r, counts);
+    if m.len() < 64 {
+        for end in 0..m.len() {
+            compare::message(&m[..end], r, counts);
+        }
+    }
+    for _ in 0..4 {
+        let mut d = m.clone();
+        for _ in 0..1 + r.below(3) {
+            let at = r.below(d.len() as u64) as usize;
+            d[at] = r.next() as u8;
+        }
+        compare::message(&d, r, counts);
+    }
+    m.extend_from_slice(&r.next().to_le_bytes());
+    compare::message(&m, r, counts);
+}
+
+/// A few messages for a file of samples: a good one, a prefix and a damaged copy.
+pub fn sample(i: u64, r: &mut Random) -> Vec<Vec<u8>> {
+    let mut good = Vec::new();
+    if i % 8 == 0 {
+        nested(r, &mut good, 1 + i / 8 % 32);
+    } else {
+        let levels = r.below(4);
+        message(r, &mut good, levels);
+    }
+    let prefix = good[..r.below(good.len() as u64) as usize].to_vec();
+    let mut damaged = good.clone();
+    let at = r.below(good.len() as u64) as usize;
+    damaged[at] = r.next() as u8;
+    vec![good, prefix, damaged]
+}
+
+pub fn run(seed: u64, rounds: u64, counts: &mut Counts) {
+    let r = &mut Random::new(seed);
+    compare::message(&[], r, counts);
+    compare::first_bytes(counts);
+    all_headers(r, counts);
+    for i in 0..rounds {
         let mut m = Vec::new();
-        let levels = if i % 50 == 0 { 30 } else { r.below(5) };
-        message(&mut r, &mut m, levels);
-        if m.len() > 60_000 {
-            continue;
+        let levels = r.below(5);
+        message(r, &mut m, levels);
+        if m.len() <= 60_000 {
+            round(m, r, counts);
         }
-        compare(&m, counts);
-        if m.len() < 64 {
-            for end in 0..m.len() {
-                compare(&m[..end], counts);
-            }
+        if i % 4 == 0 {
+            let mut m = Vec::new();
+            nested(r, &mut m, 1 + i / 4 % 33);
+            round(m, r, counts);
         }
-        for _ in 0..4 {
-            let mut d = m.clone();
-            for _ in 0..1 + r.below(3) {
-                let at = r.below(d.len() as u64) as usize;
-                d[at] = r.next() as u8;
-            }
-            compare(&d, counts);
-        }
-        m.extend_from_slice(&r.next().to_le_bytes());
-        compare(&m, counts);
+        let levels = r.below(4);
+        let t = datatype(r, levels);
+        compare::on_type(&t, r, counts);
     }
 }

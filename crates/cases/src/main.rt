@@ -1,8 +1,5 @@
-// Runs document 01's cases, the examples of its readings and one of each refusal, and writes what each gives.
-mod calls;
+// Runs document 01's cases of reading, the examples of its readings and one of each refusal, and writes what each gives.
 mod messages;
-mod records;
-mod show;
 
 fn main() {
     messages::document_cases();
@@ -11,9 +8,4 @@ fn main() {
     messages::pool_and_name_cases();
     messages::size_and_version_cases();
     messages::class_cases();
-    records::writing_cases();
-    records::unstorable_cases();
-    records::comparing_cases();
-    records::slot_cases();
-    records::tag_and_rank_cases();
 }

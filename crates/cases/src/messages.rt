@@ -1,5 +1,5 @@
 // The messages of the cases. U1, U2, R and P are document 01's.
-use crate::show::reading;
+use show::reading;
 ghost use mathlib.Core.Path.{_≡_};
 ghost use Prim.Native.Nat.{_≤_};
 ghost use lib.ListN.{length};

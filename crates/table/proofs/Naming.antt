@@ -4,15 +4,16 @@ use mathlib.Core.Path.{_≡_, refl, sym, ap, _∙_}
 use mathlib.Core.List.{List, [], _∷_, _++_, append-nil}
 use mathlib.Core.Option.{Option, none, some}
 use native.Mathlib.Omega.{arith}
-use lib.ListN.{length, getD, take, drop, length-append, length-drop, List·getD-append, List·getD-eq-default}
+use lib.ListN.{length, getD, take, drop, length-append, length-take, length-drop, List·getD-append, List·getD-eq-default}
 use lib.Seq.{drop-at, drop-append-le, drop-drop, getD-drop}
 use Rattle.format.specs.Bytes.{dimensionBytes, padded, zeros}
 use Rattle.format.specs.Datatype.{Datatype, fixedPoint, floatingPoint, time, string, bitField, opaque, compound, reference, enumeration, variableLength, array, Members, noMembers, member, EnumMember, memberCount, rowCount, memberRowCount, poolBytes, memberPool, enumNames, enumValues}
 use Rattle.format.specs.Table.{row, memberRow, enumMemberRow, rows, memberRows, enumRows, SetsOut}
 use Rattle.format.proofs.Rows.{length-row, length-memberRow, length-enumMemberRow, length-rows}
 use Rattle.format.proofs.Table.{typeOf-sound}
-use Rattle.table.specs.Names.{Part, nameParts, memberNameParts, enumNameParts, partOf, placeOf, nameIn, nameOf, placeIn, namePlace, further}
+use Rattle.table.specs.Names.{Part, nameParts, memberNameParts, enumNameParts, partOf, placeOf, nameIn, nameOf, placeIn, namePlace, further, PartIs}
 use Rattle.table.specs.Survey.{Checks}
+use Rattle.table.specs.declared.NamePart.{NamePart}
 use Rattle.table.specs.declared.Survey.{Survey}
 use Rattle.table.specs.declared.Checked.{Checked}
 use Rattle.table.specs.declared.Checked.the-variants.{Good, Bad}
@@ -174,11 +175,17 @@ module _ (table pool : List ℕ) (t : Datatype) (o : SetsOut t table pool) where
         let b : getD table (k * 16 + 3) 0 ≡ x .long = sym (word 3 (k * 16 + 3) refl) ∙ n .1 .1 .0 in
         (omega (arith, n .1 .1 .1), (rw (a, b), a))
 
--- the answer: its contents, and where it begins in a pool that is at q
+-- the answer, by what the check answers
 module _ (table pool : List ℕ) (row : ℕ) {r : Checked} (h : Checks table pool r) where
-  pub name-bad : (q : ℕ × ℕ) → r ≡ Bad → ([] ≡ nameOf table pool row) × ((q .0, 0 + q .1) ≡ further q (namePlace table pool row))
-  unfolding nameOf nameIn namePlace placeIn further
-  name-bad q e = rw (h .bad-table e) (refl, refl)
+  pub name-bad : r ≡ Bad → PartIs table pool row (record { place = 0; length = 0 })
+  unfolding nameOf nameIn namePlace placeIn
+  name-bad e =
+      record {
+        place-is = rw (h .bad-table e);
+        length-is = rw (h .bad-table e);
+        within = omega arith;
+        holds = rw (h .bad-table e);
+      }
 
   module _ (b : (i : ℕ) → getD pool i 0 < 256) {s : Survey} (g : r ≡ Good s) where
     set-out : SetsOut (h .good s g .type) table pool
@@ -188,16 +195,24 @@ module _ (table pool : List ℕ) (row : ℕ) {r : Checked} (h : Checks table poo
     many = omega (arith, stands-at table pool (h .good s g .type) (s .row) (s .place) b (h .good s g .stands) .row-behind)
 
     -- by the part of the row
-    name-is : (q : ℕ × ℕ) {l : List ℕ} {n : ℕ} → (l ≡ partOf pool (getD (nameParts 0 (h .good s g .type)) row none)) × (n ≡ placeOf (getD (nameParts 0 (h .good s g .type)) row none))
-        → (l ≡ nameOf table pool row) × ((q .0, n + q .1) ≡ further q (namePlace table pool row))
-    unfolding nameOf nameIn namePlace placeIn further
-    name-is q k = rw (h .good s g .is) (k .0, rw (k .1))
+    name-is : (p n : ℕ) → p + n ≤ length pool → take n (drop p pool) ≡ partOf pool (getD (nameParts 0 (h .good s g .type)) row none) → p ≡ placeOf (getD (nameParts 0 (h .good s g .type)) row none)
+        → PartIs table pool row (record { place = p; length = n })
+    unfolding nameOf nameIn namePlace placeIn
+    name-is p n w k q =
+        let l : length (take n (drop p pool)) ≡ n = simp (length-take, length-drop) (omega arith) in
+        record {
+          place-is = rw (h .good s g .is) q;
+          length-is = rw (h .good s g .is) (sym l ∙ ap length k);
+          within = w;
+          holds = rw (h .good s g .is) k;
+        }
 
-    pub name-behind : (q : ℕ × ℕ) → s .row ≤ row → ([] ≡ nameOf table pool row) × ((q .0, 0 + q .1) ≡ further q (namePlace table pool row))
+    pub name-behind : s .row ≤ row → PartIs table pool row (record { place = 0; length = 0 })
     unfolding partOf placeOf
-    name-behind q k =
+    name-behind k =
         let l : length (nameParts 0 (h .good s g .type)) ≤ row = omega (arith, many, length-parts (h .good s g .type) 0) in
-        name-is q (rw (List·getD-eq-default (nameParts 0 (h .good s g .type)) none l) (refl, refl))
+        let d = List·getD-eq-default (nameParts 0 (h .good s g .type)) none l in
+        name-is 0 0 (omega arith) (rw d) (rw d)
 
     module _ (k : row < s .row) where
       -- its row is one of the table's
@@ -208,17 +223,20 @@ module _ (table pool : List ℕ) (row : ℕ) {r : Checked} (h : Checks table poo
       named : RowNames (length pool) (getD (nameParts 0 (h .good s g .type)) row none) (drop (row * 16) table)
       named = row-names table pool (h .good s g .type) set-out row (omega (arith, many))
 
-      pub name-none : (q : ℕ × ℕ) → getD table (row * 16) 0 < 12 → ([] ≡ nameOf table pool row) × ((q .0, 0 + q .1) ≡ further q (namePlace table pool row))
-      name-none q e = name-is q (by-kind table pool (h .good s g .type) set-out row _ named e)
+      pub name-none : getD table (row * 16) 0 < 12 → PartIs table pool row (record { place = 0; length = 0 })
+      name-none e =
+          let n = by-kind table pool (h .good s g .type) set-out row _ named e in
+          name-is 0 0 (omega arith) (n .0) (n .1)
 
-      module _ (e : 12 ≤ getD table (row * 16) 0) where
-        -- and its name lies in the pool
-        pub name-fits : getD table (row * 16 + 2) 0 + getD table (row * 16 + 3) 0 ≤ length pool
-        name-fits = by-words table pool (h .good s g .type) set-out row _ named e .0
+      pub name-some : 12 ≤ getD table (row * 16) 0 → PartIs table pool row (record { place = getD table (row * 16 + 2) 0; length = getD table (row * 16 + 3) 0 })
+      name-some e =
+          let n = by-words table pool (h .good s g .type) set-out row _ named e in
+          name-is _ _ (n .0) (n .1 .0) (n .1 .1)
 
-        pub name-some : (q : ℕ × ℕ)
-            → (take (getD table (row * 16 + 2) 0 + getD table (row * 16 + 3) 0 - getD table (row * 16 + 2) 0) (drop (getD table (row * 16 + 2) 0) pool) ≡ nameOf table pool row)
-            × ((q .0, getD table (row * 16 + 2) 0 + q .1) ≡ further q (namePlace table pool row))
-        name-some q =
-            let j : getD table (row * 16 + 2) 0 + getD table (row * 16 + 3) 0 - getD table (row * 16 + 2) 0 ≡ getD table (row * 16 + 3) 0 = omega arith in
-            rw j (name-is q (by-words table pool (h .good s g .type) set-out row _ named e .1))
+-- the part of a pool at q that is taken: its contents, and where it begins
+pub name-taken : {table pool : List ℕ} {row : ℕ} (q : ℕ × ℕ) {x : NamePart} → PartIs table pool row x
+    → (take (x .place + x .length - x .place) (drop (x .place) pool) ≡ nameOf table pool row) × ((q .0, x .place + q .1) ≡ further q (namePlace table pool row))
+unfolding further
+name-taken q {x} h =
+    let j : x .place + x .length - x .place ≡ x .length = omega arith in
+    (rw j (h .holds), rw (h .place-is))

@@ -1,5 +1,6 @@
 -- "A member's name is answered as the part of the pool that holds it."
-use Prim.Native.Nat.{ℕ, _+_}
+use Prim.Native.Nat.{ℕ, _+_, _≤_}
+use mathlib.Core.Path.{_≡_}
 use mathlib.Core.List.{List, [], _∷_, _++_}
 use mathlib.Core.Option.{Option, none, some}
 use lib.ListN.{length, getD, take, drop}
@@ -7,6 +8,7 @@ use Rattle.format.specs.Bytes.{dimensionBytes}
 use Rattle.format.specs.Datatype.{Datatype, fixedPoint, floatingPoint, time, string, bitField, opaque, compound, reference, enumeration, variableLength, array, Members, noMembers, member, EnumMember, poolBytes}
 use Rattle.format.specs.Outcome.{Outcome, gives, refuses}
 use Rattle.format.specs.Table.{typeOf}
+use Rattle.table.specs.declared.NamePart.{NamePart}
 
 -- a part of the pool: its place and length
 pub record Part : Type 0 where
@@ -60,6 +62,13 @@ placeIn r (refuses e) = 0
 
 unfoldable pub namePlace : (table pool : List ℕ) (row : ℕ) → ℕ
 namePlace table pool r = placeIn r (typeOf table pool)
+
+-- the place and length of the name, and that it lies there in the pool
+pub record PartIs (table pool : List ℕ) (row : ℕ) (r : NamePart) : Type 0 where
+  pub place-is : r .place ≡ namePlace table pool row
+  pub length-is : r .length ≡ length (nameOf table pool row)
+  pub within : r .place + r .length ≤ length pool
+  pub holds : take (r .length) (drop (r .place) pool) ≡ nameOf table pool row
 
 -- a pointer, block and offset, so many bytes further
 unfoldable pub further : ℕ × ℕ → ℕ → ℕ × ℕ

@@ -19,7 +19,7 @@ ghost use Rattle.format.specs.Datatype.{product};
 ghost use Rattle.format.specs.Sizes.{sizing, elementSizing, classMayHoldObjectAddress, objectAddressHeld, fileAddressHeld};
 ghost use Rattle.format.specs.Table.{typeAt, membersAt};
 ghost use Rattle.table.specs.Survey.{surveyOf, surveyIn, enumSpotOf, Checks, firstOf, zeroNote, SizedAs, HeldAs};
-ghost use Rattle.table.specs.Names.{nameOf, namePlace, further};
+ghost use Rattle.table.specs.Names.{nameOf, namePlace, further, PartIs};
 ghost use denote.Ref.{ptr};
 
 // What a walk over a type finds: the next row and pool place, the size, 1 + the class of the first row of size 0 or 0 where there is none,
@@ -61,6 +61,12 @@ pub enum Checked {
 pub enum Sized {
     Size(u32),
     Refused(Refusal),
+}
+
+// A part of the pool.
+pub struct NamePart {
+    pub place: usize,
+    pub length: usize,
 }
 
 // The answer of the two predicates over a type.
@@ -426,28 +432,44 @@ pub fn datatype_holds_file_address(table: &[u32], pool: &[u8]) -> Held
     }
 }
 
-// The name of the member whose row this is, as the part of the pool that holds it; the empty part at the pool's start for a bad table, a row
-// that is no member's and a row past the type.
-pub fn member_name<'a>(table: &[u32], pool: &'a [u8], row: usize) -> &'a [u8]
-    ensures is { λ r. ⌜ now r ≡ nameOf (now (table .entry)) (now (pool .entry)) row ⌝ }
-    ensures begins { λ r. ⌜ ptr r ≡ further (ptr (pool .entry)) (namePlace (now (table .entry)) (now (pool .entry)) row) ⌝ }
+// Where in the pool the name of the member lies whose row this is; the empty part at the pool's start for a bad table, a row that is no
+// member's and a row past the type.
+pub fn name_part(table: &[u32], pool: &[u8], row: usize) -> NamePart
+    ensures { λ r. ⌜ PartIs (now (table .entry)) (now (pool .entry)) row r ⌝ }
 {
-    let none: usize = 0;
+    let none = NamePart {
+        place: 0,
+        length: 0,
+    };
     let checked = check(table, pool);
     match checked {
-        Checked::Bad => &pool[none..none],
+        Checked::Bad => none,
         Checked::Good(s) => {
             if s.row <= row {
-                return &pool[none..none];
+                return none;
             }
             let at = row * 16;
             let kind = table[at];
             if kind < 12 {
-                return &pool[none..none];
+                return none;
             }
-            let from = table[at + 2] as usize;
-            let to = from + table[at + 3] as usize;
-            &pool[from..to]
+            let place = table[at + 2] as usize;
+            let length = table[at + 3] as usize;
+            NamePart {
+                place: place,
+                length: length,
+            }
         }
     }
+}
+
+// The name of the member whose row this is, as the part of the pool that holds it; the empty part at the pool's start where there is none.
+pub fn member_name<'a>(table: &[u32], pool: &'a [u8], row: usize) -> &'a [u8]
+    ensures is { λ r. ⌜ now r ≡ nameOf (now (table .entry)) (now (pool .entry)) row ⌝ }
+    ensures begins { λ r. ⌜ ptr r ≡ further (ptr (pool .entry)) (namePlace (now (table .entry)) (now (pool .entry)) row) ⌝ }
+{
+    let part = name_part(table, pool, row);
+    let from = part.place;
+    let to = from + part.length;
+    &pool[from..to]
 }

@@ -1,0 +1,18 @@
+use mathlib.Core.Path.{ap}
+use Rattle.compare.specs.Agreeing.{comparisonNumber, comparisonValues}
+use Rattle.abi.proofs.Answers.{told}
+use borrow.Author.Needs.{needs}
+use Rattle.abi.proofs.datatype_compare.Statement.{statement}
+use Rattle.abi.proofs.datatype_compare.Tie as tie
+
+same-requires : tie.Need-same-requires
+same-requires c κs = search needs
+
+of-comparison-requires : tie.Need-of-comparison-requires
+of-comparison-requires c κs = search needs
+
+returns : tie.Need-returns
+returns c = told (c .of-comparison .ensures) (ap comparisonNumber (c .before .same .ensures)) (ap comparisonValues (c .before .same .ensures))
+
+pub datatype-compare-spec : {M : Type 1} → statement M
+datatype-compare-spec = tie.close (tie.spec same-requires of-comparison-requires returns)

@@ -1,0 +1,42 @@
+// The line of each refusal.
+use listing::Listing;
+use listing::list_refusal;
+use refusal::Refusal;
+use show::refusal_line;
+use show::shown_text;
+
+fn line(refusal: Refusal) {
+    let mut out = [7u8; 64];
+    let answer = list_refusal(refusal, &mut out);
+    match answer {
+        Listing::Refused(e) => refusal_line(e),
+        Listing::Listed(n) => shown_text(&out, n),
+    }
+}
+
+pub fn first_half() {
+    line(Refusal::BadTable);
+    line(Refusal::TooDeep);
+    line(Refusal::TooMany);
+    line(Refusal::Short(9, 18446744073709551615));
+    line(Refusal::TooNew(15));
+    line(Refusal::BadClass(12));
+    line(Refusal::BadVersion(6, 0));
+    line(Refusal::BadPadding(3));
+    line(Refusal::BadCharset(2));
+    line(Refusal::BadReferenceKind(2));
+    line(Refusal::PoolFull);
+}
+
+pub fn second_half() {
+    line(Refusal::ZeroSize(11));
+    line(Refusal::NoSuchEdition);
+    line(Refusal::Unstorable);
+    line(Refusal::NotInEdition);
+    line(Refusal::OutsideRecord);
+    line(Refusal::HeapHeld);
+    line(Refusal::WrongLength);
+    line(Refusal::Unmapped);
+    line(Refusal::SlotOutside);
+    line(Refusal::NoRoom(112));
+}

@@ -1,0 +1,5 @@
+pub mod Pieces
+pub mod Shapes
+pub mod Lines
+pub mod Answering
+pub mod Cases

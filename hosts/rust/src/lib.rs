@@ -1,0 +1,348 @@
+//! Safe calls of the proved library of HDF5 datatype messages (HDF5 File Format Specification, IV.A.2.d).
+//!
+//! A type is a table of rows, 16 words a row, and a pool of bytes, both lent by the caller. [`read`] fills them from a message; the other
+//! calls take them. [`ROW`], [`ROWS`] and [`POOL`] say how much of either can be used.
+//!
+//! ```
+//! use datatype_message::{read, same, write, ROW, Refusal};
+//!
+//! // a compound of size 4: a byte at 0 and two bytes at 2
+//! let message = [
+//!     0x36, 2, 0, 0, 4, 0, 0, 0, //
+//!     b'a', 0, 0, 0x10, 0, 0, 0, 1, 0, 0, 0, 0, 0, 8, 0, //
+//!     b'b', 0, 2, 0x10, 0, 0, 0, 2, 0, 0, 0, 0, 0, 16, 0,
+//! ];
+//! let mut table = [0; 8 * ROW];
+//! let mut pool = [0; 64];
+//! assert_eq!(read(&message, 15, &mut table, &mut pool), Ok(38));
+//!
+//! // the byte at 1 belongs to no field
+//! assert_eq!(same(&table, &pool, &[1, 0xFF, 5, 0], &[1, 0, 5, 0]), Ok(true));
+//! assert_eq!(same(&table, &pool, &[1, 0xFF, 5, 0], &[2, 0, 5, 0]), Ok(false));
+//! assert_eq!(same(&table, &pool, &[1, 0xFF, 5], &[1, 0, 5]), Err(Refusal::WrongLength));
+//!
+//! let mut out = [0; 64];
+//! assert_eq!(write(&table, &pool, 3, &mut out), Ok(38));
+//! assert_eq!(out[..38], message);
+//! assert_eq!(write(&table, &pool, 1, &mut out), Err(Refusal::NoRoom { needed: 112 }));
+//! ```
+#![no_std]
+#![warn(missing_docs)]
+
+/// Words in a row of a table.
+pub const ROW: usize = 16;
+/// The most rows of a type.
+pub const ROWS: usize = 4096;
+/// The most pool bytes of a type.
+pub const POOL: usize = 65536;
+
+/// Why a call gives no result, by document 01's numbers.
+#[derive(Debug, Clone, Copy, PartialEq, Eq)]
+pub enum Refusal {
+    /// 1: the table and pool do not set out exactly one type.
+    BadTable,
+    /// 2: level 33 is entered.
+    TooDeep,
+    /// 3: a further row is wanted.
+    TooMany,
+    /// 4: bytes are lacking, counted within the innermost message.
+    Short {
+        /// How far the message would have to reach.
+        expected: u64,
+        /// How many bytes there are.
+        available: u64,
+    },
+    /// 5: a header is above the version limit.
+    TooNew {
+        /// Its version.
+        version: u8,
+    },
+    /// 6: there is no such class.
+    BadClass {
+        /// The class.
+        class: u8,
+    },
+    /// 7: the class has no such version.
+    BadVersion {
+        /// The class.
+        class: u8,
+        /// Its version.
+        version: u8,
+    },
+    /// 8: there is no such string padding.
+    BadPadding {
+        /// The code.
+        code: u8,
+    },
+    /// 9: there is no such character set.
+    BadCharset {
+        /// The code.
+        code: u8,
+    },
+    /// 10: there is no such kind of reference.
+    BadReferenceKind {
+        /// The code.
+        code: u8,
+    },
+    /// 11: a piece does not fit the pool.
+    PoolFull,
+    /// 12: a type of size 0.
+    ZeroSize {
+        /// Its class.
+        class: u8,
+    },
+    /// 13: the edition is not 1, 2 or 3.
+    NoSuchEdition,
+    /// 14: the type cannot be stored in a message.
+    Unstorable,
+    /// 15: an array in edition 1.
+    NotInEdition,
+    /// 16: a member ends past its compound, or an array is too large.
+    OutsideRecord,
+    /// 17: the type holds a variable-length type or a region reference.
+    HeapHeld,
+    /// 18: a record does not have the type's size.
+    WrongLength,
+    /// 19: the references have no slots that could be listed.
+    Unmapped,
+    /// 20: a slot ends past the record.
+    SlotOutside,
+    /// 21: what is lent for the result is too short.
+    NoRoom {
+        /// How much the result needs.
+        needed: u64,
+    },
+}
+
+mod abi {
+    unsafe extern "C" {
+        pub fn datatype_read(data: *const u8, data_length: usize, limit: u32, table: *mut u32, table_length: usize, pool: *mut u8, pool_length: usize, first: *mut u64, second: *mut u64) -> u32;
+        pub fn datatype_write(table: *const u32, table_length: usize, pool: *const u8, pool_length: usize, edition: u32, out: *mut u8, out_length: usize, first: *mut u64, second: *mut u64) -> u32;
+        pub fn datatype_compare(
+            table: *const u32,
+            table_length: usize,
+            pool: *const u8,
+            pool_length: usize,
+            a: *const u8,
+            a_length: usize,
+            b: *const u8,
+            b_length: usize,
+            first: *mut u64,
+            second: *mut u64,
+        ) -> u32;
+        pub fn datatype_size(table: *const u32, table_length: usize, pool: *const u8, pool_length: usize, first: *mut u64, second: *mut u64) -> u32;
+        pub fn datatype_element_size(table: *const u32, table_length: usize, pool: *const u8, pool_length: usize, first: *mut u64, second: *mut u64) -> u32;
+        pub fn datatype_slots(table: *const u32, table_length: usize, pool: *const u8, pool_length: usize, out: *mut u64, out_length: usize, first: *mut u64, second: *mut u64) -> u32;
+        pub fn datatype_references(
+            block: *const u8,
+            block_length: usize,
+            record_size: u64,
+            slots: *const u64,
+            slots_length: usize,
+            places: *mut u64,
+            places_length: usize,
+            values: *mut u64,
+            values_length: usize,
+            first: *mut u64,
+            second: *mut u64,
+        ) -> u32;
+        pub fn datatype_member_name(table: *const u32, table_length: usize, pool: *const u8, pool_length: usize, row: u64, first: *mut u64, second: *mut u64) -> u32;
+        pub fn datatype_holds_object_address(table: *const u32, table_length: usize, pool: *const u8, pool_length: usize, first: *mut u64, second: *mut u64) -> u32;
+        pub fn datatype_holds_file_address(table: *const u32, table_length: usize, pool: *const u8, pool_length: usize, first: *mut u64, second: *mut u64) -> u32;
+        pub fn class_may_hold_object_address(byte: u8) -> u32;
+    }
+}
+
+/// The answer that a number and two values stand for.
+fn answer(number: u32, first: u64, second: u64) -> Result<u64, Refusal> {
+    let code = first as u8;
+    Err(match number {
+        0 => return Ok(first),
+        1 => Refusal::BadTable,
+        2 => Refusal::TooDeep,
+        3 => Refusal::TooMany,
+        4 => Refusal::Short { expected: first, available: second },
+        5 => Refusal::TooNew { version: code },
+        6 => Refusal::BadClass { class: code },
+        7 => Refusal::BadVersion { class: code, version: second as u8 },
+        8 => Refusal::BadPadding { code },
+        9 => Refusal::BadCharset { code },
+        10 => Refusal::BadReferenceKind { code },
+        11 => Refusal::PoolFull,
+        12 => Refusal::ZeroSize { class: code },
+        13 => Refusal::NoSuchEdition,
+        14 => Refusal::Unstorable,
+        15 => Refusal::NotInEdition,
+        16 => Refusal::OutsideRecord,
+        17 => Refusal::HeapHeld,
+        18 => Refusal::WrongLength,
+        19 => Refusal::Unmapped,
+        20 => Refusal::SlotOutside,
+        21 => Refusal::NoRoom { needed: first },
+        _ => unreachable!("the library has refusals 1 to 21"),
+    })
+}
+
+/// A count that the library gives is no greater than the length of a lent slice.
+fn count(n: u64) -> usize {
+    usize::try_from(n).expect("a count within a lent slice")
+}
+
+/// Calls with places for the two values.
+fn ask(call: impl FnOnce(*mut u64, *mut u64) -> u32) -> Result<u64, Refusal> {
+    let (mut first, mut second) = (0, 0);
+    let number = call(&mut first, &mut second);
+    answer(number, first, second)
+}
+
+impl Refusal {
+    /// The number and the values, 0 where there is none.
+    ///
+    /// ```
+    /// use datatype_message::Refusal;
+    /// assert_eq!(Refusal::Short { expected: 8, available: 0 }.number_and_values(), (4, 8, 0));
+    /// ```
+    pub fn number_and_values(self) -> (u32, u64, u64) {
+        match self {
+            Refusal::BadTable => (1, 0, 0),
+            Refusal::TooDeep => (2, 0, 0),
+            Refusal::TooMany => (3, 0, 0),
+            Refusal::Short { expected, available } => (4, expected, available),
+            Refusal::TooNew { version } => (5, version.into(), 0),
+            Refusal::BadClass { class } => (6, class.into(), 0),
+            Refusal::BadVersion { class, version } => (7, class.into(), version.into()),
+            Refusal::BadPadding { code } => (8, code.into(), 0),
+            Refusal::BadCharset { code } => (9, code.into(), 0),
+            Refusal::BadReferenceKind { code } => (10, code.into(), 0),
+            Refusal::PoolFull => (11, 0, 0),
+            Refusal::ZeroSize { class } => (12, class.into(), 0),
+            Refusal::NoSuchEdition => (13, 0, 0),
+            Refusal::Unstorable => (14, 0, 0),
+            Refusal::NotInEdition => (15, 0, 0),
+            Refusal::OutsideRecord => (16, 0, 0),
+            Refusal::HeapHeld => (17, 0, 0),
+            Refusal::WrongLength => (18, 0, 0),
+            Refusal::Unmapped => (19, 0, 0),
+            Refusal::SlotOutside => (20, 0, 0),
+            Refusal::NoRoom { needed } => (21, needed, 0),
+        }
+    }
+}
+
+/// Reads a message, each of its headers held to the version limit (15 or more for none), and gives the number of bytes that it takes,
+/// which is greater than `data.len()` where the padding of a tag at the end is lacking. What is not used of table and pool is zero; all of
+/// both where the message is refused.
+///
+/// ```
+/// use datatype_message::{read, Refusal};
+/// let (mut table, mut pool) = ([0; 16], [0; 8]);
+/// assert_eq!(read(&[], 15, &mut table, &mut pool), Err(Refusal::Short { expected: 8, available: 0 }));
+/// ```
+pub fn read(data: &[u8], limit: u32, table: &mut [u32], pool: &mut [u8]) -> Result<usize, Refusal> {
+    // SAFETY: pointers and lengths are those of the slices, and the slices that are written are borrowed mutably.
+    ask(|first, second| unsafe { abi::datatype_read(data.as_ptr(), data.len(), limit, table.as_mut_ptr(), table.len(), pool.as_mut_ptr(), pool.len(), first, second) }).map(count)
+}
+
+/// Writes the message of the type in edition 1, 2 or 3 to the start of `out`, and gives its length. A refusal leaves `out` as it was.
+pub fn write(table: &[u32], pool: &[u8], edition: u32, out: &mut [u8]) -> Result<usize, Refusal> {
+    // SAFETY: as for `read`.
+    ask(|first, second| unsafe { abi::datatype_write(table.as_ptr(), table.len(), pool.as_ptr(), pool.len(), edition, out.as_mut_ptr(), out.len(), first, second) }).map(count)
+}
+
+/// Whether two records agree on each byte that a field owns.
+pub fn same(table: &[u32], pool: &[u8], a: &[u8], b: &[u8]) -> Result<bool, Refusal> {
+    // SAFETY: as for `read`.
+    ask(|first, second| unsafe { abi::datatype_compare(table.as_ptr(), table.len(), pool.as_ptr(), pool.len(), a.as_ptr(), a.len(), b.as_ptr(), b.len(), first, second) }).map(|n| n == 0)
+}
+
+/// The size of a record in bytes: 16 for a variable-length type, at most 4,294,967,295 for an array.
+pub fn type_size(table: &[u32], pool: &[u8]) -> Result<u32, Refusal> {
+    // SAFETY: as for `read`.
+    ask(|first, second| unsafe { abi::datatype_size(table.as_ptr(), table.len(), pool.as_ptr(), pool.len(), first, second) }).map(|n| n as u32)
+}
+
+/// The same, refused where it is 0.
+pub fn element_size(table: &[u32], pool: &[u8]) -> Result<u32, Refusal> {
+    // SAFETY: as for `read`.
+    ask(|first, second| unsafe { abi::datatype_element_size(table.as_ptr(), table.len(), pool.as_ptr(), pool.len(), first, second) }).map(|n| n as u32)
+}
+
+/// Writes the offsets of the 8-byte object references in a record to the start of `out`, and gives how many there are.
+///
+/// ```
+/// use datatype_message::{embedded_reference_slots, read, stored_object_references};
+/// // an array of two object references
+/// let message = [0x3A, 0, 0, 0, 0, 0, 0, 0, 1, 2, 0, 0, 0, 0x17, 0, 0, 0, 8, 0, 0, 0];
+/// let (mut table, mut pool) = ([0; 32], [0; 4]);
+/// assert_eq!(read(&message, 15, &mut table, &mut pool), Ok(21));
+/// let mut slots = [9; 3];
+/// assert_eq!(embedded_reference_slots(&table, &pool, &mut slots), Ok(2));
+/// assert_eq!(slots, [0, 8, 9]);
+///
+/// let block: Vec<u8> = (0..32).collect();
+/// let (mut places, mut values) = ([0; 4], [0; 4]);
+/// assert_eq!(stored_object_references(&block, 16, &slots[..2], &mut places, &mut values), Ok(4));
+/// assert_eq!(places, [0, 8, 16, 24]);
+/// assert_eq!(values[1], 0x0F0E0D0C0B0A0908);
+/// ```
+pub fn embedded_reference_slots(table: &[u32], pool: &[u8], out: &mut [u64]) -> Result<usize, Refusal> {
+    // SAFETY: as for `read`.
+    ask(|first, second| unsafe { abi::datatype_slots(table.as_ptr(), table.len(), pool.as_ptr(), pool.len(), out.as_mut_ptr(), out.len(), first, second) }).map(count)
+}
+
+/// Writes the places in the block and the values of the references that each whole record has at the slots, and gives how many there are.
+pub fn stored_object_references(block: &[u8], record_size: u64, slots: &[u64], places: &mut [u64], values: &mut [u64]) -> Result<usize, Refusal> {
+    // SAFETY: as for `read`.
+    ask(|first, second| unsafe {
+        abi::datatype_references(
+            block.as_ptr(),
+            block.len(),
+            record_size,
+            slots.as_ptr(),
+            slots.len(),
+            places.as_mut_ptr(),
+            places.len(),
+            values.as_mut_ptr(),
+            values.len(),
+            first,
+            second,
+        )
+    })
+    .map(count)
+}
+
+/// The name of the member at a row: a part of the pool; the empty part at the pool's start where the row is no member's or the table is bad.
+///
+/// ```
+/// use datatype_message::{member_name, read};
+/// let message = [0x36, 1, 0, 0, 1, 0, 0, 0, b'a', b'b', 0, 0, 0x10, 0, 0, 0, 1, 0, 0, 0, 0, 0, 8, 0];
+/// let (mut table, mut pool) = ([0; 48], [0; 8]);
+/// assert_eq!(read(&message, 15, &mut table, &mut pool), Ok(24));
+/// assert_eq!(member_name(&table, &pool, 1), b"ab");
+/// assert_eq!(member_name(&table, &pool, 0), b"");
+/// ```
+pub fn member_name<'a>(table: &[u32], pool: &'a [u8], row: u64) -> &'a [u8] {
+    let (mut place, mut length) = (0, 0);
+    // SAFETY: as for `read`.
+    unsafe { abi::datatype_member_name(table.as_ptr(), table.len(), pool.as_ptr(), pool.len(), row, &mut place, &mut length) };
+    let place = count(place);
+    &pool[place..place + count(length)]
+}
+
+/// Whether the type holds a reference at any level.
+pub fn datatype_holds_object_address(table: &[u32], pool: &[u8]) -> Result<bool, Refusal> {
+    // SAFETY: as for `read`.
+    ask(|first, second| unsafe { abi::datatype_holds_object_address(table.as_ptr(), table.len(), pool.as_ptr(), pool.len(), first, second) }).map(|n| n == 1)
+}
+
+/// Whether the type holds a reference or a variable-length type at any level.
+pub fn datatype_holds_file_address(table: &[u32], pool: &[u8]) -> Result<bool, Refusal> {
+    // SAFETY: as for `read`.
+    ask(|first, second| unsafe { abi::datatype_holds_file_address(table.as_ptr(), table.len(), pool.as_ptr(), pool.len(), first, second) }).map(|n| n == 1)
+}
+
+/// Whether a message with this first byte may hold an object address. Class 11 is not named, though it can hold a reference.
+pub fn class_may_hold_object_address(byte: u8) -> bool {
+    // SAFETY: the call takes a number.
+    unsafe { abi::class_may_hold_object_address(byte) == 1 }
+}

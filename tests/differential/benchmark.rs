@@ -1,0 +1,113 @@
+//! Times the library beside the Rust that it was ported from, `memcmp` and a plain Rust walk: one process, the two sides in turn, the least of
+//! many batches. The table and pool lent to the library are as long as the type needs, so reading clears nothing behind it; the Rust's
+//! times include freeing what it allocates. Each time of the library includes the check of the table that every call starts with, but for
+//! reading.
+#![allow(dead_code, unused_imports)]
+mod bytes;
+mod convert;
+mod datatype;
+mod display;
+mod error;
+mod flat;
+mod message_type;
+mod walk;
+
+use datatype::{CompoundMember, Datatype, DatatypeByteOrder};
+use datatype_message as library;
+use flat::Flat;
+use std::hint::black_box;
+use std::time::Instant;
+
+fn number(size: u32) -> Datatype {
+    Datatype::FixedPoint { size, byte_order: DatatypeByteOrder::LittleEndian, signed: false, bit_offset: 0, bit_precision: (size * 8) as u16 }
+}
+
+/// Members of 4 bytes, so many bytes apart.
+fn flat(members: usize, stride: u32) -> Datatype {
+    let list: Vec<CompoundMember> = (0..members).map(|i| CompoundMember { name: format!("stop_{i}"), byte_offset: i as u64 * u64::from(stride), datatype: number(4) }).collect();
+    Datatype::Compound { size: members as u32 * stride, members: list }
+}
+
+/// The same members in groups of ten, or a hundred where there are many, each a compound.
+fn nested(members: usize, stride: u32) -> Datatype {
+    let (mut groups, mut at) = (Vec::new(), 0);
+    let most = if members < 1000 { 10 } else { 100 };
+    while groups.len() * most < members {
+        let group = flat((members - groups.len() * most).min(most), stride);
+        let size = group.type_size();
+        groups.push(CompoundMember { name: format!("division_{}", groups.len()), byte_offset: at, datatype: group });
+        at += u64::from(size);
+    }
+    Datatype::Compound { size: at as u32, members: groups }
+}
+
+/// Nanoseconds a call, of two calls timed in turn: the least of the batches of each.
+fn times(mut ours: impl FnMut(), mut theirs: impl FnMut()) -> (f64, f64) {
+    fn batch(call: &mut dyn FnMut(), n: u32) -> f64 {
+        let start = Instant::now();
+        for _ in 0..n {
+            call();
+        }
+        start.elapsed().as_nanos() as f64 / f64::from(n)
+    }
+    let mut n = 1;
+    while batch(&mut ours, n) * f64::from(n) < 1e6 && n < 1 << 20 {
+        n *= 2;
+    }
+    let (mut least_ours, mut least_theirs) = (f64::MAX, f64::MAX);
+    for _ in 0..60 {
+        least_ours = least_ours.min(batch(&mut ours, n));
+        least_theirs = least_theirs.min(batch(&mut theirs, n));
+    }
+    (least_ours, least_theirs)
+}
+
+fn line(what: &str, of: &str, members: usize, (ours, theirs): (f64, f64)) {
+    println!("| {what} | {of} | {members} | {ours:.0} | {theirs:.0} | {:.2} |", ours / theirs);
+}
+
+fn main() {
+    println!("| call | type | members | library ns | beside it ns | ratio |");
+    println!("|---|---|---|---|---|---|");
+    for members in [1, 30, 300, 2000] {
+        for (of, make) in [("flat", flat as fn(usize, u32) -> Datatype), ("nested", nested)] {
+            let t = make(members, 4);
+            let rows = Flat::of(&t);
+            let (table, pool, message) = (rows.words(), rows.pool.clone(), t.serialize());
+            let (mut words, mut bytes) = (table.clone(), pool.clone());
+            line("read, parse", of, members, times(|| drop(black_box(library::read(black_box(&message), 15, &mut words, &mut bytes))), || drop(black_box(Datatype::parse(black_box(&message))))));
+            let mut out = vec![0; message.len()];
+            line("write, serialize", of, members, times(|| drop(black_box(library::write(&table, &pool, 3, black_box(&mut out)))), || drop(black_box(black_box(&t).serialize()))));
+        }
+    }
+    for members in [1, 30, 300, 2000] {
+        for (of, make) in [("flat", flat as fn(usize, u32) -> Datatype), ("nested", nested)] {
+            for (records, stride) in [("packed", 4), ("gapped", 8)] {
+                let t = make(members, stride);
+                let rows = Flat::of(&t);
+                let (table, pool) = (rows.words(), rows.pool.clone());
+                let a = vec![1u8; t.type_size() as usize];
+                let mut b = a.clone();
+                if records == "gapped" {
+                    b.iter_mut().enumerate().filter(|(i, _)| i % 8 >= 4).for_each(|(_, x)| *x = 2);
+                }
+                let same = library::same(&table, &pool, &a, &b);
+                assert_eq!(same, Ok(true));
+                let kind = format!("{of}, {records}");
+                line("same, plain walk", &kind, members, times(|| drop(black_box(library::same(&table, &pool, black_box(&a), &b))), || drop(black_box(walk::agree(&t, black_box(&a), &b)))));
+                line("same, checked plain walk", &kind, members, times(|| drop(black_box(library::same(&table, &pool, black_box(&a), &b))), || drop(black_box(walk::same(&t, black_box(&a), &b)))));
+            }
+        }
+    }
+    // equal packed records: what comparing costs beside the checks that type_size makes too
+    for size in [4096, 1 << 20] {
+        let t = Datatype::Array { base_type: Box::new(number(4)), dimensions: vec![size / 4] };
+        let rows = Flat::of(&t);
+        let (table, pool) = (rows.words(), rows.pool.clone());
+        let a = vec![1u8; size as usize];
+        let b = a.clone();
+        let (checks, _) = times(|| drop(black_box(library::type_size(black_box(&table), &pool))), || ());
+        let (whole, compared) = times(|| drop(black_box(library::same(&table, &pool, black_box(&a), &b))), || drop(black_box(black_box(&a[..]) == black_box(&b[..]))));
+        println!("| same, memcmp | array of {size} equal bytes | 0 | {whole:.0}, its checks {checks:.0} | {compared:.0} | {:.2}, without the checks {:.2} |", whole / compared, (whole - checks) / compared);
+    }
+}

@@ -1,0 +1,97 @@
+//! What was compared, and what document 01 leaves out of the comparison.
+#[derive(Clone, Copy)]
+pub enum Call {
+    Read,
+    Write,
+    ReadBack,
+    Size,
+    Predicates,
+    Slots,
+    References,
+    Same,
+}
+
+pub const CALLS: [&str; 8] = ["read", "write", "written and read by the Rust", "sizes", "predicates", "slots", "references", "same"];
+
+#[derive(Default)]
+pub struct Counts {
+    pub compared: [u64; 8],
+    pub left_out: [u64; 8],
+    /// By call and number of the answer, 0 for a result.
+    pub numbers: [[u64; 22]; 8],
+    /// Types read, by class and version of the outermost header, and by levels.
+    pub classes: [u64; 12],
+    pub versions: [u64; 16],
+    pub levels: Vec<u64>,
+    /// Messages written, by edition.
+    pub editions: [u64; 4],
+}
+
+impl Counts {
+    pub fn new() -> Counts {
+        Counts { levels: vec![0; 33], ..Counts::default() }
+    }
+
+    pub fn compared(&mut self, call: Call, number: u32) {
+        self.compared[call as usize] += 1;
+        self.numbers[call as usize][number as usize] += 1;
+    }
+
+    pub fn left_out(&mut self, call: Call, number: u32) {
+        self.left_out[call as usize] += 1;
+        self.numbers[call as usize][number as usize] += 1;
+    }
+
+    pub fn total(&self) -> u64 {
+        self.compared.iter().sum()
+    }
+
+    pub fn print(&self) {
+        for (i, name) in CALLS.iter().enumerate() {
+            let met: Vec<String> = self.numbers[i].iter().enumerate().filter(|(_, n)| **n > 0).map(|(k, n)| format!("{k}: {n}")).collect();
+            println!("{name}: {} compared, {} left out; by number {}", self.compared[i], self.left_out[i], met.join(", "));
+        }
+        println!("types read, by class {:?}", self.classes);
+        println!("types read, by version {:?}", self.versions);
+        println!("types read, by levels {:?}", &self.levels[1..]);
+        println!("messages written, by edition {:?}", &self.editions[1..]);
+    }
+
+    /// What was tried less often than it must be.
+    pub fn lacking(&self, least: u64) -> Vec<String> {
+        let mut lacking = Vec::new();
+        let mut want = |n: u64, least: u64, what: String| {
+            if n < least {
+                lacking.push(format!("{what}: {n} of {least}"));
+            }
+        };
+        let wanted: [(Call, &[u32]); 8] = [
+            (Call::Read, &[0, 2, 3, 4, 6, 7, 8, 9, 10, 11, 12]),
+            (Call::Write, &[0, 1, 13, 14, 15, 21]),
+            (Call::ReadBack, &[0]),
+            (Call::Size, &[0, 1, 12]),
+            (Call::Predicates, &[0, 1]),
+            (Call::Slots, &[0, 1, 12, 19, 21]),
+            (Call::References, &[0, 20, 21]),
+            (Call::Same, &[0, 1, 12, 16, 17, 18]),
+        ];
+        for (call, numbers) in wanted {
+            for n in numbers {
+                want(self.numbers[call as usize][*n as usize], least, format!("{}, number {n}", CALLS[call as usize]));
+            }
+        }
+        for (class, n) in self.classes.iter().enumerate() {
+            want(*n, least, format!("class {class}"));
+        }
+        for (version, n) in self.versions.iter().enumerate() {
+            want(*n, least, format!("version {version}"));
+        }
+        for (level, n) in self.levels.iter().enumerate().skip(1) {
+            want(*n, least.min(20), format!("{level} levels"));
+        }
+        for (edition, n) in self.editions.iter().enumerate().skip(1) {
+            want(*n, least, format!("edition {edition}"));
+        }
+        lacking
+    }
+}

@@ -1,0 +1,111 @@
+//! A plain walk over the oracle's type: what document 01 says of comparing and of Storable, which the Rust has no functions for.
+use crate::datatype::{Datatype, DatatypeByteOrder, ReferenceType};
+
+/// The types directly inside a type.
+pub fn inside(t: &Datatype) -> Vec<&Datatype> {
+    match t {
+        Datatype::Compound { members, .. } => members.iter().map(|m| &m.datatype).collect(),
+        Datatype::Enumeration { base_type, .. } | Datatype::VariableLength { base_type, .. } | Datatype::Array { base_type, .. } => vec![base_type],
+        _ => vec![],
+    }
+}
+
+/// Some type at any level, in reading order.
+fn first<'a>(t: &'a Datatype, test: &dyn Fn(&Datatype) -> bool) -> Option<&'a Datatype> {
+    if test(t) {
+        return Some(t);
+    }
+    inside(t).into_iter().find_map(|i| first(i, test))
+}
+
+fn true_size(t: &Datatype) -> u128 {
+    match t {
+        Datatype::Array { base_type, dimensions } => dimensions.iter().fold(true_size(base_type), |n, d| n.saturating_mul(u128::from(*d))),
+        _ => u128::from(t.type_size()),
+    }
+}
+
+/// The class of the first type of size 0.
+pub fn zero_class(t: &Datatype) -> Option<u8> {
+    first(t, &|t| t.type_size() == 0).map(Datatype::class_code)
+}
+
+fn outside(t: &Datatype) -> bool {
+    match t {
+        Datatype::Compound { size, members } => members.iter().any(|m| m.byte_offset + u64::from(m.datatype.type_size()) > u64::from(*size)),
+        Datatype::Array { .. } => true_size(t) > u128::from(u32::MAX),
+        _ => false,
+    }
+}
+
+fn heap_held(t: &Datatype) -> bool {
+    matches!(t, Datatype::VariableLength { .. } | Datatype::Reference { ref_type: ReferenceType::DatasetRegion, .. })
+}
+
+/// Compares two records: the number of a refusal with its value, or whether they are the same.
+pub fn same(t: &Datatype, a: &[u8], b: &[u8]) -> Result<bool, (u32, u64)> {
+    if let Some(class) = zero_class(t) {
+        return Err((12, class.into()));
+    }
+    if first(t, &outside).is_some() {
+        return Err((16, 0));
+    }
+    if first(t, &heap_held).is_some() {
+        return Err((17, 0));
+    }
+    let size = t.type_size() as usize;
+    if a.len() != size || b.len() != size {
+        return Err((18, 0));
+    }
+    Ok(agree(t, a, b))
+}
+
+/// Whether two records of an admitted type agree on what its fields own: the walk that a Rust programmer would write.
+pub fn agree(t: &Datatype, a: &[u8], b: &[u8]) -> bool {
+    match t {
+        Datatype::Compound { members, .. } => members.iter().all(|m| {
+            let from = m.byte_offset as usize;
+            let to = from + m.datatype.type_size() as usize;
+            agree(&m.datatype, &a[from..to], &b[from..to])
+        }),
+        Datatype::Array { base_type, .. } => {
+            let stride = base_type.type_size() as usize;
+            a.chunks_exact(stride).zip(b.chunks_exact(stride)).all(|(a, b)| agree(base_type, a, b))
+        }
+        _ => a == b,
+    }
+}
+
+fn unstorable(t: &Datatype) -> bool {
+    let vax = |o: &DatatypeByteOrder| matches!(o, DatatypeByteOrder::Vax);
+    t.type_size() == 0
+        || match t {
+            Datatype::FixedPoint { byte_order, .. } | Datatype::Time { byte_order, .. } | Datatype::BitField { byte_order, .. } => vax(byte_order),
+            Datatype::FloatingPoint { size, .. } => *size > 536_870_911,
+            Datatype::Opaque { tag, .. } => tag.len() > 255,
+            Datatype::Compound { size, members } => {
+                let greatest = if *size <= 255 { 255 } else if *size <= 65535 { 65535 } else { u64::from(u32::MAX) };
+                members.len() > 65535 || members.iter().any(|m| m.byte_offset > greatest || m.name.contains('\0'))
+            }
+            Datatype::Enumeration { base_type, members, .. } => {
+                members.len() > 65535 || members.iter().any(|m| m.name.contains('\0') || m.value.len() as u64 != u64::from(base_type.type_size()))
+            }
+            Datatype::VariableLength { is_string, padding, charset, .. } => padding.is_some() != *is_string || charset.is_some() != *is_string,
+            Datatype::Array { dimensions, .. } => dimensions.len() > 255,
+            _ => false,
+        }
+}
+
+/// The refusal of writing in an edition, if there is one.
+pub fn not_written(t: &Datatype, edition: u32) -> Option<u32> {
+    if !(1..=3).contains(&edition) {
+        return Some(13);
+    }
+    if first(t, &unstorable).is_some() {
+        return Some(14);
+    }
+    if edition == 1 && first(t, &|t| matches!(t, Datatype::Array { .. })).is_some() {
+        return Some(15);
+    }
+    None
+}
