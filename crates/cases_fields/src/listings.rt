@@ -18,6 +18,11 @@ fn listing_lines(answer: Listing, out: &[u8]) {
     }
 }
 
+fn list_and_show(table: &[u32], pool: &[u8], out: &mut [u8]) {
+    let answer = list_fields(table, pool, out);
+    listing_lines(answer, out);
+}
+
 // The listing of the type of a message, into so many bytes, at most 1,024.
 fn listed(label: &[u8], message: &[u8], room: usize) {
     let mut table = [7u32; 1024];
@@ -31,10 +36,7 @@ fn listed(label: &[u8], message: &[u8], room: usize) {
     let got = reader::read(message, 15, &mut table, &mut pool);
     match got {
         Reading::Refused(e) => refusal_line(e),
-        Reading::Read(_) => {
-            let answer = list_fields(&table, &pool, &mut out[..room]);
-            listing_lines(answer, &out);
-        }
+        Reading::Read(_) => list_and_show(&table, &pool, &mut out[..room]),
     }
 }
 
@@ -66,6 +68,10 @@ pub fn type_cases() {
     );
 }
 
+fn deep(message: &[u8; 256]) {
+    listed(b"31 sequences round R", message, 1024);
+}
+
 // 31 sequences round R: 32 levels.
 pub fn depth_case() {
     let mut message = [0u8; 256];
@@ -77,7 +83,7 @@ pub fn depth_case() {
     }
     message[248] = 0x17;
     message[252] = 8;
-    listed(b"31 sequences round R", &message, 1024);
+    deep(&message);
 }
 
 pub fn refused_cases() {
@@ -94,6 +100,5 @@ pub fn refused_cases() {
     let table = [0u32; 16];
     let mut out = [7u8; 64];
     text(b"no type: ");
-    let answer = list_fields(&table, b"", &mut out);
-    listing_lines(answer, &out);
+    list_and_show(&table, b"", &mut out);
 }
