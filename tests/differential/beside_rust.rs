@@ -16,7 +16,7 @@ mod walk;
 
 fn main() {
     let argument = |n: usize, default: u64| std::env::args().nth(n).and_then(|s| s.parse().ok()).unwrap_or(default);
-    let (seed, rounds, least) = (argument(1, 1), argument(2, 20_000), argument(3, 100));
+    let (seed, rounds, least) = (argument(1, 1), argument(2, 6000), argument(3, 50));
     let mut counts = counts::Counts::new();
     generate::run(seed, rounds, &mut counts);
     counts.print();

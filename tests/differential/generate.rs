@@ -198,7 +198,7 @@ fn text(r: &mut Random) -> String {
 }
 
 fn leaf(r: &mut Random) -> Datatype {
-    let size = if r.below(60) == 0 { size(r) } else { 1 + r.below(8) as u32 };
+    let size = if r.below(12) == 0 { size(r) } else { 1 + r.below(8) as u32 };
     match r.below(7) {
         0 => Datatype::FixedPoint { size, byte_order: order(r), signed: r.below(2) == 0, bit_offset: r.next() as u16, bit_precision: r.next() as u16 },
         1 => Datatype::FloatingPoint {

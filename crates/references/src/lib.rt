@@ -104,7 +104,7 @@ fn store_records(
 }
 
 // Record size 0 counts as 1.
-fn at_least_one(record_size: u64) -> u64
+pub fn at_least_one(record_size: u64) -> u64
     ensures { λ r. ⌜ (r ≡ recordSize record_size) × (1 ≤ r) ⌝ }
 {
     if record_size == 0 {

@@ -1,4 +1,4 @@
-// Lines on standard output for the programs of cases: text, numbers, a refusal, and what a message reads as.
+// Lines on standard output for the programs: text, numbers, a refusal, and what a message reads as.
 use reading::Reading;
 use refusal::Refusal;
 ghost use lib.ListN.{length};
@@ -38,7 +38,6 @@ pub fn shown_bytes(s: &[u8], count: usize) {
     }
 }
 
-// `refused`, number and values.
 // So many bytes as they are, if there are so many.
 pub fn shown_text(s: &[u8], count: usize) {
     if count <= s.len() {
@@ -46,6 +45,7 @@ pub fn shown_text(s: &[u8], count: usize) {
     }
 }
 
+// `refused`, number and values.
 pub fn refusal_line(e: Refusal) {
     let values = refusal::values(e);
     text(b"refused ");

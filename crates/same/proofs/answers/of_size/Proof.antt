@@ -1,0 +1,62 @@
+use Rattle.same.proofs.Answering.{past-first, past-second, are-same, are-not, not-compared}
+use borrow.Author.Needs.{needs}
+use Rattle.same.proofs.answers.of_size.Statement.{statement}
+use Rattle.same.proofs.answers.of_size.Tie as tie
+
+record-count-requires : tie.Need-record-count-requires
+record-count-requires c κs = search needs
+
+returns : tie.Need-returns
+returns c =
+    let k = c .before .record-count in
+    past-first _ _ _ _ _ _ (k .result) (k .ensures) (c .if1 .taken)
+
+returns-2 : tie.Need-returns-2
+returns-2 c =
+    let k = c .before .before .record-count in
+    past-second _ _ _ _ _ _ (k .result) (k .ensures) (c .before .if1 .left) (c .if2 .taken)
+
+compare-records-requires : tie.Need-compare-records-requires
+compare-records-requires c κs = search needs
+
+enum-told : tie.Need-enum-told
+enum-told c = search needs
+
+enum-told-2 : tie.Need-enum-told-2
+enum-told-2 c = search needs
+
+enum-known-compared : tie.Need-enum-known-compared
+enum-known-compared c = search needs
+
+returns-3 : tie.Need-returns-3
+returns-3 c =
+    let k = c .before .before .before .before .before .record-count in
+    let w = c .before .before .compare-records in
+    are-same _ _ _ _ _ _ (k .result) (k .ensures) (c .before .before .before .before .if1 .left) (c .before .before .before .if2 .left) (w .result) (w .ensures) (c .enum-told .given .1)
+
+returns-4 : tie.Need-returns-4
+returns-4 c =
+    let k = c .before .before .before .before .before .record-count in
+    let w = c .before .before .compare-records in
+    are-not _ _ _ _ _ _ (k .result) (k .ensures) (c .before .before .before .before .if1 .left) (c .before .before .before .if2 .left) (w .result) (w .ensures) (c .enum-told2 .given .1)
+
+returns-5 : tie.Need-returns-5
+returns-5 c =
+    let k = c .before .before .before .before .before .before .record-count in
+    let w = c .before .before .before .compare-records in
+    not-compared _ _ _ _ _ _ (k .result) (k .ensures) (c .before .before .before .before .before .if1 .left) (c .before .before .before .before .if2 .left) (w .result) (w .ensures) (c .before .compared .given .1)
+
+pub of-size-spec : {M : Type 1} → statement M
+of-size-spec =
+    tie.close
+    (tie.spec
+    record-count-requires
+    returns
+    returns-2
+    compare-records-requires
+    enum-told
+    enum-told-2
+    enum-known-compared
+    returns-3
+    returns-4
+    returns-5)

@@ -1,0 +1,88 @@
+use Prim.Native.Nat.{_-_, _≤_}
+use mathlib.Core.Path.{_≡_, sym, _∙_}
+use native.Mathlib.Omega.{arith}
+use borrow.Author.Needs.{needs}
+use lib.ListN.{length, drop}
+use Rattle.same.specs.Numbers.{decimalFrom, decimalOf}
+use Rattle.same.proofs.Decimals.{no-digits, some-digits, all-digits, below-digits, above-digits, too-large, next-digit}
+use Rattle.same.proofs.numbers.decimal.Statement.{statement}
+use Rattle.same.proofs.numbers.decimal.Tie as tie
+
+abbrev Inv-loop : tie.InvT-loop
+Inv-loop s value₀ i₀ value i = (i ≤ length s) × (decimalOf s ≡ decimalFrom value (drop i s))
+
+abbrev μ-loop : tie.MeasureT-loop
+μ-loop s value₀ i₀ value i = length s - i
+
+returns : tie.Need-returns Inv-loop μ-loop
+returns c = no-digits _ (c .if1 .taken)
+
+loop-holds : tie.Need-loop-holds Inv-loop μ-loop
+loop-holds c = (omega arith, some-digits _ (c .if1 .left))
+
+shared-slice-read-wide : tie.Need-shared-slice-read-wide Inv-loop μ-loop
+shared-slice-read-wide c = omega arith
+
+wide-requires : tie.Need-wide-requires Inv-loop μ-loop
+wide-requires c κs = search needs
+
+returns-2 : tie.Need-returns-2 Inv-loop μ-loop
+returns-2 c =
+    let l = c .before .before .before .before .loop in
+    below-digits _ (l .value) (l .i) (c .before .wide .result) (omega arith) (c .before .wide .ensures) (omega arith) ∙ sym (l .inv .1)
+
+returns-3 : tie.Need-returns-3 Inv-loop μ-loop
+returns-3 c =
+    let l = c .before .before .before .before .before .loop in
+    above-digits _ (l .value) (l .i) (c .before .before .wide .result) (omega arith) (c .before .before .wide .ensures) (omega arith) (omega arith) ∙ sym (l .inv .1)
+
+sub-if4 : tie.Need-sub-if4 Inv-loop μ-loop
+sub-if4 c = omega arith
+
+returns-4 : tie.Need-returns-4 Inv-loop μ-loop
+returns-4 c =
+    let l = c .before .before .before .before .before .before .loop in
+    too-large _ (l .value) (l .i) (c .before .before .before .wide .result) (omega arith) (c .before .before .before .wide .ensures) (omega arith) (omega arith) (omega arith) ∙ sym (l .inv .1)
+
+mul-value : tie.Need-mul-value Inv-loop μ-loop
+mul-value c = omega arith
+
+add-value : tie.Need-add-value Inv-loop μ-loop
+add-value c = omega arith
+
+add-i : tie.Need-add-i Inv-loop μ-loop
+add-i c = omega arith
+
+loop-less : tie.Need-loop-less Inv-loop μ-loop
+loop-less c = omega arith
+
+loop-again : tie.Need-loop-again Inv-loop μ-loop
+loop-again c =
+    let l = c .before .before .before .before .before .before .loop in
+    (omega arith, l .inv .1 ∙ next-digit _ (l .value) (l .i) (c .before .before .before .wide .result) (omega arith) (c .before .before .before .wide .ensures) (omega arith) (omega arith) (omega arith))
+
+returns-5 : tie.Need-returns-5 Inv-loop μ-loop
+returns-5 c =
+    let l = c .before .loop in
+    all-digits _ (l .value) (l .i) (omega arith) ∙ sym (l .inv .1)
+
+pub decimal-spec : {M : Type 1} → statement M
+decimal-spec =
+    tie.close
+    (tie.spec
+    Inv-loop
+    μ-loop
+    returns
+    loop-holds
+    shared-slice-read-wide
+    wide-requires
+    returns-2
+    returns-3
+    sub-if4
+    returns-4
+    mul-value
+    add-value
+    add-i
+    loop-less
+    loop-again
+    returns-5)
