@@ -118,13 +118,22 @@ fn member_if(known: bool, member: Member) -> Member
     if known { member } else { Member::Unnamed }
 }
 
-// Whether columns `from` up to `to` are zero.
+// Whether columns `from` up to `to` are zero: without leaving early, as above.
 fn clear_columns(table: &[u32], row: usize, from: usize, to: usize) -> bool
     requires { ⌜ (row * 16 + 16 ≤ length (now table)) × ((from ≤ to) × (to ≤ 16)) ⌝ }
     ensures { λ r. ⌜ r ≡ clearColumns (now (table .entry)) row from to ⌝ }
 {
-    let at = row * 16;
-    clear_words(table, at + from, at + to)
+    let at = row * 16 + from;
+    let n = to - from;
+    let mut count: u32 = 0;
+    let mut i = 0;
+    while i < n {
+        if table[at + i] != 0 {
+            count += 1;
+        }
+        i += 1;
+    }
+    count == 0
 }
 
 // The row of a leaf: columns 2 to 4, 6 up to `from`, and from `to` on are zero, and the code in column 5 is below `limit`.
