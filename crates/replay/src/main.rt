@@ -1,0 +1,16 @@
+// Runs the samples of the two files that its arguments name, and writes for each whether the library answers as the file says.
+mod differences;
+mod entries;
+mod files;
+mod lines;
+
+fn main() {
+    replay(1);
+    replay(2);
+}
+
+// Runs the file that an argument names.
+fn replay(argument: usize) {
+    let mut bytes = [0u8; 1048576];
+    files::named(argument, &mut bytes);
+}
