@@ -1,10 +1,8 @@
 // The lines that the program writes.
 use crate::differences::Outcome;
+use show::number;
+use show::text;
 ghost use Prim.Native.Nat.{_≤_};
-
-fn text(s: &[u8]) {
-    io::write_all(1, s);
-}
 
 // A line on a file.
 pub fn file_line(name: &[u8], what: &[u8]) {
@@ -38,7 +36,7 @@ pub fn entry_line(name: &[u8], entry: u64, outcome: Outcome) -> u64
     }
     text(name);
     text(b": entry ");
-    io::print_decimal(1, entry);
+    number(entry);
     text(b" ");
     words(outcome);
     text(b"\n");
@@ -50,7 +48,7 @@ pub fn end_line(name: &[u8], entries: u64, lines: u64) {
     if lines == 0 {
         text(name);
         text(b": ");
-        io::print_decimal(1, entries);
+        number(entries);
         text(b" entries, as expected\n");
     }
 }
