@@ -58,24 +58,28 @@ pub fn write_uint(out: &mut [u8], offset: usize, width: usize, value: u32)
     }
 }
 
+// The low four bits of a byte.
 pub fn low4(b: u8) -> u8
     ensures { λ r. ⌜ (r ≡ lowBits 4 b) × (r < 16) ⌝ }
 {
     b & 15
 }
 
+// The high four bits of a byte.
 pub fn high4(b: u8) -> u8
     ensures { λ r. ⌜ (r ≡ highBits 4 b) × (r < 16) ⌝ }
 {
     b >> 4
 }
 
+// Bit 0 of a byte.
 pub fn bit0(b: u8) -> u32
     ensures { λ r. ⌜ (r ≡ bitAt 0 b) × (r < 2) ⌝ }
 {
     wide32(b & 1)
 }
 
+// Bit 3 of a byte.
 pub fn bit3(b: u8) -> u32
     ensures { λ r. ⌜ (r ≡ bitAt 3 b) × (r < 2) ⌝ }
 {
@@ -89,6 +93,7 @@ pub fn float_order(f0: u8) -> u32
     if ((f0 >> 6) & 1) == 1 { 2 } else { bit0(f0) }
 }
 
+// The first byte of a header.
 pub fn class_and_version(class: u8, version: u8) -> u8
     requires { ⌜ (class < 16) × (version < 16) ⌝ }
     ensures { λ r. ⌜ r ≡ classAndVersion class version ⌝ }
@@ -96,6 +101,7 @@ pub fn class_and_version(class: u8, version: u8) -> u8
     class | (version << 4)
 }
 
+// f0 of a fixed type or a bit field: order and sign.
 pub fn fixed_flags(order: u32, signed: u32) -> u8
     requires { ⌜ (order < 2) × (signed < 2) ⌝ }
     ensures { λ r. ⌜ r ≡ fixedFlags order signed ⌝ }
@@ -103,6 +109,7 @@ pub fn fixed_flags(order: u32, signed: u32) -> u8
     (order | (signed << 3)) as u8
 }
 
+// f0 of a float: bit 5, and the order.
 pub fn float_flags(order: u32) -> u8
     requires { ⌜ order < 3 ⌝ }
     ensures { λ r. ⌜ r ≡ floatFlags order ⌝ }
@@ -114,6 +121,7 @@ pub fn float_flags(order: u32) -> u8
     }
 }
 
+// A byte of its low and its high four bits.
 pub fn nibbles_of(low: u32, high: u32) -> u8
     requires { ⌜ (low < 16) × (high < 16) ⌝ }
     ensures { λ r. ⌜ r ≡ nibbles low high ⌝ }
@@ -183,6 +191,7 @@ pub fn permutation_bytes(version: u8, rank: usize) -> usize
     }
 }
 
+// Stores a row whole.
 pub fn put_row(table: &mut [u32], row: usize, words: [u32; 16])
     requires { ⌜ (row * 16 + 16 ≤ length (now table)) × (length words ≡ 16) ⌝ }
     ensures { λ _. ⌜ now (table .exit) ≡ sets (now (table .entry)) (row * 16) words ⌝ }
@@ -231,18 +240,21 @@ pub fn zero_bytes(pool: &mut [u8], from: usize)
     }
 }
 
+// The lesser of two.
 pub fn least(a: usize, b: usize) -> usize
     ensures { λ r. ⌜ r ≡ min a b ⌝ }
 {
     if a < b { a } else { b }
 }
 
+// A byte as a word.
 pub fn wide32(x: u8) -> u32
     ensures { λ r. ⌜ (r ≡ x) × (r < 256) ⌝ }
 {
     x as u32
 }
 
+// A byte as a size.
 pub fn wide(x: u8) -> usize
     ensures { λ r. ⌜ (r ≡ x) × (r < 256) ⌝ }
 {

@@ -14,6 +14,7 @@ fn past_line(i: u64, count: u64, size: u64) {
     text(b" bytes, numbered from 0\n");
 }
 
+// Writes the line of an answer.
 pub fn answer_line(answer: Answer) {
     match answer {
         Answer::Same => text(b"same\n"),

@@ -4,10 +4,12 @@ use refusal::Refusal;
 ghost use lib.ListN.{length};
 ghost use Prim.Native.Nat.{_≤_};
 
+// Writes bytes as they are.
 pub fn text(s: &[u8]) {
     io::write_all(1, s);
 }
 
+// Writes a number in decimal.
 pub fn number(n: u64) {
     io::print_decimal(1, n);
 }

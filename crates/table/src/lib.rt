@@ -127,6 +127,7 @@ pub fn scaled(pool: &[u8], place: usize, rank: u32, size: u32) -> u64
     total
 }
 
+// At most 4,294,967,295.
 pub fn capped(total: u64) -> u32
     ensures { λ r. ⌜ r ≡ min total 4294967295 ⌝ }
 {
