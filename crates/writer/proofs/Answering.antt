@@ -33,7 +33,7 @@ use Rattle.writer_parts.specs.Places.{Stands}
 use Rattle.writer_parts.specs.declared.Put.{Put}
 use Rattle.writer_parts.specs.declared.Put.the-variants.{At, Lost}
 use Rattle.writer_parts.specs.declared.Written.{Written}
-use Rattle.writer.specs.Writes.{PutsType, answerOf, Answers, WritesType}
+use Rattle.writer.specs.Writes.{PutsType, writingNumber, writingValues, outcomeNumber, outcomeValues, answerOf, Answers, WritesType}
 use Rattle.writer.specs.declared.Writing.{Writing}
 use Rattle.writer.specs.declared.Writing.the-variants.{Written as AnswerWritten, Refused as AnswerRefused}
 use Rattle.writer.proofs.Compounds.{found-puts}
@@ -42,12 +42,24 @@ use Rattle.writer.proofs.Compounds.{found-puts}
 
 module _ {o : Outcome (List ℕ)} {out : List ℕ} where
   refused : {e : Refusal} → o ≡ refuses e → Answers o (AnswerRefused e) out out
-  unfolding answerOf outputAfter
-  refused h = record { answer = sym (ap answerOf h); out-is = sym (ap (outputAfter out) h) }
+  unfolding answerOf writingNumber writingValues outcomeNumber outcomeValues outputAfter
+  refused h =
+      record {
+        answer = sym (ap answerOf h);
+        number = sym (ap outcomeNumber h);
+        values = sym (ap outcomeValues h);
+        out-is = sym (ap (outputAfter out) h);
+      }
 
   given : {s out′ : List ℕ} {n : ℕ} → o ≡ gives s → n ≡ length s → out′ ≡ s ++ drop (length s) out → Answers o (AnswerWritten n) out out′
-  unfolding answerOf outputAfter
-  given h e w = record { answer = ap AnswerWritten e ∙ sym (ap answerOf h); out-is = w ∙ sym (ap (outputAfter out) h) }
+  unfolding answerOf writingNumber writingValues outcomeNumber outcomeValues outputAfter
+  given h e w =
+      record {
+        answer = ap AnswerWritten e ∙ sym (ap answerOf h);
+        number = sym (ap outcomeNumber h);
+        values = ap (λ (n : ℕ). n ∷ []) e ∙ sym (ap outcomeValues h);
+        out-is = w ∙ sym (ap (outputAfter out) h);
+      }
 
 at-start : (s out : List ℕ) → 0 + length s ≤ length out → sets out 0 s ≡ s ++ drop (length s) out
 at-start s out h = sets-eq s out 0 h ∙ rw (zero-add (length s))
