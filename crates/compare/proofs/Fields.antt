@@ -19,30 +19,30 @@ use Rattle.compare.proofs.Ranges.{answers-as}
 
 -- ---- the rows that are a field's
 
-module _ {x e : Entry} (q : x ≡ e) where
-  pub leaf-is : {c n l y : ℕ} → x ≡ Leaf c n l y → true ≡ isField e
+module _ {e : Entry} where
+  pub leaf-is : {c n l y : ℕ} → e ≡ Leaf c n l y → true ≡ isField e
   unfolding isField
-  leaf-is h = ap isField (sym h ∙ q)
+  leaf-is h = ap isField (sym h)
 
-  pub enumeration-is : {n k : ℕ} → x ≡ Enumeration n k → true ≡ isField e
+  pub enumeration-is : {n k : ℕ} → e ≡ Enumeration n k → true ≡ isField e
   unfolding isField
-  enumeration-is h = ap isField (sym h ∙ q)
+  enumeration-is h = ap isField (sym h)
 
-  pub compound-is-not : {n k : ℕ} → x ≡ Compound n k → false ≡ isField e
+  pub compound-is-not : {n k : ℕ} → e ≡ Compound n k → false ≡ isField e
   unfolding isField
-  compound-is-not h = ap isField (sym h ∙ q)
+  compound-is-not h = ap isField (sym h)
 
-  pub variableLength-is-not : {i a c : ℕ} → x ≡ VariableLength i a c → false ≡ isField e
+  pub variableLength-is-not : {i a c : ℕ} → e ≡ VariableLength i a c → false ≡ isField e
   unfolding isField
-  variableLength-is-not h = ap isField (sym h ∙ q)
+  variableLength-is-not h = ap isField (sym h)
 
-  pub array-is-not : {k : ℕ} → x ≡ Array k → false ≡ isField e
+  pub array-is-not : {k : ℕ} → e ≡ Array k → false ≡ isField e
   unfolding isField
-  array-is-not h = ap isField (sym h ∙ q)
+  array-is-not h = ap isField (sym h)
 
-  pub unknown-is-not : x ≡ Unknown → false ≡ isField e
+  pub unknown-is-not : e ≡ Unknown → false ≡ isField e
   unfolding isField
-  unknown-is-not h = ap isField (sym h ∙ q)
+  unknown-is-not h = ap isField (sym h)
 
 -- ---- all n bytes are owned
 

@@ -21,8 +21,7 @@ use Rattle.rows.specs.declared.Member.{Member}
 use Rattle.rows.specs.declared.Member.the-variants.{Named, Unnamed}
 use Rattle.rows.proofs.Decode.{membersAt-entry}
 use Rattle.table.specs.declared.Spot.{Spot}
-use Rattle.compare.specs.Agreeing.{topOf, Admitted, AdmittedIn, Agreement, Apartness, Answers, Agrees, AgreesIn, AgreesEach}
-use Rattle.compare.specs.declared.Path.{Path}
+use Rattle.compare.specs.Agreeing.{Admitted, AdmittedIn, Agreement, Apartness, Answers, Agrees, AgreesIn, AgreesEach}
 use Rattle.compare.specs.declared.Agreed.{Agreed}
 use Rattle.compare.specs.declared.Agreed.the-variants.{Apart, Together, Lost}
 use Rattle.compare.proofs.Ranges.{answers-together, answers-apart}
@@ -170,20 +169,16 @@ module _ (table pool : List ℕ) (depth r p left : ℕ) (a b : List ℕ) (at : �
         pub members-past : (z : Agreed) → length a - at < o → AgreesIn y a b at z
         members-past z h = members-named z (past _ o _ a b at z _ h)
 
-        module _ (inner : Path) (got : Agreed) (hd : inner .depth ≡ depth + 1) (hr : topOf inner ≡ r + 1)
-            (g : Agrees (typeAt (33 - inner .depth) table pool (topOf inner) (p + n)) a b (at + o) got) where
-          inner-is : Agrees (typeAt (32 - depth) table pool (r + 1) (p + n)) a b (at + o) got
-          inner-is = let j : 33 - inner .depth ≡ 32 - depth = omega arith in rw (j, hr) at g
-
+        module _ (got : Agreed) (g : Agrees (typeAt (32 - depth) table pool (r + 1) (p + n)) a b (at + o) got) where
           pub members-lost : (z : Agreed) → got ≡ Lost → AgreesIn y a b at z
-          members-lost z f = members-named z (lost _ o _ a b at _ got inner-is z f)
+          members-lost z f = members-named z (lost _ o _ a b at _ got g z f)
 
           pub members-apart : got ≡ Apart → AgreesIn y a b at Apart
-          members-apart f = members-named Apart (apart _ o _ a b at _ got inner-is f)
+          members-apart f = members-named Apart (apart _ o _ a b at _ got g f)
 
           pub members-next : {s : Spot} → got ≡ Together s → Leads (membersAt (typeAt (32 - depth) table pool) table pool (left - 1) (s .row) (s .place)) y a b at
           unfolding Leads
-          members-next {s = s} f z h = members-named z (next _ o _ a b at _ got inner-is z s f h)
+          members-next {s = s} f z h = members-named z (next _ o _ a b at _ got g z s f h)
 
 -- ---- entries
 

@@ -7,7 +7,7 @@ use mathlib.Core.Option.{Option, none, some}
 use native.Mathlib.Omega.{arith}
 use native.Mathlib.Numerals.{add-one}
 use native.Mathlib.Nat.{mul-comm, mul-div-cancel-left, mod-lt}
-use lib.ListN.{take, drop}
+use lib.ListN.{length, take, drop}
 use lib.Dec.{ltb}
 use borrow.Author.Tests.{ltb-false, lt-ltb}
 use Rattle.format.specs.Bytes.{dimensionsFrom}
@@ -19,7 +19,7 @@ use Rattle.format.proofs.Booleans.{or-neither}
 use Rattle.format.proofs.Ownership.{array-size, owned-remainder}
 use Rattle.format.proofs.Slots.{first-zero-size}
 use Rattle.format.proofs.TableSteps.{then-found}
-use Rattle.rows.specs.Entries.{entryAt, fromEntry}
+use Rattle.rows.specs.Entries.{entryAt, fromEntry, EntryInside}
 use Rattle.rows.specs.declared.Entry.{Entry}
 use Rattle.rows.specs.declared.Entry.the-variants.{Leaf, Compound, Enumeration, VariableLength, Array, Unknown}
 use Rattle.rows.proofs.Decode.{typeAt-entry}
@@ -32,7 +32,7 @@ use Rattle.table.specs.declared.Spot.{Spot}
 use Rattle.table.specs.declared.Found.{Found as Walked}
 use Rattle.table.specs.declared.Found.the-variants.{At, Lost as Astray}
 use Rattle.table.proofs.Surveys.{Told, told, untold}
-use Rattle.compare.specs.Agreeing.{topOf, isField, Admitted, Agrees, AgreesIn, AgreesEach, AgreesBytes}
+use Rattle.compare.specs.Agreeing.{topOf, Read, isField, Admitted, Agrees, AgreesIn, AgreesEach, AgreesBytes}
 use Rattle.compare.specs.declared.Path.{Path}
 use Rattle.compare.specs.declared.Agreed.{Agreed}
 use Rattle.compare.proofs.Fields.{OwnsAll, owns-agrees, leaf-owns, enumeration-owns, Solid, field-solid}
@@ -219,11 +219,11 @@ module _ (table pool : List ℕ) (depth row place : ℕ) (a b : List ℕ) (at : 
       unfolding fromEntry
       type-array-zero z = rw (type-as h, ← add-one row) (array-zero _ s a b at x _ (told _ s g u) z)
 
-      module _ {total : ℕ} (ht : total ≡ min (s .size * product (dimensionsFrom k (take (k * 4) (drop place pool)))) 4294967296) {solid : Bool}
-          (hs : solid ≡ isField (entryAt table pool (row + 1) (place + k * 4))) where
+      module _ {total : ℕ} (ht : total ≡ min (s .size * product (dimensionsFrom k (take (k * 4) (drop place pool)))) 4294967296) {solid : Bool} {i : Entry}
+          (hi : i ≡ entryAt table pool (row + 1) (place + k * 4)) (hs : solid ≡ isField i) where
         pub type-array-solid : solid ≡ true → AgreesBytes total a b at (record { row = s .row; place = s .place }) x → Agrees (typeAt (33 - depth) table pool row place) a b at x
         unfolding fromEntry
-        type-array-solid w v = rw (type-as h, ← add-one row) (array-solid _ s a b at x ht _ (told _ s g u) (field-solid _ table pool (row + 1) _ hs w) v)
+        type-array-solid w v = rw (type-as h, ← add-one row) (array-solid _ s a b at x ht _ (told _ s g u) (field-solid _ table pool (row + 1) _ (hs ∙ ap isField hi) w) v)
 
       pub type-array : {total : ℕ} (inner : Path) → total ≡ min (s .size * product (dimensionsFrom k (take (k * 4) (drop place pool)))) 4294967296
           → inner .depth ≡ depth + 1 → topOf inner ≡ row + 1
@@ -241,3 +241,27 @@ sound-level table pool depth row place {s = s} g e = go (32 - depth) refl (told 
     go : (k : ℕ) → 32 - depth ≡ k → Told (typeAt k table pool row place) s → depth < 32
     go zero j h = absurd (unfold Told typeAt in h)
     go (suc k) j h = omega arith
+
+-- ---- one level further down
+
+pub read-entered : {table pool : List ℕ} {row place : ℕ} {e : Entry} (inner : Path) → topOf inner ≡ row → e ≡ entryAt table pool row place
+    → EntryInside e (length table) (length pool) row place → Read e table pool (topOf inner) place
+read-entered inner hr q i = rw hr (record { is = q; inside = i })
+
+module _ (table pool : List ℕ) (depth row place : ℕ) (a b : List ℕ) (at : ℕ) (x : Agreed) where
+  module _ {e : Entry} (d : depth < 32) (q : e ≡ entryAt table pool row place) where
+    below-is : 33 - (depth + 1) ≡ 32 - depth
+    below-is = omega arith
+
+    pub member-leaf : {k n l y : ℕ} → e ≡ Leaf k n l y → AgreesBytes n a b at (record { row = row + 1; place = place + l }) x → Agrees (typeAt (32 - depth) table pool row place) a b at x
+    member-leaf h v = rw below-is at (type-leaf table pool (depth + 1) row place a b at (omega arith) q x h v)
+
+    pub member-enumeration : {n k : ℕ} → e ≡ Enumeration n k → Agrees (fromEntry (typeAt (31 - depth) table pool) table pool row place (Enumeration n k)) a b at x
+        → Agrees (typeAt (32 - depth) table pool row place) a b at x
+    member-enumeration h v =
+        let j : 31 - depth ≡ 32 - (depth + 1) = omega arith in
+        rw below-is at (type-enumeration table pool (depth + 1) row place a b at (omega arith) q x h (rw j at v))
+
+  pub member-entered : (inner : Path) → inner .depth ≡ depth + 1 → topOf inner ≡ row → Agrees (typeAt (33 - inner .depth) table pool (topOf inner) place) a b at x
+      → Agrees (typeAt (32 - depth) table pool row place) a b at x
+  member-entered inner hd hr g = let j : 33 - inner .depth ≡ 32 - depth = omega arith in rw (j, hr) at g

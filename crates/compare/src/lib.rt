@@ -18,9 +18,9 @@ ghost use Prim.Native.Nat.{ℕ, _+_, _*_, _-_, _≤_, _<_};
 ghost use lib.ListN.{length};
 ghost use Rattle.format.specs.Ownership.{comparing};
 ghost use Rattle.format.specs.Table.{typeAt, membersAt};
-ghost use Rattle.rows.specs.Entries.{entryAt, fromEntry, EntryInside};
+ghost use Rattle.rows.specs.Entries.{fromEntry};
 ghost use Rattle.rows.specs.declared.Entry.the-variants.{Enumeration};
-ghost use Rattle.compare.specs.Agreeing.{topOf, equalRange, isField, Standing, Agrees, AgreesIn, AgreesEach, AgreesBytes, comparisonOf};
+ghost use Rattle.compare.specs.Agreeing.{topOf, equalRange, isField, Standing, Read, Agrees, AgreesIn, AgreesEach, AgreesBytes, comparisonOf};
 
 // The rows of the open levels, outermost first: its top is the row at hand.
 pub struct Path {
@@ -138,11 +138,10 @@ fn agree_enumeration(
     }
 }
 
-// Whether the row's type is a field, an entry of which follows the one before without a gap.
-fn is_field(table: &[u32], pool: &[u8], row: usize, place: usize) -> bool
-    ensures { λ r. ⌜ r ≡ isField (entryAt (now (table .entry)) (now (pool .entry)) row place) ⌝ }
+// Whether a row's type is a field, an entry of which follows the one before without a gap.
+fn is_field(entry: Entry) -> bool
+    ensures { λ r. ⌜ r ≡ isField entry ⌝ }
 {
-    let entry = entry_at(table, pool, row, place);
     match entry {
         Entry::Leaf(_, _, _, _) => true,
         Entry::Enumeration(_, _) => true,
@@ -153,23 +152,23 @@ fn is_field(table: &[u32], pool: &[u8], row: usize, place: usize) -> bool
     }
 }
 
-// The fields of the type at the top of the path, its pool bytes at a place, whose record begins at `at`.
+// The fields of the type at the top of the path, of which `entry` is the row and `place` the place of its pool bytes; its record begins at `at`.
 fn agree_type(
     table: &[u32],
     pool: &[u8],
     path: Path,
     place: usize,
+    entry: Entry,
     a: &[u8],
     b: &[u8],
     at: usize,
 ) -> Agreed
-    requires { ⌜ Standing path (now a) (now b) at ⌝ }
+    requires { ⌜ Standing path (now a) (now b) at × Read entry (now table) (now pool) (topOf path) place ⌝ }
     ensures { λ r. ⌜ Agrees (typeAt (33 - path .depth) (now (table .entry)) (now (pool .entry)) (topOf path) place) (now (a .entry)) (now (b .entry)) at r ⌝ }
 {
     let depth = path.depth;
     let rows = path.rows;
     let row = rows[depth - 1];
-    let entry = entry_at(table, pool, row, place);
     match entry {
         Entry::Unknown => Agreed::Lost,
         Entry::VariableLength(_, _, _) => Agreed::Lost,
@@ -222,7 +221,8 @@ fn agree_type(
                         place: s.place,
                     };
                     let total = scaled(pool, place, rank, s.size);
-                    if is_field(table, pool, below, inner) {
+                    let base_entry = entry_at(table, pool, below, inner);
+                    if is_field(base_entry) {
                         return agree_field(a, b, at, total as usize, next);
                     }
                     agree_entries(
@@ -230,6 +230,7 @@ fn agree_type(
                         pool,
                         enter(path, below),
                         inner,
+                        base_entry,
                         a,
                         b,
                         at,
@@ -275,10 +276,11 @@ fn agree_members(
                 if a.len() - at < offset as usize {
                     return Agreed::Lost;
                 }
-                let got = agree_type(
+                let got = agree_member(
                     table,
                     pool,
-                    enter(path, r + 1),
+                    path,
+                    r + 1,
                     p + name as usize,
                     a,
                     b,
@@ -303,12 +305,57 @@ fn agree_members(
     Agreed::Together(Spot { row: r, place: p })
 }
 
-// So many entries of an array, a base size apart; the path's top is the base's row.
+// The fields of a member's type at a row, whose record begins at `at`. A field is compared here; only a type with fields below it is entered,
+// since that copies the path.
+fn agree_member(
+    table: &[u32],
+    pool: &[u8],
+    path: Path,
+    row: usize,
+    place: usize,
+    a: &[u8],
+    b: &[u8],
+    at: usize,
+) -> Agreed
+    requires { ⌜ (path .depth < 32) × ((at ≤ length (now a)) × (length (now b) ≡ length (now a))) ⌝ }
+    ensures { λ r. ⌜ Agrees (typeAt (32 - path .depth) (now (table .entry)) (now (pool .entry)) row place) (now (a .entry)) (now (b .entry)) at r ⌝ }
+{
+    let depth = path.depth;
+    let entry = entry_at(table, pool, row, place);
+    match entry {
+        Entry::Leaf(_, size, length, _) => agree_field(
+            a,
+            b,
+            at,
+            size as usize,
+            Spot {
+                row: row + 1,
+                place: place + length as usize,
+            },
+        ),
+        Entry::Enumeration(size, count) => agree_enumeration(
+            table,
+            pool,
+            row,
+            place,
+            31 - depth,
+            size,
+            count,
+            a,
+            b,
+            at,
+        ),
+        _ => agree_type(table, pool, enter(path, row), place, entry, a, b, at),
+    }
+}
+
+// So many entries of an array, a base size apart; the path's top is the base's row, and `entry` what it has.
 fn agree_entries(
     table: &[u32],
     pool: &[u8],
     path: Path,
     place: usize,
+    entry: Entry,
     a: &[u8],
     b: &[u8],
     at: usize,
@@ -316,7 +363,7 @@ fn agree_entries(
     count: usize,
     next: Spot,
 ) -> Agreed
-    requires { ⌜ Standing path (now a) (now b) at ⌝ }
+    requires { ⌜ Standing path (now a) (now b) at × Read entry (now table) (now pool) (topOf path) place ⌝ }
     ensures { λ r. ⌜ AgreesEach (typeAt (33 - path .depth) (now (table .entry)) (now (pool .entry)) (topOf path) place) stride count (now (a .entry)) (now (b .entry)) at next r ⌝ }
 {
     let mut start = at;
@@ -325,7 +372,7 @@ fn agree_entries(
         if a.len() - start < stride {
             return Agreed::Lost;
         }
-        let got = agree_type(table, pool, path, place, a, b, start);
+        let got = agree_type(table, pool, path, place, entry, a, b, start);
         match got {
             Agreed::Lost => {
                 return Agreed::Lost;
@@ -374,7 +421,8 @@ pub fn same(table: &[u32], pool: &[u8], a: &[u8], b: &[u8]) -> Comparison
                 rows: [0; 32],
                 depth: 1,
             };
-            let got = agree_type(table, pool, path, 0, a, b, 0);
+            let entry = entry_at(table, pool, 0, 0);
+            let got = agree_type(table, pool, path, 0, entry, a, b, 0);
             match got {
                 Agreed::Together(_) => Comparison::Same,
                 Agreed::Apart => Comparison::Differs,

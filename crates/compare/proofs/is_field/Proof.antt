@@ -3,9 +3,6 @@ use Rattle.compare.proofs.Fields.{leaf-is, enumeration-is, compound-is-
 use Rattle.compare.proofs.is_field.Statement.{statement}
 use Rattle.compare.proofs.is_field.Tie as tie
 
-entry-at-requires : tie.Need-entry-at-requires
-entry-at-requires c κs = search needs
-
 enum-told : tie.Need-enum-told
 enum-told c = search needs
 
@@ -46,7 +43,6 @@ pub is-field-spec : {M : Type 1} → statement M
 is-field-spec =
     tie.close
     (tie.spec
-    entry-at-requires
     enum-told
     enum-told-2
     enum-told-3

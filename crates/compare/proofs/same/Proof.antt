@@ -13,11 +13,11 @@ enum-told c = search needs
 enum-known-checked : tie.Need-enum-known-checked
 enum-known-checked c = search needs
 
-sub-t13 : tie.Need-sub-t13
-sub-t13 c = search needs
+sub-t14 : tie.Need-sub-t14
+sub-t14 c = search needs
 
-cast-t14 : tie.Need-cast-t14
-cast-t14 c = let i = zero-fits _ _ (c .before .before .before .before .before .before .check .ensures .good _ (c .before .before .before .before .checked .given .1)) (c .before .if1 .taken) in omega arith
+cast-t15 : tie.Need-cast-t15
+cast-t15 c = let i = zero-fits _ _ (c .before .before .before .before .before .before .check .ensures .good _ (c .before .before .before .before .checked .given .1)) (c .before .if1 .taken) in omega arith
 
 returns : tie.Need-returns
 returns c = same-zero _ _ (c .before .before .before .before .before .before .check .ensures .good _ (c .before .before .before .before .checked .given .1)) _ _ (c .before .if1 .taken)
@@ -43,8 +43,11 @@ equal-range-requires c κs = search needs
 returns-6 : tie.Need-returns-6
 returns-6 c = same-equal _ _ (c .before .before .before .before .before .before .before .before .before .before .before .before .check .ensures .good _ (c .before .before .before .before .before .before .before .before .before .before .checked .given .1)) _ _ (c .before .before .before .before .before .before .before .if1 .left) (c .before .before .before .before .before .before .if2 .left) (c .before .before .before .before .before .if3 .left) (c .before .before .before .if4 .left) (c .before .before .if5 .left) (c .before .equal-range .ensures) (c .if6 .taken)
 
+entry-at-requires : tie.Need-entry-at-requires
+entry-at-requires c κs = search needs
+
 agree-type-requires : tie.Need-agree-type-requires
-agree-type-requires c κs = search needs
+agree-type-requires c κs = (search needs, record { is = c .entry-at .ensures .0; inside = c .entry-at .ensures .1 })
 
 enum-told-2 : tie.Need-enum-told-2
 enum-told-2 c = search needs
@@ -59,13 +62,13 @@ returns-7 : tie.Need-returns-7
 returns-7 c = search same-bad
 
 returns-8 : tie.Need-returns-8
-returns-8 c = same-together _ _ (c .before .before .before .before .before .before .before .before .before .before .before .before .before .before .before .check .ensures .good _ (c .before .before .before .before .before .before .before .before .before .before .before .before .before .checked .given .1)) _ _ (c .before .before .before .before .before .before .before .before .before .before .if1 .left) (c .before .before .before .before .before .before .before .before .before .if2 .left) (c .before .before .before .before .before .before .before .before .if3 .left) (c .before .before .before .before .before .before .if4 .left) (c .before .before .before .before .before .if5 .left) (c .before .before .agree-type .result) (c .before .before .agree-type .ensures) (c .enum-told2 .given .1)
+returns-8 c = same-together _ _ (c .before .before .before .before .before .before .before .before .before .before .before .before .before .before .before .before .check .ensures .good _ (c .before .before .before .before .before .before .before .before .before .before .before .before .before .before .checked .given .1)) _ _ (c .before .before .before .before .before .before .before .before .before .before .before .if1 .left) (c .before .before .before .before .before .before .before .before .before .before .if2 .left) (c .before .before .before .before .before .before .before .before .before .if3 .left) (c .before .before .before .before .before .before .before .if4 .left) (c .before .before .before .before .before .before .if5 .left) (c .before .before .agree-type .result) (c .before .before .agree-type .ensures) (c .enum-told2 .given .1)
 
 returns-9 : tie.Need-returns-9
-returns-9 c = same-apart _ _ (c .before .before .before .before .before .before .before .before .before .before .before .before .before .before .before .check .ensures .good _ (c .before .before .before .before .before .before .before .before .before .before .before .before .before .checked .given .1)) _ _ (c .before .before .before .before .before .before .before .before .before .before .if1 .left) (c .before .before .before .before .before .before .before .before .before .if2 .left) (c .before .before .before .before .before .before .before .before .if3 .left) (c .before .before .before .before .before .before .if4 .left) (c .before .before .before .before .before .if5 .left) (c .before .before .agree-type .result) (c .before .before .agree-type .ensures) (c .enum-told3 .given .1)
+returns-9 c = same-apart _ _ (c .before .before .before .before .before .before .before .before .before .before .before .before .before .before .before .before .check .ensures .good _ (c .before .before .before .before .before .before .before .before .before .before .before .before .before .before .checked .given .1)) _ _ (c .before .before .before .before .before .before .before .before .before .before .before .if1 .left) (c .before .before .before .before .before .before .before .before .before .before .if2 .left) (c .before .before .before .before .before .before .before .before .before .if3 .left) (c .before .before .before .before .before .before .before .if4 .left) (c .before .before .before .before .before .before .if5 .left) (c .before .before .agree-type .result) (c .before .before .agree-type .ensures) (c .enum-told3 .given .1)
 
 returns-10 : tie.Need-returns-10
-returns-10 c = same-lost _ _ (c .before .before .before .before .before .before .before .before .before .before .before .before .before .before .before .check .ensures .good _ (c .before .before .before .before .before .before .before .before .before .before .before .before .before .checked .given .1)) _ _ (c .before .before .before .before .before .before .before .before .before .before .if1 .left) (c .before .before .before .before .before .before .before .before .before .if2 .left) (c .before .before .before .before .before .before .before .before .if3 .left) (c .before .before .before .before .before .before .if4 .left) (c .before .before .before .before .before .if5 .left) (c .before .before .agree-type .result) (c .before .before .agree-type .ensures) _ (c .enum-told4 .given .1)
+returns-10 c = same-lost _ _ (c .before .before .before .before .before .before .before .before .before .before .before .before .before .before .before .before .check .ensures .good _ (c .before .before .before .before .before .before .before .before .before .before .before .before .before .before .checked .given .1)) _ _ (c .before .before .before .before .before .before .before .before .before .before .before .if1 .left) (c .before .before .before .before .before .before .before .before .before .before .if2 .left) (c .before .before .before .before .before .before .before .before .before .if3 .left) (c .before .before .before .before .before .before .before .if4 .left) (c .before .before .before .before .before .before .if5 .left) (c .before .before .agree-type .result) (c .before .before .agree-type .ensures) _ (c .enum-told4 .given .1)
 
 pub same-spec : {M : Type 1} → statement M
 same-spec =
@@ -74,8 +77,8 @@ same-spec =
     check-requires
     enum-told
     enum-known-checked
-    sub-t13
-    cast-t14
+    sub-t14
+    cast-t15
     returns
     returns-2
     returns-3
@@ -84,6 +87,7 @@ same-spec =
     returns-5
     equal-range-requires
     returns-6
+    entry-at-requires
     agree-type-requires
     enum-told-2
     enum-told-3

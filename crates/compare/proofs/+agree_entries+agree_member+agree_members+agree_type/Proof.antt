@@ -6,19 +6,22 @@ use lib.ListN.{length}
 use Rattle.format.specs.Table.{typeAt, membersAt}
 use Rattle.rows.proofs.Decode.{leaf-inside, compound-inside, enumeration-inside, array-inside, named-inside}
 use Rattle.compare.specs.Agreeing.{topOf}
-use Rattle.compare.proofs.Types.{type-unknown, type-variableLength, type-leaf, type-enumeration, type-compound, type-array-unsound, type-array-zero, type-array-solid, type-array, sound-level}
+use Rattle.compare.proofs.Types.{type-unknown, type-variableLength, type-leaf, type-enumeration, type-compound, type-array-unsound, type-array-zero, type-array-solid, type-array, sound-level, read-entered, member-leaf, member-enumeration, member-entered}
 use Rattle.compare.proofs.Inside.{Leads, leads-same, members-end, members-deep, members-unnamed, members-past, members-lost, members-apart, members-next, Done, done-none, entries-end, entries-start, entries-past, entries-lost, entries-apart, entries-next}
 use borrow.Fn.Kinds.{In}
 use borrow.Fn.PlainCycle.{Measures, is, falls, and}
 use Rattle.compare.proofs.agree_entries.Reads as agree-entries
 use Rattle.compare.proofs.agree_entries.Kinds as agree-entries-kinds
-use Rattle.compare.proofs.+agree_entries+agree_members+agree_type.Lts-agree_entries as agree-entries-lts
+use Rattle.compare.proofs.+agree_entries+agree_member+agree_members+agree_type.Lts-agree_entries as agree-entries-lts
+use Rattle.compare.proofs.agree_member.Reads as agree-member
+use Rattle.compare.proofs.agree_member.Kinds as agree-member-kinds
+use Rattle.compare.proofs.+agree_entries+agree_member+agree_members+agree_type.Lts-agree_member as agree-member-lts
 use Rattle.compare.proofs.agree_members.Reads as agree-members
 use Rattle.compare.proofs.agree_members.Kinds as agree-members-kinds
-use Rattle.compare.proofs.+agree_entries+agree_members+agree_type.Lts-agree_members as agree-members-lts
+use Rattle.compare.proofs.+agree_entries+agree_member+agree_members+agree_type.Lts-agree_members as agree-members-lts
 use Rattle.compare.proofs.agree_type.Reads as agree-type
 use Rattle.compare.proofs.agree_type.Kinds as agree-type-kinds
-use Rattle.compare.proofs.+agree_entries+agree_members+agree_type.Lts-agree_type as agree-type-lts
+use Rattle.compare.proofs.+agree_entries+agree_member+agree_members+agree_type.Lts-agree_type as agree-type-lts
 use Rattle.compare.proofs.agree_enumeration.Reads as agree-enumeration-reads
 use Rattle.compare.proofs.agree_field.Reads as agree-field-reads
 use Rattle.compare.proofs.enter.Reads as enter-reads
@@ -27,17 +30,20 @@ use Rattle.rows.proofs.entry_at.Reads as entry-at-reads
 use Rattle.rows.proofs.member_at.Reads as member-at-reads
 use Rattle.table.proofs.scaled.Reads as scaled-reads
 use Rattle.table.proofs.survey_type.Reads as survey-type-reads
-use Rattle.compare.proofs.+agree_entries+agree_members+agree_type.{statement}
-use Rattle.compare.proofs.+agree_entries+agree_members+agree_type.Tie.{close}
+use Rattle.compare.proofs.+agree_entries+agree_member+agree_members+agree_type.{statement}
+use Rattle.compare.proofs.+agree_entries+agree_member+agree_members+agree_type.Tie.{close}
 
 abbrev μ-agree-entries : Measures 4 agree-entries-kinds.ps ℕ
-μ-agree-entries κs a = (33 - a .1 .1 .0 .depth) * 3 + 2
+μ-agree-entries κs a = (33 - a .1 .1 .0 .depth) * 4 + 2
+
+abbrev μ-agree-member : Measures 4 agree-member-kinds.ps ℕ
+μ-agree-member κs a = (33 - a .1 .1 .0 .depth) * 4 - 1
 
 abbrev μ-agree-members : Measures 4 agree-members-kinds.ps ℕ
-μ-agree-members κs a = (33 - a .1 .1 .0 .depth) * 3
+μ-agree-members κs a = (33 - a .1 .1 .0 .depth) * 4
 
 abbrev μ-agree-type : Measures 4 agree-type-kinds.ps ℕ
-μ-agree-type κs a = (33 - a .1 .1 .0 .depth) * 3 + 1
+μ-agree-type κs a = (33 - a .1 .1 .0 .depth) * 4 + 1
 
 abbrev agree-entries-at : ℕ → In 4 agree-entries-kinds.ps
 agree-entries-at t =
@@ -50,6 +56,18 @@ agree-entries-below t =
     agree-entries-kinds.ps
     (falls 4 agree-entries-kinds.ps _<_ μ-agree-entries t)
     agree-entries.Pre
+
+abbrev agree-member-at : ℕ → In 4 agree-member-kinds.ps
+agree-member-at t =
+    and 4 agree-member-kinds.ps (is 4 agree-member-kinds.ps μ-agree-member t) agree-member.Pre
+
+abbrev agree-member-below : ℕ → In 4 agree-member-kinds.ps
+agree-member-below t =
+    and
+    4
+    agree-member-kinds.ps
+    (falls 4 agree-member-kinds.ps _<_ μ-agree-member t)
+    agree-member.Pre
 
 abbrev agree-members-at : ℕ → In 4 agree-members-kinds.ps
 agree-members-at t =
@@ -71,21 +89,23 @@ abbrev agree-type-below : ℕ → In 4 agree-type-kinds.ps
 agree-type-below t =
     and 4 agree-type-kinds.ps (falls 4 agree-type-kinds.ps _<_ μ-agree-type t) agree-type.Pre
 
-abbrev agree-entries-Inv-loop : agree-entries-lts.InvT-loop
-agree-entries-Inv-loop table pool path place a b at stride count next start₀ done₀ start done =
-    (done ≤ count) × ((start ≡ at + done * stride) × ((start ≤ length a) × Done (typeAt (33 - path .depth) table pool (topOf path) place) stride done a b at))
-
-abbrev agree-entries-μ-loop : agree-entries-lts.MeasureT-loop
-agree-entries-μ-loop table pool path place a b at stride count next start₀ done₀ start done = count - done
-
 abbrev agree-entries-calls : ℕ → agree-entries-lts.Claims
 agree-entries-calls t = (agree-type-below t, agree-type.Post)
 
 abbrev agree-members-calls : ℕ → agree-members-lts.Claims
-agree-members-calls t = (member-at-reads.Asked, member-at-reads.Learnt, enter-reads.Asked, enter-reads.Learnt, agree-type-below t, agree-type.Post)
+agree-members-calls t = (member-at-reads.Asked, member-at-reads.Learnt, agree-member-below t, agree-member.Post)
+
+abbrev agree-entries-Inv-loop : agree-entries-lts.InvT-loop
+agree-entries-Inv-loop table pool path place entry a b at stride count next start₀ done₀ start done = (done ≤ count) × ((start ≡ at + done * stride) × ((start ≤ length a) × Done (typeAt (33 - path .depth) table pool (topOf path) place) stride done a b at))
+
+abbrev agree-entries-μ-loop : agree-entries-lts.MeasureT-loop
+agree-entries-μ-loop table pool path place entry a b at stride count next start₀ done₀ start done = count - done
+
+abbrev agree-member-calls : ℕ → agree-member-lts.Claims
+agree-member-calls t = (entry-at-reads.Asked, entry-at-reads.Learnt, agree-field-reads.Asked, agree-field-reads.Learnt, agree-enumeration-reads.Asked, agree-enumeration-reads.Learnt, enter-reads.Asked, enter-reads.Learnt, agree-type-below t, agree-type.Post)
 
 abbrev agree-type-calls : ℕ → agree-type-lts.Claims
-agree-type-calls t = (entry-at-reads.Asked, entry-at-reads.Learnt, agree-field-reads.Asked, agree-field-reads.Learnt, agree-enumeration-reads.Asked, agree-enumeration-reads.Learnt, agree-members-below t, agree-members.Post, survey-type-reads.Asked, survey-type-reads.Learnt, scaled-reads.Asked, scaled-reads.Learnt, is-field-reads.Asked, is-field-reads.Learnt, enter-reads.Asked, enter-reads.Learnt, agree-entries-below t, agree-entries.Post)
+agree-type-calls t = (agree-field-reads.Asked, agree-field-reads.Learnt, agree-enumeration-reads.Asked, agree-enumeration-reads.Learnt, agree-members-below t, agree-members.Post, survey-type-reads.Asked, survey-type-reads.Learnt, scaled-reads.Asked, scaled-reads.Learnt, entry-at-reads.Asked, entry-at-reads.Learnt, is-field-reads.Asked, is-field-reads.Learnt, enter-reads.Asked, enter-reads.Learnt, agree-entries-below t, agree-entries.Post)
 
 agree-entries-loop-holds : (t : ℕ) → agree-entries-lts.Need-loop-holds (agree-entries-calls t) (agree-entries-at t) agree-entries.Post agree-entries-Inv-loop agree-entries-μ-loop
 agree-entries-loop-holds t c = (omega arith, (omega arith, (omega arith, done-none _ _ _ _ _)))
@@ -124,14 +144,77 @@ agree-entries-loop-less : (t : ℕ) → agree-entries-lts.Need-loop-less (agree-
 agree-entries-loop-less t c = search needs
 
 agree-entries-loop-again : (t : ℕ) → agree-entries-lts.Need-loop-again (agree-entries-calls t) (agree-entries-at t) agree-entries.Post agree-entries-Inv-loop agree-entries-μ-loop
-agree-entries-loop-again t c = (omega arith, (entries-start _ _ _ _ (c .before .before .before .before .before .loop .inv .1 .0), (omega arith, search entries-next)))
+agree-entries-loop-again t c =
+    let i = c .before .before .before .before .before .loop .inv .1 in
+    let n = entries-next _ _ _ _ _ _ _ (i .0) (c .before .before .before .before .loop-test .taken) _ (i .1 .0) (c .before .before .before .if1 .left) (i .1 .1) (c .before .before .agree-type .ensures) (c .enum-told3 .given .1) in
+    (omega arith, (entries-start _ _ _ _ (i .0), (omega arith, n)))
 
 agree-entries-returns-4 : (t : ℕ) → agree-entries-lts.Need-returns-4 (agree-entries-calls t) (agree-entries-at t) agree-entries.Post agree-entries-Inv-loop agree-entries-μ-loop
 agree-entries-returns-4 t c = search entries-end
 
+agree-member-entry-at-requires : (t : ℕ) → agree-member-lts.Need-entry-at-requires (agree-member-calls t) (agree-member-at t) agree-member.Post
+agree-member-entry-at-requires t c κs = search needs
+
+agree-member-enum-known-entry : (t : ℕ) → agree-member-lts.Need-enum-known-entry (agree-member-calls t) (agree-member-at t) agree-member.Post
+agree-member-enum-known-entry t c = search needs
+
+agree-member-cast-agree-field : (t : ℕ) → agree-member-lts.Need-cast-agree-field (agree-member-calls t) (agree-member-at t) agree-member.Post
+agree-member-cast-agree-field t c = search needs
+
+agree-member-add-t17 : (t : ℕ) → agree-member-lts.Need-add-t17 (agree-member-calls t) (agree-member-at t) agree-member.Post
+agree-member-add-t17 t c = omega (arith, leaf-inside _ _ _ _ (c .before .before .before .entry-at .ensures .1) (c .before .entry .given .1))
+
+agree-member-cast-t18 : (t : ℕ) → agree-member-lts.Need-cast-t18 (agree-member-calls t) (agree-member-at t) agree-member.Post
+agree-member-cast-t18 t c = search needs
+
+agree-member-add-t19 : (t : ℕ) → agree-member-lts.Need-add-t19 (agree-member-calls t) (agree-member-at t) agree-member.Post
+agree-member-add-t19 t c = omega (arith, leaf-inside _ _ _ _ (c .before .before .before .entry-at .ensures .1) (c .before .entry .given .1))
+
+agree-member-agree-field-requires : (t : ℕ) → agree-member-lts.Need-agree-field-requires (agree-member-calls t) (agree-member-at t) agree-member.Post
+agree-member-agree-field-requires t c κs = search needs
+
+agree-member-enum-known-entry-2 : (t : ℕ) → agree-member-lts.Need-enum-known-entry-2 (agree-member-calls t) (agree-member-at t) agree-member.Post
+agree-member-enum-known-entry-2 t c = search needs
+
+agree-member-sub-agree-enumeration : (t : ℕ) → agree-member-lts.Need-sub-agree-enumeration (agree-member-calls t) (agree-member-at t) agree-member.Post
+agree-member-sub-agree-enumeration t c = search needs
+
+agree-member-agree-enumeration-requires :
+    (t : ℕ) → agree-member-lts.Need-agree-enumeration-requires (
+      entry-at-reads.Asked,
+      entry-at-reads.Learnt,
+      agree-field-reads.Asked,
+      agree-field-reads.Learnt,
+      agree-enumeration-reads.Asked,
+      agree-enumeration-reads.Learnt,
+      enter-reads.Asked,
+      enter-reads.Learnt,
+      agree-type-below t,
+      agree-type.Post,
+    ) (agree-member-at t) agree-member.Post
+agree-member-agree-enumeration-requires t c κs = (enumeration-inside _ _ _ _ (c .before .before .before .entry-at .ensures .1) (c .before .entry2 .given .1), c .before .before .before .before .before .before .before .before .pre .1 .1)
+
+agree-member-enter-requires : (t : ℕ) → agree-member-lts.Need-enter-requires (agree-member-calls t) (agree-member-at t) agree-member.Post
+agree-member-enter-requires t c κs = search needs
+
+agree-member-agree-type-requires : (t : ℕ) → agree-member-lts.Need-agree-type-requires (agree-member-calls t) (agree-member-at t) agree-member.Post
+agree-member-agree-type-requires t c κs =
+    let p = c .before .before .before .before .before .before .before .pre in
+    let d = c .enter .ensures .0 in
+    let r = read-entered (c .enter .result) (c .enter .ensures .1) (c .before .before .entry-at .ensures .0) (c .before .before .entry-at .ensures .1) in
+    (omega (arith, p .0, p .1 .0), (record { deep = omega arith; shallow = omega (arith, p .1 .0); begins = p .1 .1 .0; lengths = p .1 .1 .1 }, r))
+
+agree-member-returns : (t : ℕ) → agree-member-lts.Need-returns (agree-member-calls t) (agree-member-at t) agree-member.Post
+agree-member-returns t c = search member-leaf
+
+agree-member-returns-2 : (t : ℕ) → agree-member-lts.Need-returns-2 (agree-member-calls t) (agree-member-at t) agree-member.Post
+agree-member-returns-2 t c = search member-enumeration
+
+agree-member-returns-3 : (t : ℕ) → agree-member-lts.Need-returns-3 (agree-member-calls t) (agree-member-at t) agree-member.Post
+agree-member-returns-3 t c = search member-entered
+
 abbrev agree-members-Inv-loop : agree-members-lts.InvT-loop
-agree-members-Inv-loop table pool path row place count a b at depth r₀ p₀ left₀ r p left =
-    Leads (membersAt (typeAt (32 - path .depth) table pool) table pool left r p) (membersAt (typeAt (32 - path .depth) table pool) table pool count row place) a b at
+agree-members-Inv-loop table pool path row place count a b at depth r₀ p₀ left₀ r p left = Leads (membersAt (typeAt (32 - path .depth) table pool) table pool left r p) (membersAt (typeAt (32 - path .depth) table pool) table pool count row place) a b at
 
 abbrev agree-members-μ-loop : agree-members-lts.MeasureT-loop
 agree-members-μ-loop table pool path row place count a b at depth r₀ p₀ left₀ r p left = left
@@ -163,26 +246,23 @@ agree-members-cast-if2 t c = search needs
 agree-members-returns-3 : (t : ℕ) → agree-members-lts.Need-returns-3 (agree-members-calls t) (agree-members-at t) agree-members.Post agree-members-Inv-loop agree-members-μ-loop
 agree-members-returns-3 t c = search members-past
 
-agree-members-add-enter : (t : ℕ) → agree-members-lts.Need-add-enter (agree-members-calls t) (agree-members-at t) agree-members.Post agree-members-Inv-loop agree-members-μ-loop
-agree-members-add-enter t c = let i = named-inside _ _ _ _ (c .before .before .member .given .1) (c .before .before .before .before .member-at .ensures .1) in omega arith
+agree-members-add-agree-member : (t : ℕ) → agree-members-lts.Need-add-agree-member (agree-members-calls t) (agree-members-at t) agree-members.Post agree-members-Inv-loop agree-members-μ-loop
+agree-members-add-agree-member t c = let i = named-inside _ _ _ _ (c .before .before .member .given .1) (c .before .before .before .before .member-at .ensures .1) in omega arith
 
-agree-members-enter-requires : (t : ℕ) → agree-members-lts.Need-enter-requires (agree-members-calls t) (agree-members-at t) agree-members.Post agree-members-Inv-loop agree-members-μ-loop
-agree-members-enter-requires t c κs = search needs
+agree-members-cast-agree-member : (t : ℕ) → agree-members-lts.Need-cast-agree-member (agree-members-calls t) (agree-members-at t) agree-members.Post agree-members-Inv-loop agree-members-μ-loop
+agree-members-cast-agree-member t c = search needs
 
-agree-members-cast-agree-type : (t : ℕ) → agree-members-lts.Need-cast-agree-type (agree-members-calls t) (agree-members-at t) agree-members.Post agree-members-Inv-loop agree-members-μ-loop
-agree-members-cast-agree-type t c = search needs
+agree-members-add-agree-member-2 : (t : ℕ) → agree-members-lts.Need-add-agree-member-2 (agree-members-calls t) (agree-members-at t) agree-members.Post agree-members-Inv-loop agree-members-μ-loop
+agree-members-add-agree-member-2 t c = let i = named-inside _ _ _ _ (c .before .before .member .given .1) (c .before .before .before .before .member-at .ensures .1) in omega arith
 
-agree-members-add-agree-type : (t : ℕ) → agree-members-lts.Need-add-agree-type (agree-members-calls t) (agree-members-at t) agree-members.Post agree-members-Inv-loop agree-members-μ-loop
-agree-members-add-agree-type t c = let i = named-inside _ _ _ _ (c .before .before .before .member .given .1) (c .before .before .before .before .before .member-at .ensures .1) in omega arith
+agree-members-cast-agree-member-2 : (t : ℕ) → agree-members-lts.Need-cast-agree-member-2 (agree-members-calls t) (agree-members-at t) agree-members.Post agree-members-Inv-loop agree-members-μ-loop
+agree-members-cast-agree-member-2 t c = search needs
 
-agree-members-cast-agree-type-2 : (t : ℕ) → agree-members-lts.Need-cast-agree-type-2 (agree-members-calls t) (agree-members-at t) agree-members.Post agree-members-Inv-loop agree-members-μ-loop
-agree-members-cast-agree-type-2 t c = search needs
+agree-members-add-agree-member-3 : (t : ℕ) → agree-members-lts.Need-add-agree-member-3 (agree-members-calls t) (agree-members-at t) agree-members.Post agree-members-Inv-loop agree-members-μ-loop
+agree-members-add-agree-member-3 t c = search needs
 
-agree-members-add-agree-type-2 : (t : ℕ) → agree-members-lts.Need-add-agree-type-2 (agree-members-calls t) (agree-members-at t) agree-members.Post agree-members-Inv-loop agree-members-μ-loop
-agree-members-add-agree-type-2 t c = search needs
-
-agree-members-agree-type-requires : (t : ℕ) → agree-members-lts.Need-agree-type-requires (agree-members-calls t) (agree-members-at t) agree-members.Post agree-members-Inv-loop agree-members-μ-loop
-agree-members-agree-type-requires t c κs = search needs
+agree-members-agree-member-requires : (t : ℕ) → agree-members-lts.Need-agree-member-requires (agree-members-calls t) (agree-members-at t) agree-members.Post agree-members-Inv-loop agree-members-μ-loop
+agree-members-agree-member-requires t c κs = search needs
 
 agree-members-enum-told-2 : (t : ℕ) → agree-members-lts.Need-enum-told-2 (agree-members-calls t) (agree-members-at t) agree-members.Post agree-members-Inv-loop agree-members-μ-loop
 agree-members-enum-told-2 t c = search needs
@@ -220,9 +300,6 @@ agree-type-mul-row t c = search needs
 agree-type-array-read-row : (t : ℕ) → agree-type-lts.Need-array-read-row (agree-type-calls t) (agree-type-at t) agree-type.Post
 agree-type-array-read-row t c = search needs
 
-agree-type-entry-at-requires : (t : ℕ) → agree-type-lts.Need-entry-at-requires (agree-type-calls t) (agree-type-at t) agree-type.Post
-agree-type-entry-at-requires t c κs = search needs
-
 agree-type-enum-told : (t : ℕ) → agree-type-lts.Need-enum-told (agree-type-calls t) (agree-type-at t) agree-type.Post
 agree-type-enum-told t c = search needs
 
@@ -235,14 +312,14 @@ agree-type-enum-known-entry t c = search needs
 agree-type-cast-agree-field : (t : ℕ) → agree-type-lts.Need-cast-agree-field (agree-type-calls t) (agree-type-at t) agree-type.Post
 agree-type-cast-agree-field t c = search needs
 
-agree-type-add-t32 : (t : ℕ) → agree-type-lts.Need-add-t32 (agree-type-calls t) (agree-type-at t) agree-type.Post
-agree-type-add-t32 t c = omega (arith, leaf-inside _ _ _ _ (c .before .before .before .entry-at .ensures .1) (c .before .entry .given .1))
+agree-type-add-t33 : (t : ℕ) → agree-type-lts.Need-add-t33 (agree-type-calls t) (agree-type-at t) agree-type.Post
+agree-type-add-t33 t c = omega (arith, leaf-inside _ _ _ _ (c .before .before .before .before .before .before .before .before .pre .1 .1 .inside) (c .before .entry .given .1))
 
-agree-type-cast-t33 : (t : ℕ) → agree-type-lts.Need-cast-t33 (agree-type-calls t) (agree-type-at t) agree-type.Post
-agree-type-cast-t33 t c = search needs
+agree-type-cast-t34 : (t : ℕ) → agree-type-lts.Need-cast-t34 (agree-type-calls t) (agree-type-at t) agree-type.Post
+agree-type-cast-t34 t c = search needs
 
-agree-type-add-t34 : (t : ℕ) → agree-type-lts.Need-add-t34 (agree-type-calls t) (agree-type-at t) agree-type.Post
-agree-type-add-t34 t c = omega (arith, leaf-inside _ _ _ _ (c .before .before .before .entry-at .ensures .1) (c .before .entry .given .1))
+agree-type-add-t35 : (t : ℕ) → agree-type-lts.Need-add-t35 (agree-type-calls t) (agree-type-at t) agree-type.Post
+agree-type-add-t35 t c = omega (arith, leaf-inside _ _ _ _ (c .before .before .before .before .before .before .before .before .pre .1 .1 .inside) (c .before .entry .given .1))
 
 agree-type-agree-field-requires : (t : ℕ) → agree-type-lts.Need-agree-field-requires (agree-type-calls t) (agree-type-at t) agree-type.Post
 agree-type-agree-field-requires t c κs = search needs
@@ -254,13 +331,15 @@ agree-type-sub-agree-enumeration : (t : ℕ) → agree-type-lts.Need-sub-agree-e
 agree-type-sub-agree-enumeration t c = search needs
 
 agree-type-agree-enumeration-requires : (t : ℕ) → agree-type-lts.Need-agree-enumeration-requires (agree-type-calls t) (agree-type-at t) agree-type.Post
-agree-type-agree-enumeration-requires t c κs = (enumeration-inside _ _ _ _ (c .before .before .before .entry-at .ensures .1) (c .before .entry2 .given .1), (c .before .before .before .before .before .before .before .before .before .pre .1 .begins, c .before .before .before .before .before .before .before .before .before .pre .1 .lengths))
+agree-type-agree-enumeration-requires t c κs =
+    let p = c .before .before .before .before .before .before .before .before .pre .1 in
+    (enumeration-inside _ _ _ _ (p .1 .inside) (c .before .entry2 .given .1), (p .0 .begins, p .0 .lengths))
 
 agree-type-enum-known-entry-3 : (t : ℕ) → agree-type-lts.Need-enum-known-entry-3 (agree-type-calls t) (agree-type-at t) agree-type.Post
 agree-type-enum-known-entry-3 t c = search needs
 
 agree-type-add-agree-members : (t : ℕ) → agree-type-lts.Need-add-agree-members (agree-type-calls t) (agree-type-at t) agree-type.Post
-agree-type-add-agree-members t c = omega (arith, compound-inside _ _ _ _ (c .before .before .before .entry-at .ensures .1) (c .before .entry3 .given .1))
+agree-type-add-agree-members t c = omega (arith, compound-inside _ _ _ _ (c .before .before .before .before .before .before .before .before .pre .1 .1 .inside) (c .before .entry3 .given .1))
 
 agree-type-agree-members-requires : (t : ℕ) → agree-type-lts.Need-agree-members-requires (agree-type-calls t) (agree-type-at t) agree-type.Post
 agree-type-agree-members-requires t c κs = search needs
@@ -269,7 +348,7 @@ agree-type-enum-known-entry-4 : (t : ℕ) → agree-type-lts.Need-enum-known-ent
 agree-type-enum-known-entry-4 t c = search needs
 
 agree-type-add-below : (t : ℕ) → agree-type-lts.Need-add-below (agree-type-calls t) (agree-type-at t) agree-type.Post
-agree-type-add-below t c = let i = array-inside _ _ _ _ (c .before .before .before .entry-at .ensures .1) (c .before .entry4 .given .1) in omega arith
+agree-type-add-below t c = let i = array-inside _ _ _ _ (c .before .before .before .before .before .before .before .before .pre .1 .1 .inside) (c .before .entry4 .given .1) in omega arith
 
 agree-type-cast-inner : (t : ℕ) → agree-type-lts.Need-cast-inner (agree-type-calls t) (agree-type-at t) agree-type.Post
 agree-type-cast-inner t c = search needs
@@ -278,7 +357,7 @@ agree-type-mul-inner : (t : ℕ) → agree-type-lts.Need-mul-inner (agree-type-c
 agree-type-mul-inner t c = search needs
 
 agree-type-add-inner : (t : ℕ) → agree-type-lts.Need-add-inner (agree-type-calls t) (agree-type-at t) agree-type.Post
-agree-type-add-inner t c = let i = array-inside _ _ _ _ (c .before .before .before .entry-at .ensures .1) (c .before .entry4 .given .1) in omega arith
+agree-type-add-inner t c = let i = array-inside _ _ _ _ (c .before .before .before .before .before .before .before .before .pre .1 .1 .inside) (c .before .entry4 .given .1) in omega arith
 
 agree-type-sub-survey-type : (t : ℕ) → agree-type-lts.Need-sub-survey-type (agree-type-calls t) (agree-type-at t) agree-type.Post
 agree-type-sub-survey-type t c = search needs
@@ -296,33 +375,42 @@ agree-type-cast-size : (t : ℕ) → agree-type-lts.Need-cast-size (agree-type-c
 agree-type-cast-size t c = search needs
 
 agree-type-returns : (t : ℕ) → agree-type-lts.Need-returns (agree-type-calls t) (agree-type-at t) agree-type.Post
-agree-type-returns t c = search type-array-zero
+agree-type-returns t c =
+    let p = c .before .before .before .before .before .before .before .before .before .before .before .before .before .before .pre .1 in
+    type-array-zero _ _ _ _ _ _ _ _ (p .0 .shallow) (p .1 .is) _ (c .before .before .before .before .before .before .before .entry4 .given .1) (c .before .before .before .before .before .survey-type .ensures) (c .before .before .before .base .given .1) (c .if1 .taken)
 
 agree-type-scaled-requires : (t : ℕ) → agree-type-lts.Need-scaled-requires (agree-type-calls t) (agree-type-at t) agree-type.Post
-agree-type-scaled-requires t c κs = array-inside _ _ _ _ (c .before .before .before .before .before .before .before .before .before .entry-at .ensures .1) (c .before .before .before .before .before .before .before .entry4 .given .1) .1
+agree-type-scaled-requires t c κs = array-inside _ _ _ _ (c .before .before .before .before .before .before .before .before .before .before .before .before .before .before .pre .1 .1 .inside) (c .before .before .before .before .before .before .before .entry4 .given .1) .1
+
+agree-type-entry-at-requires : (t : ℕ) → agree-type-lts.Need-entry-at-requires (agree-type-calls t) (agree-type-at t) agree-type.Post
+agree-type-entry-at-requires t c κs = search needs
 
 agree-type-is-field-requires : (t : ℕ) → agree-type-lts.Need-is-field-requires (agree-type-calls t) (agree-type-at t) agree-type.Post
 agree-type-is-field-requires t c κs = search needs
 
 agree-type-agree-field-requires-2 : (t : ℕ) → agree-type-lts.Need-agree-field-requires-2 (agree-type-calls t) (agree-type-at t) agree-type.Post
-agree-type-agree-field-requires-2 t c κs = (c .before .before .before .before .before .before .before .before .before .before .before .before .before .before .before .before .before .before .pre .1 .begins, c .before .before .before .before .before .before .before .before .before .before .before .before .before .before .before .before .before .before .pre .1 .lengths)
+agree-type-agree-field-requires-2 t c κs =
+    let p = c .before .before .before .before .before .before .before .before .before .before .before .before .before .before .before .before .before .before .pre .1 .0 in
+    (p .begins, p .lengths)
 
 agree-type-returns-2 : (t : ℕ) → agree-type-lts.Need-returns-2 (agree-type-calls t) (agree-type-at t) agree-type.Post
 agree-type-returns-2 t c =
-    type-array-solid _ _ _ _ _ _ _ _ (c .before .before .before .before .before .before .before .before .before .before .before .before .before .before .before .before .before .before .before .pre .1 .shallow) (c .before .before .before .before .before .before .before .before .before .before .before .before .before .entry-at .ensures .0) _ (c .before .before .before .before .before .before .before .before .before .before .before .entry4 .given .1) (c .before .before .before .before .before .before .before .before .before .survey-type .ensures) (c .before .before .before .before .before .before .before .base .given .1) (c .before .before .before .scaled .ensures) (c .before .before .is-field .ensures) (c .before .if2 .taken) (c .agree-field2 .ensures)
+    let p = c .before .before .before .before .before .before .before .before .before .before .before .before .before .before .before .before .before .before .before .pre .1 in
+    type-array-solid _ _ _ _ _ _ _ _ (p .0 .shallow) (p .1 .is) _ (c .before .before .before .before .before .before .before .before .before .before .before .before .entry4 .given .1) (c .before .before .before .before .before .before .before .before .before .before .survey-type .ensures) (c .before .before .before .before .before .before .before .before .base .given .1) (c .before .before .before .before .scaled .ensures) (c .before .before .before .entry-at .ensures .0) (c .before .before .is-field .ensures) (c .before .if2 .taken) (c .agree-field2 .ensures)
 
 agree-type-enter-requires : (t : ℕ) → agree-type-lts.Need-enter-requires (agree-type-calls t) (agree-type-at t) agree-type.Post
-agree-type-enter-requires t c κs = sound-level _ _ _ _ _ (c .before .before .before .before .before .before .before .before .survey-type .ensures) (c .before .before .before .before .before .before .base .given .1)
+agree-type-enter-requires t c κs = sound-level _ _ _ _ _ (c .before .before .before .before .before .before .before .before .before .survey-type .ensures) (c .before .before .before .before .before .before .before .base .given .1)
 
 agree-type-div-agree-entries : (t : ℕ) → agree-type-lts.Need-div-agree-entries (agree-type-calls t) (agree-type-at t) agree-type.Post
 agree-type-div-agree-entries t c = search needs
 
 agree-type-agree-entries-requires : (t : ℕ) → agree-type-lts.Need-agree-entries-requires (agree-type-calls t) (agree-type-at t) agree-type.Post
 agree-type-agree-entries-requires t c κs =
+    let p = c .before .before .before .before .before .before .before .before .before .before .before .before .before .before .before .before .before .before .before .pre in
     let d = c .enter .ensures .0 in
-    let l = sound-level _ _ _ _ _ (c .before .before .before .before .before .before .before .before .before .survey-type .ensures) (c .before .before .before .before .before .before .before .base .given .1) in
-    let m = c .before .before .before .before .before .before .before .before .before .before .before .before .before .before .before .before .before .before .before .pre .0 in
-    (omega arith, record { deep = omega arith; shallow = omega arith; begins = c .before .before .before .before .before .before .before .before .before .before .before .before .before .before .before .before .before .before .before .pre .1 .begins; lengths = c .before .before .before .before .before .before .before .before .before .before .before .before .before .before .before .before .before .before .before .pre .1 .lengths })
+    let l = sound-level _ _ _ _ _ (c .before .before .before .before .before .before .before .before .before .before .survey-type .ensures) (c .before .before .before .before .before .before .before .before .base .given .1) in
+    let r = read-entered (c .enter .result) (c .enter .ensures .1) (c .before .before .before .entry-at .ensures .0) (c .before .before .before .entry-at .ensures .1) in
+    (omega (arith, p .0), (record { deep = omega arith; shallow = omega arith; begins = p .1 .0 .begins; lengths = p .1 .0 .lengths }, r))
 
 agree-type-returns-3 : (t : ℕ) → agree-type-lts.Need-returns-3 (agree-type-calls t) (agree-type-at t) agree-type.Post
 agree-type-returns-3 t c = search type-unknown
@@ -344,11 +432,12 @@ agree-type-returns-8 t c = search type-array-unsound
 
 agree-type-returns-9 : (t : ℕ) → agree-type-lts.Need-returns-9 (agree-type-calls t) (agree-type-at t) agree-type.Post
 agree-type-returns-9 t c =
-    type-array _ _ _ _ _ _ _ _ (c .before .before .before .before .before .before .before .before .before .before .before .before .before .before .before .before .before .before .before .before .pre .1 .shallow) (c .before .before .before .before .before .before .before .before .before .before .before .before .before .before .entry-at .ensures .0) _ (c .before .before .before .before .before .before .before .before .before .before .before .before .entry4 .given .1) (c .before .before .before .before .before .before .before .before .before .before .survey-type .ensures) (c .before .before .before .before .before .before .before .before .base .given .1) (c .before .enter .result) (c .before .before .before .before .scaled .ensures) (c .before .enter .ensures .0) (c .before .enter .ensures .1) (c .agree-entries .ensures)
+    let p = c .before .before .before .before .before .before .before .before .before .before .before .before .before .before .before .before .before .before .before .before .pre .1 in
+    type-array _ _ _ _ _ _ _ _ (p .0 .shallow) (p .1 .is) _ (c .before .before .before .before .before .before .before .before .before .before .before .before .before .entry4 .given .1) (c .before .before .before .before .before .before .before .before .before .before .before .survey-type .ensures) (c .before .before .before .before .before .before .before .before .before .base .given .1) (c .before .enter .result) (c .before .before .before .before .before .scaled .ensures) (c .before .enter .ensures .0) (c .before .enter .ensures .1) (c .agree-entries .ensures)
 
-pub +agree-entries+agree-members+agree-type-spec : {M : Type 1} → statement M
-+agree-entries+agree-members+agree-type-spec =
-    close μ-agree-entries μ-agree-members μ-agree-type (λ t. agree-entries-lts.spec (
+pub +agree-entries+agree-member+agree-members+agree-type-spec : {M : Type 1} → statement M
++agree-entries+agree-member+agree-members+agree-type-spec =
+    close μ-agree-entries μ-agree-member μ-agree-members μ-agree-type (λ t. agree-entries-lts.spec (
       agree-type-below t,
       agree-type.Post,
     )
@@ -370,13 +459,40 @@ pub +agree-entries+agree-members+agree-type-spec : {M : Type 1} → statement M
     (agree-entries-loop-less t)
     (agree-entries-loop-again t)
     (agree-entries-returns-4 t))
-    (λ t. agree-members-lts.spec (
-      member-at-reads.Asked,
-      member-at-reads.Learnt,
+    (λ t. agree-member-lts.spec (
+      entry-at-reads.Asked,
+      entry-at-reads.Learnt,
+      agree-field-reads.Asked,
+      agree-field-reads.Learnt,
+      agree-enumeration-reads.Asked,
+      agree-enumeration-reads.Learnt,
       enter-reads.Asked,
       enter-reads.Learnt,
       agree-type-below t,
       agree-type.Post,
+    )
+    (agree-member-at t)
+    agree-member.Post
+    (agree-member-entry-at-requires t)
+    (agree-member-enum-known-entry t)
+    (agree-member-cast-agree-field t)
+    (agree-member-add-t17 t)
+    (agree-member-cast-t18 t)
+    (agree-member-add-t19 t)
+    (agree-member-agree-field-requires t)
+    (agree-member-enum-known-entry-2 t)
+    (agree-member-sub-agree-enumeration t)
+    (agree-member-agree-enumeration-requires t)
+    (agree-member-enter-requires t)
+    (agree-member-agree-type-requires t)
+    (agree-member-returns t)
+    (agree-member-returns-2 t)
+    (agree-member-returns-3 t))
+    (λ t. agree-members-lts.spec (
+      member-at-reads.Asked,
+      member-at-reads.Learnt,
+      agree-member-below t,
+      agree-member.Post,
     )
     (agree-members-at t)
     agree-members.Post
@@ -391,13 +507,12 @@ pub +agree-entries+agree-members+agree-type-spec : {M : Type 1} → statement M
     (agree-members-sub-if2 t)
     (agree-members-cast-if2 t)
     (agree-members-returns-3 t)
-    (agree-members-add-enter t)
-    (agree-members-enter-requires t)
-    (agree-members-cast-agree-type t)
-    (agree-members-add-agree-type t)
-    (agree-members-cast-agree-type-2 t)
-    (agree-members-add-agree-type-2 t)
-    (agree-members-agree-type-requires t)
+    (agree-members-add-agree-member t)
+    (agree-members-cast-agree-member t)
+    (agree-members-add-agree-member-2 t)
+    (agree-members-cast-agree-member-2 t)
+    (agree-members-add-agree-member-3 t)
+    (agree-members-agree-member-requires t)
     (agree-members-enum-told-2 t)
     (agree-members-returns-4 t)
     (agree-members-enum-told-3 t)
@@ -408,8 +523,6 @@ pub +agree-entries+agree-members+agree-type-spec : {M : Type 1} → statement M
     (agree-members-loop-again t)
     (agree-members-returns-6 t))
     λ t. agree-type-lts.spec (
-      entry-at-reads.Asked,
-      entry-at-reads.Learnt,
       agree-field-reads.Asked,
       agree-field-reads.Learnt,
       agree-enumeration-reads.Asked,
@@ -420,6 +533,8 @@ pub +agree-entries+agree-members+agree-type-spec : {M : Type 1} → statement M
       survey-type-reads.Learnt,
       scaled-reads.Asked,
       scaled-reads.Learnt,
+      entry-at-reads.Asked,
+      entry-at-reads.Learnt,
       is-field-reads.Asked,
       is-field-reads.Learnt,
       enter-reads.Asked,
@@ -432,14 +547,13 @@ pub +agree-entries+agree-members+agree-type-spec : {M : Type 1} → statement M
     (agree-type-sub-row t)
     (agree-type-mul-row t)
     (agree-type-array-read-row t)
-    (agree-type-entry-at-requires t)
     (agree-type-enum-told t)
     (agree-type-enum-told-2 t)
     (agree-type-enum-known-entry t)
     (agree-type-cast-agree-field t)
-    (agree-type-add-t32 t)
-    (agree-type-cast-t33 t)
-    (agree-type-add-t34 t)
+    (agree-type-add-t33 t)
+    (agree-type-cast-t34 t)
+    (agree-type-add-t35 t)
     (agree-type-agree-field-requires t)
     (agree-type-enum-known-entry-2 t)
     (agree-type-sub-agree-enumeration t)
@@ -459,6 +573,7 @@ pub +agree-entries+agree-members+agree-type-spec : {M : Type 1} → statement M
     (agree-type-cast-size t)
     (agree-type-returns t)
     (agree-type-scaled-requires t)
+    (agree-type-entry-at-requires t)
     (agree-type-is-field-requires t)
     (agree-type-agree-field-requires-2 t)
     (agree-type-returns-2 t)
