@@ -1,0 +1,9 @@
+// Runs document 01's cases of sizes, slots and references, and one of each refusal, and writes what each gives.
+mod calls;
+mod types;
+
+fn main() {
+    types::slot_cases();
+    types::size_cases();
+    calls::bad_tables();
+}
