@@ -1,4 +1,5 @@
-//! Makes the files that the program `replay` runs: messages with the answers of the Rust of the papers. Arguments: a seed and a number of
+//! Makes the files that the program `replay` runs: messages with the answers of the Rust of the papers, and that a type is Unstorable from
+//! the plain walk of walk.rs. Arguments: a seed and a number of
 //! rounds for messages of this generator, or a file of messages (each a length of 4 bytes and the bytes); then the file to write. The
 //! format is set out in crates/replay/src.
 #![allow(dead_code, unused_imports)]

@@ -38,11 +38,6 @@ static void fail(const char *what, const uint8_t *bytes, size_t n) {
 
 // ---- What the C library says of a type, as rows and pool bytes
 
-// The type of variable-length strings has other sizes in memory and in a file, which the functions do not tell.
-static int sizes_vary(hid_t t) {
-    return H5Tdetect_class(t, H5T_VLEN) > 0 || H5Tdetect_class(t, H5T_STRING) > 0;
-}
-
 static uint32_t *row(uint32_t kind) {
     uint32_t *r = expected + rows++ * 16;
     memset(r, 0, 64);
@@ -175,7 +170,7 @@ static void describe(hid_t t) {
 
 // ---- One message
 
-// Sizes and offsets of a type that holds variable lengths are those of the memory or of the file; the rest of its rows is compared.
+// Sizes and offsets of a type that holds a variable-length string are those of the memory or of the file; the rest of its rows is compared.
 static void forget_sizes(uint32_t *words) {
     for (size_t i = 0; i < rows; i++) {
         uint32_t *r = words + i * 16;
@@ -265,7 +260,7 @@ static void compare(hid_t t, const uint8_t *message, size_t n, int in_file) {
         fwrite(&length, 4, 1, messages);
         fwrite(message, 1, n, messages);
     }
-    if (in_file && sizes_vary(t)) {
+    if (in_file && some(t, variable_string)) {
         static uint32_t kept[ROWS * 16];
         memcpy(kept, table, sizeof kept);
         forget_sizes(kept), forget_sizes(expected);
