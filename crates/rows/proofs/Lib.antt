@@ -1,3 +1,4 @@
 pub mod Decode
 pub mod Zeros
 pub mod Columns
+pub mod Known

@@ -1,6 +1,7 @@
 -- What a row says, by its words: the same tests that `typeAt` makes of a row (proofs/Decode.antt: typeAt by entries).
 use Prim.Native.Nat.{ℕ, suc, _+_, _*_, _≤_, max}
 use mathlib.Core.Bool.{Bool, true, false, _&&_}
+use mathlib.Core.Path.{_≡_}
 use mathlib.Core.List.{List, [], _∷_}
 use lib.ListN.{length, getD, take, drop}
 use lib.Dec.{leb, ltb}
@@ -64,6 +65,19 @@ EntryInside (Enumeration n k) words bytes r p = r * 16 + 16 ≤ words
 EntryInside (VariableLength i a c) words bytes r p = r * 16 + 16 ≤ words
 EntryInside (Array k) words bytes r p = (r * 16 + 16 ≤ words) × (p + k * 4 ≤ bytes)
 EntryInside Unknown words bytes r p = Unit {0}
+
+-- an answer that is the row's entry, or member, unless the row is unknown: of an unknown row nothing is said
+unfoldable pub EntryIfKnown : (entry answer : Entry) → Type 0
+EntryIfKnown (Leaf c n l x) y = y ≡ Leaf c n l x
+EntryIfKnown (Compound n k) y = y ≡ Compound n k
+EntryIfKnown (Enumeration n k) y = y ≡ Enumeration n k
+EntryIfKnown (VariableLength i a c) y = y ≡ VariableLength i a c
+EntryIfKnown (Array k) y = y ≡ Array k
+EntryIfKnown Unknown y = Unit {0}
+
+unfoldable pub MemberIfKnown : (member answer : Member) → Type 0
+MemberIfKnown (Named a b) y = y ≡ Named a b
+MemberIfKnown Unnamed y = Unit {0}
 
 -- how long a compound's member's name is, and an enumeration's
 unfoldable pub memberNameLength : Member → ℕ

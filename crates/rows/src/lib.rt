@@ -4,8 +4,9 @@ ghost use Prim.Native.Nat.{_+_, _*_, _-_, _≤_, _<_};
 ghost use lib.ListN.{length, take, drop};
 ghost use Rattle.format.specs.Bytes.{allZero};
 ghost use mathlib.Core.Bool.{_&&_};
+ghost use lib.Dec.{leb};
 ghost use Rattle.rows.specs.Columns.{clearColumns, leafColumns, groupColumns, variableLengthColumns, pieceColumns};
-ghost use Rattle.rows.specs.Entries.{pick, pickMember, entryAt, memberAt, enumMemberAt, EntryInside, MemberInside, memberNameLength, enumMemberNameLength};
+ghost use Rattle.rows.specs.Entries.{pick, pickMember, entryAt, memberAt, enumMemberAt, EntryInside, EntryIfKnown, MemberInside, MemberIfKnown, memberNameLength, enumMemberNameLength};
 
 // A type's row. Leaf: class, size, length of the tag, and column 5 (order, padding or reference kind). Compound and Enumeration: size and
 // number of members. VariableLength: is a string, padding, charset. Array: rank.
@@ -277,4 +278,87 @@ pub fn enum_member_at(table: &[u32], pool: &[u8], row: usize, place: usize) -> M
     let begins = both(table[at] == 13, table[at + 1] == 0);
     let known = both(begins, piece_columns(table, pool, row, place, 5, 1));
     member_if(known, Member::Named(table[at + 3], table[at + 4]))
+}
+
+// Whether a piece of so many times `width` bytes at a place lies in the pool.
+fn piece_fits(pool: &[u8], place: usize, n: u32, width: usize) -> bool
+    requires { ⌜ width ≤ 4 ⌝ }
+    ensures { λ r. ⌜ r ≡ leb (place + n * width) (length (now (pool .entry))) ⌝ }
+{
+    let lent = pool.len();
+    if lent < place {
+        return false;
+    }
+    let bytes = (n as usize) * width;
+    bytes <= lent - place
+}
+
+// What `entry_at` answers of a row that is known to be a type's, without testing it again: what it takes from the row lies in the table and the
+// pool, whatever the row has.
+pub fn known_entry_at(table: &[u32], pool: &[u8], row: usize, place: usize) -> Entry
+    ensures is { λ r. ⌜ EntryIfKnown (entryAt (now (table .entry)) (now (pool .entry)) row place) r ⌝ }
+    ensures inside { λ r. ⌜ EntryInside r (length (now (table .entry))) (length (now (pool .entry))) row place ⌝ }
+{
+    if table.len() / 16 <= row {
+        return Entry::Unknown;
+    }
+    let at = row * 16;
+    let kind = table[at];
+    let size = table[at + 1];
+    let length = table[at + 3];
+    let count = table[at + 4];
+    let code = table[at + 5];
+    let second = table[at + 6];
+    let third = table[at + 7];
+    match kind {
+        1 => Entry::Leaf(0, size, 0, code),
+        2 => Entry::Leaf(1, size, 0, code),
+        3 => Entry::Leaf(2, size, 0, code),
+        4 => Entry::Leaf(3, size, 0, code),
+        5 => Entry::Leaf(4, size, 0, code),
+        6 => entry_if(
+            piece_fits(pool, place, length, 1),
+            Entry::Leaf(5, size, length, code),
+        ),
+        7 => Entry::Compound(size, count),
+        8 => Entry::Leaf(7, size, 0, code),
+        9 => Entry::Enumeration(size, count),
+        10 => Entry::VariableLength(code, second, third),
+        11 => entry_if(piece_fits(pool, place, length, 4), Entry::Array(length)),
+        _ => Entry::Unknown,
+    }
+}
+
+// What `member_at` answers of a row that is known to be a member's.
+pub fn known_member_at(table: &[u32], pool: &[u8], row: usize, place: usize) -> Member
+    ensures is { λ r. ⌜ MemberIfKnown (memberAt (now (table .entry)) (now (pool .entry)) row place) r ⌝ }
+    ensures inside { λ r. ⌜ MemberInside r (length (now (table .entry))) (length (now (pool .entry))) row place (memberNameLength r) ⌝ }
+{
+    if table.len() / 16 <= row {
+        return Member::Unnamed;
+    }
+    let at = row * 16;
+    let offset = table[at + 1];
+    let length = table[at + 3];
+    member_if(
+        piece_fits(pool, place, length, 1),
+        Member::Named(offset, length),
+    )
+}
+
+// What `enum_member_at` answers of a row that is known to be an enumeration member's.
+pub fn known_enum_member_at(table: &[u32], pool: &[u8], row: usize, place: usize) -> Member
+    ensures is { λ r. ⌜ MemberIfKnown (enumMemberAt (now (table .entry)) (now (pool .entry)) row place) r ⌝ }
+    ensures inside { λ r. ⌜ MemberInside r (length (now (table .entry))) (length (now (pool .entry))) row place (enumMemberNameLength r) ⌝ }
+{
+    if table.len() / 16 <= row {
+        return Member::Unnamed;
+    }
+    let at = row * 16;
+    let length = table[at + 3];
+    let value = table[at + 4];
+    member_if(
+        piece_fits(pool, place, length, 1),
+        Member::Named(length, value),
+    )
 }
