@@ -154,35 +154,36 @@ module _ (table pool : List ℕ) (r p : ℕ) where
   unfolding MemberInside MemberIfKnown
   enumUnnamed-answered n e = (rw (sym e) tt, tt)
 
--- A claim that says nothing where no type is found holds of a row that is read again, once it holds of the answer.
+-- A claim that says nothing where no type is found holds where a row is read again, once it holds of the answer, which may be taken to be the
+-- row's own.
 module _ (table pool : List ℕ) (r p : ℕ) where
   pub claim-of-type : (C : Found Datatype → Type 0) → C bad → (k : ℕ) (x : Entry) → EntryIfKnown (entryAt table pool r p) x
-      → C (fromEntry (typeAt k table pool) table pool r p x) → C (typeAt (suc k) table pool r p)
+      → (x ≡ entryAt table pool r p → C (fromEntry (typeAt k table pool) table pool r p x)) → C (typeAt (suc k) table pool r p)
   unfolding EntryIfKnown fromEntry
-  claim-of-type C n k x i h = rw (typeAt-entry k table pool r p) (go (entryAt table pool r p) i)
+  claim-of-type C n k x i h = rw (typeAt-entry k table pool r p) (go (entryAt table pool r p) refl i)
     where
-      go : (e : Entry) → EntryIfKnown e x → C (fromEntry (typeAt k table pool) table pool r p e)
-      go (Leaf c s l y) e = rw e at h
-      go (Compound s m) e = rw e at h
-      go (Enumeration s m) e = rw e at h
-      go (VariableLength a b c) e = rw e at h
-      go (Array m) e = rw e at h
-      go Unknown e = n
+      go : (e : Entry) → entryAt table pool r p ≡ e → EntryIfKnown e x → C (fromEntry (typeAt k table pool) table pool r p e)
+      go (Leaf c s l y) q e = rw e at (h (e ∙ sym q))
+      go (Compound s m) q e = rw e at (h (e ∙ sym q))
+      go (Enumeration s m) q e = rw e at (h (e ∙ sym q))
+      go (VariableLength a b c) q e = rw e at (h (e ∙ sym q))
+      go (Array m) q e = rw e at (h (e ∙ sym q))
+      go Unknown q e = n
 
   pub claim-of-members : (C : Found Members → Type 0) → C bad → (rd : Walk Datatype) (k : ℕ) (x : Member) → MemberIfKnown (memberAt table pool r p) x
-      → C (fromMember rd (membersAt rd table pool k) pool r p x) → C (membersAt rd table pool (suc k) r p)
+      → (x ≡ memberAt table pool r p → C (fromMember rd (membersAt rd table pool k) pool r p x)) → C (membersAt rd table pool (suc k) r p)
   unfolding MemberIfKnown fromMember
-  claim-of-members C n rd k x i h = rw (membersAt-entry table pool k r p rd) (go (memberAt table pool r p) i)
+  claim-of-members C n rd k x i h = rw (membersAt-entry table pool k r p rd) (go (memberAt table pool r p) refl i)
     where
-      go : (m : Member) → MemberIfKnown m x → C (fromMember rd (membersAt rd table pool k) pool r p m)
-      go (Named a b) e = rw e at h
-      go Unnamed e = n
+      go : (m : Member) → memberAt table pool r p ≡ m → MemberIfKnown m x → C (fromMember rd (membersAt rd table pool k) pool r p m)
+      go (Named a b) q e = rw e at (h (e ∙ sym q))
+      go Unnamed q e = n
 
   pub claim-of-enumNames : (C : Found (List (List ℕ × ℕ)) → Type 0) → C bad → (k : ℕ) (x : Member) → MemberIfKnown (enumMemberAt table pool r p) x
-      → C (fromEnumMember (enumNamesAt table pool k) pool r p x) → C (enumNamesAt table pool (suc k) r p)
+      → (x ≡ enumMemberAt table pool r p → C (fromEnumMember (enumNamesAt table pool k) pool r p x)) → C (enumNamesAt table pool (suc k) r p)
   unfolding MemberIfKnown fromEnumMember
-  claim-of-enumNames C n k x i h = rw (enumNamesAt-entry table pool k r p) (go (enumMemberAt table pool r p) i)
+  claim-of-enumNames C n k x i h = rw (enumNamesAt-entry table pool k r p) (go (enumMemberAt table pool r p) refl i)
     where
-      go : (m : Member) → MemberIfKnown m x → C (fromEnumMember (enumNamesAt table pool k) pool r p m)
-      go (Named a b) e = rw e at h
-      go Unnamed e = n
+      go : (m : Member) → enumMemberAt table pool r p ≡ m → MemberIfKnown m x → C (fromEnumMember (enumNamesAt table pool k) pool r p m)
+      go (Named a b) q e = rw e at (h (e ∙ sym q))
+      go Unnamed q e = n
