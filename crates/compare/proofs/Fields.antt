@@ -8,10 +8,10 @@ use lib.Dec.{ltb}
 use Rattle.format.specs.Datatype.{Datatype, enumeration, EnumMember, typeSize}
 use Rattle.format.specs.Ownership.{owned}
 use Rattle.format.specs.Table.{Found, found, bad, Walk, andThen, Kind, isFixedPoint, isFloatingPoint, isTime, isString, isBitField, isOpaque, isCompound, isReference, isEnumeration, isVariableLength, isArray, isUnknown, kindOf, typeAt, enumNamesAt, enumValuesAt}
-use Rattle.rows.specs.Entries.{wordAt, pick, entryOf, entryAt, leafType, fromEntry}
+use Rattle.rows.specs.Entries.{wordAt, pick, entryOf, entryAt, leafType, fromEntry, EntryIfKnown}
 use Rattle.rows.specs.declared.Entry.{Entry}
 use Rattle.rows.specs.declared.Entry.the-variants.{Leaf, Compound, Enumeration, VariableLength, Array, Unknown}
-use Rattle.rows.proofs.Decode.{typeAt-entry}
+use Rattle.rows.proofs.Known.{claim-of-type}
 use Rattle.table.specs.declared.Spot.{Spot}
 use Rattle.compare.specs.Agreeing.{isField, Admitted, Agrees, AgreesBytes}
 use Rattle.compare.specs.declared.Agreed.{Agreed}
@@ -131,8 +131,8 @@ module _ (rd : Walk Datatype) (table pool : List ℕ) (r p : ℕ) where
   entry-solid (Array k) q h = let z : _≡_ {A = ℕ} 0 1 = cc in absurd (omega arith)
   entry-solid Unknown q h = let z : _≡_ {A = ℕ} 0 1 = cc in absurd (omega arith)
 
-pub field-solid : (levels : ℕ) (table pool : List ℕ) (r p : ℕ) {x : Bool} → x ≡ isField (entryAt table pool r p) → x ≡ true → Solid (typeAt levels table pool r p)
+pub field-solid : (levels : ℕ) (table pool : List ℕ) (r p : ℕ) {x : Bool} (e : Entry) → EntryIfKnown (entryAt table pool r p) e → x ≡ isField e → x ≡ true
+    → Solid (typeAt levels table pool r p)
 unfolding Solid typeAt
-field-solid zero table pool r p q h = tt
-field-solid (suc k) table pool r p q h =
-    rw (typeAt-entry k table pool r p) (entry-solid (typeAt k table pool) table pool r p (entryAt table pool r p) refl (sym q ∙ h))
+field-solid zero table pool r p e i q h = tt
+field-solid (suc k) table pool r p e i q h = claim-of-type table pool r p Solid tt k e i (λ is. entry-solid (typeAt k table pool) table pool r p e is (sym q ∙ h))

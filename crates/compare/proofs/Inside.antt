@@ -16,10 +16,11 @@ use Rattle.format.specs.Slots.{firstZero, memberFirstZero}
 use Rattle.format.specs.Table.{Found, found, bad, Walk, andThen, typeAt, membersAt}
 use Rattle.format.proofs.Booleans.{and-both, or-either, or-neither, or-second}
 use Rattle.format.proofs.Ownership.{entry-complete}
-use Rattle.rows.specs.Entries.{memberAt, fromMember}
+use Rattle.rows.specs.Entries.{memberAt, MemberIfKnown, fromMember}
 use Rattle.rows.specs.declared.Member.{Member}
 use Rattle.rows.specs.declared.Member.the-variants.{Named, Unnamed}
 use Rattle.rows.proofs.Decode.{membersAt-entry}
+use Rattle.rows.proofs.Known.{claim-of-members}
 use Rattle.table.specs.declared.Spot.{Spot}
 use Rattle.compare.specs.Agreeing.{Admitted, AdmittedIn, Agreement, Apartness, Answers, Agrees, AgreesIn, AgreesEach}
 use Rattle.compare.specs.declared.Agreed.{Agreed}
@@ -142,29 +143,33 @@ module _ (table pool : List ℕ) (depth r p left : ℕ) (a b : List ℕ) (at : �
       inv _ (rw k (unfold membersAt AgreesIn in λ n d l. answers-together (unfold Agreement owned in λ i o. absurd (false≢true o))))
 
   module _ (some-left : 0 < left) where
-    members-as : (z : Agreed) → AgreesIn (fromMember (typeAt (32 - depth) table pool) (membersAt (typeAt (32 - depth) table pool) table pool (left - 1)) pool r p (memberAt table pool r p)) a b at z
-        → AgreesIn y a b at z
+    members-as : (z : Agreed) → AgreesIn (membersAt (typeAt (32 - depth) table pool) table pool (suc (left - 1)) r p) a b at z → AgreesIn y a b at z
     unfolding Leads
     members-as z h =
         let j : left ≡ suc (left - 1) = omega arith in
-        inv z (rw (j, membersAt-entry table pool (left - 1) r p (typeAt (32 - depth) table pool)) h)
+        inv z (rw j h)
 
     pub members-deep : (z : Agreed) → 32 ≤ depth → AgreesIn y a b at z
-    members-deep z h = members-as z (go (memberAt table pool r p))
+    members-deep z h = members-as z (rw (membersAt-entry table pool (left - 1) r p (typeAt (32 - depth) table pool)) (go (memberAt table pool r p)))
       where
         go : (m : Member) → AgreesIn (fromMember (typeAt (32 - depth) table pool) (membersAt (typeAt (32 - depth) table pool) table pool (left - 1)) pool r p m) a b at z
         go (Named o n) = let k : 32 - depth ≡ 0 = omega arith in rw k (unfold fromMember typeAt andThen AgreesIn in tt)
         go Unnamed = unfold fromMember AgreesIn in tt
 
-    module _ {m : Member} (q : m ≡ memberAt table pool r p) where
+    module _ {m : Member} (known : MemberIfKnown (memberAt table pool r p) m) where
+      by-member : (z : Agreed) {f : Member} → m ≡ f → AgreesIn (fromMember (typeAt (32 - depth) table pool) (membersAt (typeAt (32 - depth) table pool) table pool (left - 1)) pool r p f) a b at z
+          → AgreesIn y a b at z
+      by-member z e h =
+          members-as z (claim-of-members table pool r p (λ (w : Found Members). AgreesIn w a b at z) (unfold AgreesIn in tt) (typeAt (32 - depth) table pool) (left - 1) m known (λ q. rw e h))
+
       pub members-unnamed : (z : Agreed) → m ≡ Unnamed → AgreesIn y a b at z
-      members-unnamed z e = members-as z (rw (sym q ∙ e) (unfold fromMember AgreesIn in tt))
+      members-unnamed z e = by-member z e (unfold fromMember AgreesIn in tt)
 
       module _ {o n : ℕ} (e : m ≡ Named o n) where
         members-named : (z : Agreed)
             → AgreesIn (Behind (take n (drop p pool)) o (membersAt (typeAt (32 - depth) table pool) table pool (left - 1)) a b at (typeAt (32 - depth) table pool (r + 1) (p + n))) a b at z
             → AgreesIn y a b at z
-        members-named z h = members-as z (rw (sym q ∙ e) (unfold fromMember in (rw (add-one r) at h)))
+        members-named z h = by-member z e (unfold fromMember in (rw (add-one r) at h))
 
         pub members-past : (z : Agreed) → length a - at < o → AgreesIn y a b at z
         members-past z h = members-named z (past _ o _ a b at z _ h)

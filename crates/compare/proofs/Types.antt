@@ -19,10 +19,10 @@ use Rattle.format.proofs.Booleans.{or-neither}
 use Rattle.format.proofs.Ownership.{array-size, owned-remainder}
 use Rattle.format.proofs.Slots.{first-zero-size}
 use Rattle.format.proofs.TableSteps.{then-found}
-use Rattle.rows.specs.Entries.{entryAt, fromEntry, EntryInside}
+use Rattle.rows.specs.Entries.{entryAt, fromEntry, EntryInside, EntryIfKnown}
 use Rattle.rows.specs.declared.Entry.{Entry}
 use Rattle.rows.specs.declared.Entry.the-variants.{Leaf, Compound, Enumeration, VariableLength, Array, Unknown}
-use Rattle.rows.proofs.Decode.{typeAt-entry}
+use Rattle.rows.proofs.Known.{claim-of-type}
 use Rattle.rows.proofs.Zeros.{and-true}
 use Rattle.table.specs.Survey.{surveyOf, spotOf, enumSpotOf}
 use Rattle.table.specs.declared.Survey.{Survey}
@@ -168,21 +168,20 @@ module _ (ds : List ℕ) (s : Survey) (a b : List ℕ) (at : ℕ) (x : Agreed) w
 
 -- ---- by the row
 
-module _ (table pool : List ℕ) (depth row place : ℕ) (a b : List ℕ) (at : ℕ) {e : Entry} (shallow : depth ≤ 32) (q : e ≡ entryAt table pool row place) where
-  type-as : {f : Entry} → e ≡ f → typeAt (33 - depth) table pool row place ≡ fromEntry (typeAt (32 - depth) table pool) table pool row place f
-  type-as h =
+module _ (table pool : List ℕ) (depth row place : ℕ) (a b : List ℕ) (at : ℕ) {e : Entry} (shallow : depth ≤ 32) (known : EntryIfKnown (entryAt table pool row place) e) where
+  by-row : (x : Agreed) {f : Entry} → e ≡ f → (e ≡ entryAt table pool row place → Agrees (fromEntry (typeAt (32 - depth) table pool) table pool row place f) a b at x)
+      → Agrees (typeAt (33 - depth) table pool row place) a b at x
+  by-row x h v =
       let j : 33 - depth ≡ suc (32 - depth) = omega arith in
-      ap (λ (k : ℕ). typeAt k table pool row place) j
-      ∙ typeAt-entry (32 - depth) table pool row place
-      ∙ ap (fromEntry (typeAt (32 - depth) table pool) table pool row place) (sym q ∙ h)
+      rw j (claim-of-type table pool row place (λ (y : Found Datatype). Agrees y a b at x) (unfold Agrees in tt) (32 - depth) e known (λ q. rw h (v q)))
 
   pub type-unknown : (x : Agreed) → e ≡ Unknown → Agrees (typeAt (33 - depth) table pool row place) a b at x
   unfolding fromEntry Agrees
-  type-unknown x h = rw (type-as h) tt
+  type-unknown x h = by-row x h (λ q. tt)
 
   pub type-variableLength : (x : Agreed) {i p c : ℕ} → e ≡ VariableLength i p c → Agrees (typeAt (33 - depth) table pool row place) a b at x
   unfolding fromEntry
-  type-variableLength x {i = i} {p = p} {c = c} h = rw (type-as h) (go (typeAt (32 - depth) table pool (suc row) place))
+  type-variableLength x {i = i} {p = p} {c = c} h = by-row x h (λ q. go (typeAt (32 - depth) table pool (suc row) place))
     where
       go : (y : Found Datatype) → Agrees (andThen y (λ t r′ p′. found (variableLength i p c t) r′ p′)) a b at x
       go (found t r′ p′) = unfold andThen Agrees heapHeld in λ d l. absurd (false≢true (sym (d .plain)))
@@ -192,16 +191,16 @@ module _ (table pool : List ℕ) (depth row place : ℕ) (a b : List ℕ) (at : 
       → Agrees (typeAt (33 - depth) table pool row place) a b at x
   unfolding fromEntry
   type-leaf x {k = k} {n = n} {l = l} h v =
-      rw (type-as h) (owns-agrees _ _ _ n a b at (record { row = row + 1; place = place + l }) x (λ d. leaf-owns table pool row place q h) (rw (add-one row)) v)
+      by-row x h (λ q. owns-agrees _ _ _ n a b at (record { row = row + 1; place = place + l }) x (λ d. leaf-owns table pool row place q h) (rw (add-one row)) v)
 
   pub type-enumeration : (x : Agreed) {n k : ℕ} → e ≡ Enumeration n k
       → Agrees (fromEntry (typeAt (32 - depth) table pool) table pool row place (Enumeration n k)) a b at x → Agrees (typeAt (33 - depth) table pool row place) a b at x
-  type-enumeration x h v = rw (type-as h) v
+  type-enumeration x h v = by-row x h (λ q. v)
 
   pub type-compound : (x : Agreed) {n k : ℕ} → e ≡ Compound n k → AgreesIn (membersAt (typeAt (32 - depth) table pool) table pool k (row + 1) place) a b at x
       → Agrees (typeAt (33 - depth) table pool row place) a b at x
   unfolding fromEntry
-  type-compound x {n = n} {k = k} h v = rw (type-as h) (go _ (rw (add-one row) at v))
+  type-compound x {n = n} {k = k} h v = by-row x h (λ q. go _ (rw (add-one row) at v))
     where
       go : (y : Found Members) → AgreesIn y a b at x → Agrees (andThen y (λ ms r′ p′. found (compound n ms) r′ p′)) a b at x
       go (found ms r p) w =
@@ -212,18 +211,18 @@ module _ (table pool : List ℕ) (depth row place : ℕ) (a b : List ℕ) (at : 
   module _ (x : Agreed) {k : ℕ} {y : Surveyed} (h : e ≡ Array k) (g : y ≡ surveyOf (typeAt (32 - depth) table pool (row + 1) (place + k * 4))) where
     pub type-array-unsound : y ≡ Unsound → Agrees (typeAt (33 - depth) table pool row place) a b at x
     unfolding fromEntry andThen Agrees
-    type-array-unsound u = rw (type-as h, ← add-one row, untold _ g u) tt
+    type-array-unsound u = by-row x h (λ q. rw (← add-one row, untold _ g u) tt)
 
     module _ {s : Survey} (u : y ≡ Sound s) where
       pub type-array-zero : s .size ≡ 0 → Agrees (typeAt (33 - depth) table pool row place) a b at x
       unfolding fromEntry
-      type-array-zero z = rw (type-as h, ← add-one row) (array-zero _ s a b at x _ (told _ s g u) z)
+      type-array-zero z = by-row x h (λ q. rw (← add-one row) (array-zero _ s a b at x _ (told _ s g u) z))
 
-      module _ {total : ℕ} (ht : total ≡ min (s .size * product (dimensionsFrom k (take (k * 4) (drop place pool)))) 4294967296) {solid : Bool} {i : Entry}
-          (hi : i ≡ entryAt table pool (row + 1) (place + k * 4)) (hs : solid ≡ isField i) where
+      module _ {total : ℕ} (ht : total ≡ min (s .size * product (dimensionsFrom k (take (k * 4) (drop place pool)))) 4294967296) {solid : Bool} (i : Entry)
+          (hi : EntryIfKnown (entryAt table pool (row + 1) (place + k * 4)) i) (hs : solid ≡ isField i) where
         pub type-array-solid : solid ≡ true → AgreesBytes total a b at (record { row = s .row; place = s .place }) x → Agrees (typeAt (33 - depth) table pool row place) a b at x
         unfolding fromEntry
-        type-array-solid w v = rw (type-as h, ← add-one row) (array-solid _ s a b at x ht _ (told _ s g u) (field-solid _ table pool (row + 1) _ (hs ∙ ap isField hi) w) v)
+        type-array-solid w v = by-row x h (λ q. rw (← add-one row) (array-solid _ s a b at x ht _ (told _ s g u) (field-solid _ table pool (row + 1) _ i hi hs w) v))
 
       pub type-array : {total : ℕ} (inner : Path) → total ≡ min (s .size * product (dimensionsFrom k (take (k * 4) (drop place pool)))) 4294967296
           → inner .depth ≡ depth + 1 → topOf inner ≡ row + 1
@@ -232,7 +231,7 @@ module _ (table pool : List ℕ) (depth row place : ℕ) (a b : List ℕ) (at : 
       unfolding fromEntry
       type-array inner ht hd hr v =
           let j : 33 - inner .depth ≡ 32 - depth = omega arith in
-          rw (type-as h, ← add-one row) (array-each _ s a b at x ht _ (told _ s g u) (rw (j, hr) at v))
+          by-row x h (λ q. rw (← add-one row) (array-each _ s a b at x ht _ (told _ s g u) (rw (j, hr) at v)))
 
 -- where a walk found something there was a level left
 pub sound-level : (table pool : List ℕ) (depth row place : ℕ) {y : Surveyed} {s : Survey} → y ≡ surveyOf (typeAt (32 - depth) table pool row place) → y ≡ Sound s → depth < 32
@@ -244,23 +243,23 @@ sound-level table pool depth row place {s = s} g e = go (32 - depth) refl (told 
 
 -- ---- one level further down
 
-pub read-entered : {table pool : List ℕ} {row place : ℕ} {e : Entry} (inner : Path) → topOf inner ≡ row → e ≡ entryAt table pool row place
+pub read-entered : {table pool : List ℕ} {row place : ℕ} {e : Entry} (inner : Path) → topOf inner ≡ row → EntryIfKnown (entryAt table pool row place) e
     → EntryInside e (length table) (length pool) row place → Read e table pool (topOf inner) place
 read-entered inner hr q i = rw hr (record { is = q; inside = i })
 
 module _ (table pool : List ℕ) (depth row place : ℕ) (a b : List ℕ) (at : ℕ) (x : Agreed) where
-  module _ {e : Entry} (d : depth < 32) (q : e ≡ entryAt table pool row place) where
-    below-is : 33 - (depth + 1) ≡ 32 - depth
-    below-is = omega arith
-
+  module _ {e : Entry} (d : depth < 32) (known : EntryIfKnown (entryAt table pool row place) e) where
     pub member-leaf : {k n l y : ℕ} → e ≡ Leaf k n l y → AgreesBytes n a b at (record { row = row + 1; place = place + l }) x → Agrees (typeAt (32 - depth) table pool row place) a b at x
-    member-leaf h v = rw below-is at (type-leaf table pool (depth + 1) row place a b at (omega arith) q x h v)
+    member-leaf h v =
+        let i : 33 - (depth + 1) ≡ 32 - depth = omega arith in
+        rw i at (type-leaf table pool (depth + 1) row place a b at (omega arith) known x h v)
 
     pub member-enumeration : {n k : ℕ} → e ≡ Enumeration n k → Agrees (fromEntry (typeAt (31 - depth) table pool) table pool row place (Enumeration n k)) a b at x
         → Agrees (typeAt (32 - depth) table pool row place) a b at x
     member-enumeration h v =
+        let i : 33 - (depth + 1) ≡ 32 - depth = omega arith in
         let j : 31 - depth ≡ 32 - (depth + 1) = omega arith in
-        rw below-is at (type-enumeration table pool (depth + 1) row place a b at (omega arith) q x h (rw j at v))
+        rw i at (type-enumeration table pool (depth + 1) row place a b at (omega arith) known x h (rw j at v))
 
   pub member-entered : (inner : Path) → inner .depth ≡ depth + 1 → topOf inner ≡ row → Agrees (typeAt (33 - inner .depth) table pool (topOf inner) place) a b at x
       → Agrees (typeAt (32 - depth) table pool row place) a b at x

@@ -12,7 +12,7 @@ use Rattle.format.specs.Outcome.{Outcome, gives, refuses}
 use Rattle.format.specs.Ownership.{inEntries, owned, memberOwned, outside, memberOutside, heapHeld, memberHeapHeld}
 use Rattle.format.specs.Slots.{firstZero, memberFirstZero}
 use Rattle.format.specs.Table.{Found, found, bad}
-use Rattle.rows.specs.Entries.{entryAt, EntryInside}
+use Rattle.rows.specs.Entries.{entryAt, EntryInside, EntryIfKnown}
 use Rattle.rows.specs.declared.Entry.{Entry}
 use Rattle.rows.specs.declared.Entry.the-variants.{Leaf, Compound, Enumeration, VariableLength, Array, Unknown}
 use Rattle.table.specs.declared.Spot.{Spot}
@@ -33,9 +33,9 @@ pub record Standing (path : Path) (a b : List ℕ) (at : ℕ) : Type 0 where
   pub begins : at ≤ length a
   pub lengths : length b ≡ length a
 
--- an entry is what the row has, its pool bytes at a place
+-- an entry is what the row has, its pool bytes at a place, unless the row is unknown
 pub record Read (e : Entry) (table pool : List ℕ) (row place : ℕ) : Type 0 where
-  pub is : e ≡ entryAt table pool row place
+  pub is : EntryIfKnown (entryAt table pool row place) e
   pub inside : EntryInside e (length table) (length pool) row place
 
 -- n bytes from at on are equal

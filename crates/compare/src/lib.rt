@@ -2,8 +2,8 @@
 use refusal::Refusal;
 use rows::Entry;
 use rows::Member;
-use rows::entry_at;
-use rows::member_at;
+use rows::known_entry_at;
+use rows::known_member_at;
 use table::Checked;
 use table::Found;
 use table::Spot;
@@ -221,7 +221,7 @@ fn agree_type(
                         place: s.place,
                     };
                     let total = scaled(pool, place, rank, s.size);
-                    let base_entry = entry_at(table, pool, below, inner);
+                    let base_entry = known_entry_at(table, pool, below, inner);
                     if is_field(base_entry) {
                         return agree_field(a, b, at, total as usize, next);
                     }
@@ -267,7 +267,7 @@ fn agree_members(
         if depth >= 32 {
             return Agreed::Lost;
         }
-        let member = member_at(table, pool, r, p);
+        let member = known_member_at(table, pool, r, p);
         match member {
             Member::Unnamed => {
                 return Agreed::Lost;
@@ -321,7 +321,7 @@ fn agree_member(
     ensures { λ r. ⌜ Agrees (typeAt (32 - path .depth) (now (table .entry)) (now (pool .entry)) row place) (now (a .entry)) (now (b .entry)) at r ⌝ }
 {
     let depth = path.depth;
-    let entry = entry_at(table, pool, row, place);
+    let entry = known_entry_at(table, pool, row, place);
     match entry {
         Entry::Leaf(_, size, length, _) => agree_field(
             a,
@@ -421,7 +421,7 @@ pub fn same(table: &[u32], pool: &[u8], a: &[u8], b: &[u8]) -> Comparison
                 rows: [0; 32],
                 depth: 1,
             };
-            let entry = entry_at(table, pool, 0, 0);
+            let entry = known_entry_at(table, pool, 0, 0);
             let got = agree_type(table, pool, path, 0, entry, a, b, 0);
             match got {
                 Agreed::Together(_) => Comparison::Same,

@@ -26,8 +26,8 @@ use Rattle.compare.proofs.agree_enumeration.Reads as agree-enumeration-
 use Rattle.compare.proofs.agree_field.Reads as agree-field-reads
 use Rattle.compare.proofs.enter.Reads as enter-reads
 use Rattle.compare.proofs.is_field.Reads as is-field-reads
-use Rattle.rows.proofs.entry_at.Reads as entry-at-reads
-use Rattle.rows.proofs.member_at.Reads as member-at-reads
+use Rattle.rows.proofs.known_entry_at.Reads as known-entry-at-reads
+use Rattle.rows.proofs.known_member_at.Reads as known-member-at-reads
 use Rattle.table.proofs.scaled.Reads as scaled-reads
 use Rattle.table.proofs.survey_type.Reads as survey-type-reads
 use Rattle.compare.proofs.+agree_entries+agree_member+agree_members+agree_type.{statement}
@@ -57,8 +57,8 @@ agree-entries-below t =
     (falls 4 agree-entries-kinds.ps _<_ μ-agree-entries t)
     agree-entries.Pre
 
-abbrev agree-member-at : ℕ → In 4 agree-member-kinds.ps
-agree-member-at t =
+abbrev agree-known-member-at : ℕ → In 4 agree-member-kinds.ps
+agree-known-member-at t =
     and 4 agree-member-kinds.ps (is 4 agree-member-kinds.ps μ-agree-member t) agree-member.Pre
 
 abbrev agree-member-below : ℕ → In 4 agree-member-kinds.ps
@@ -93,7 +93,7 @@ abbrev agree-entries-calls : ℕ → agree-entries-lts.Claims
 agree-entries-calls t = (agree-type-below t, agree-type.Post)
 
 abbrev agree-members-calls : ℕ → agree-members-lts.Claims
-agree-members-calls t = (member-at-reads.Asked, member-at-reads.Learnt, agree-member-below t, agree-member.Post)
+agree-members-calls t = (known-member-at-reads.Asked, known-member-at-reads.Learnt, agree-member-below t, agree-member.Post)
 
 abbrev agree-entries-Inv-loop : agree-entries-lts.InvT-loop
 agree-entries-Inv-loop table pool path place entry a b at stride count next start₀ done₀ start done = (done ≤ count) × ((start ≡ at + done * stride) × ((start ≤ length a) × Done (typeAt (33 - path .depth) table pool (topOf path) place) stride done a b at))
@@ -102,10 +102,10 @@ abbrev agree-entries-μ-loop : agree-entries-lts.MeasureT-loop
 agree-entries-μ-loop table pool path place entry a b at stride count next start₀ done₀ start done = count - done
 
 abbrev agree-member-calls : ℕ → agree-member-lts.Claims
-agree-member-calls t = (entry-at-reads.Asked, entry-at-reads.Learnt, agree-field-reads.Asked, agree-field-reads.Learnt, agree-enumeration-reads.Asked, agree-enumeration-reads.Learnt, enter-reads.Asked, enter-reads.Learnt, agree-type-below t, agree-type.Post)
+agree-member-calls t = (known-entry-at-reads.Asked, known-entry-at-reads.Learnt, agree-field-reads.Asked, agree-field-reads.Learnt, agree-enumeration-reads.Asked, agree-enumeration-reads.Learnt, enter-reads.Asked, enter-reads.Learnt, agree-type-below t, agree-type.Post)
 
 abbrev agree-type-calls : ℕ → agree-type-lts.Claims
-agree-type-calls t = (agree-field-reads.Asked, agree-field-reads.Learnt, agree-enumeration-reads.Asked, agree-enumeration-reads.Learnt, agree-members-below t, agree-members.Post, survey-type-reads.Asked, survey-type-reads.Learnt, scaled-reads.Asked, scaled-reads.Learnt, entry-at-reads.Asked, entry-at-reads.Learnt, is-field-reads.Asked, is-field-reads.Learnt, enter-reads.Asked, enter-reads.Learnt, agree-entries-below t, agree-entries.Post)
+agree-type-calls t = (agree-field-reads.Asked, agree-field-reads.Learnt, agree-enumeration-reads.Asked, agree-enumeration-reads.Learnt, agree-members-below t, agree-members.Post, survey-type-reads.Asked, survey-type-reads.Learnt, scaled-reads.Asked, scaled-reads.Learnt, known-entry-at-reads.Asked, known-entry-at-reads.Learnt, is-field-reads.Asked, is-field-reads.Learnt, enter-reads.Asked, enter-reads.Learnt, agree-entries-below t, agree-entries.Post)
 
 agree-entries-loop-holds : (t : ℕ) → agree-entries-lts.Need-loop-holds (agree-entries-calls t) (agree-entries-at t) agree-entries.Post agree-entries-Inv-loop agree-entries-μ-loop
 agree-entries-loop-holds t c = (omega arith, (omega arith, (omega arith, done-none _ _ _ _ _)))
@@ -152,37 +152,37 @@ agree-entries-loop-again t c =
 agree-entries-returns-4 : (t : ℕ) → agree-entries-lts.Need-returns-4 (agree-entries-calls t) (agree-entries-at t) agree-entries.Post agree-entries-Inv-loop agree-entries-μ-loop
 agree-entries-returns-4 t c = search entries-end
 
-agree-member-entry-at-requires : (t : ℕ) → agree-member-lts.Need-entry-at-requires (agree-member-calls t) (agree-member-at t) agree-member.Post
-agree-member-entry-at-requires t c κs = search needs
+agree-member-known-entry-at-requires : (t : ℕ) → agree-member-lts.Need-known-entry-at-requires (agree-member-calls t) (agree-known-member-at t) agree-member.Post
+agree-member-known-entry-at-requires t c κs = search needs
 
-agree-member-enum-known-entry : (t : ℕ) → agree-member-lts.Need-enum-known-entry (agree-member-calls t) (agree-member-at t) agree-member.Post
+agree-member-enum-known-entry : (t : ℕ) → agree-member-lts.Need-enum-known-entry (agree-member-calls t) (agree-known-member-at t) agree-member.Post
 agree-member-enum-known-entry t c = search needs
 
-agree-member-cast-agree-field : (t : ℕ) → agree-member-lts.Need-cast-agree-field (agree-member-calls t) (agree-member-at t) agree-member.Post
+agree-member-cast-agree-field : (t : ℕ) → agree-member-lts.Need-cast-agree-field (agree-member-calls t) (agree-known-member-at t) agree-member.Post
 agree-member-cast-agree-field t c = search needs
 
-agree-member-add-t17 : (t : ℕ) → agree-member-lts.Need-add-t17 (agree-member-calls t) (agree-member-at t) agree-member.Post
-agree-member-add-t17 t c = omega (arith, leaf-inside _ _ _ _ (c .before .before .before .entry-at .ensures .1) (c .before .entry .given .1))
+agree-member-add-t17 : (t : ℕ) → agree-member-lts.Need-add-t17 (agree-member-calls t) (agree-known-member-at t) agree-member.Post
+agree-member-add-t17 t c = omega (arith, leaf-inside _ _ _ _ (c .before .before .before .known-entry-at .ensures .1) (c .before .entry .given .1))
 
-agree-member-cast-t18 : (t : ℕ) → agree-member-lts.Need-cast-t18 (agree-member-calls t) (agree-member-at t) agree-member.Post
+agree-member-cast-t18 : (t : ℕ) → agree-member-lts.Need-cast-t18 (agree-member-calls t) (agree-known-member-at t) agree-member.Post
 agree-member-cast-t18 t c = search needs
 
-agree-member-add-t19 : (t : ℕ) → agree-member-lts.Need-add-t19 (agree-member-calls t) (agree-member-at t) agree-member.Post
-agree-member-add-t19 t c = omega (arith, leaf-inside _ _ _ _ (c .before .before .before .entry-at .ensures .1) (c .before .entry .given .1))
+agree-member-add-t19 : (t : ℕ) → agree-member-lts.Need-add-t19 (agree-member-calls t) (agree-known-member-at t) agree-member.Post
+agree-member-add-t19 t c = omega (arith, leaf-inside _ _ _ _ (c .before .before .before .known-entry-at .ensures .1) (c .before .entry .given .1))
 
-agree-member-agree-field-requires : (t : ℕ) → agree-member-lts.Need-agree-field-requires (agree-member-calls t) (agree-member-at t) agree-member.Post
+agree-member-agree-field-requires : (t : ℕ) → agree-member-lts.Need-agree-field-requires (agree-member-calls t) (agree-known-member-at t) agree-member.Post
 agree-member-agree-field-requires t c κs = search needs
 
-agree-member-enum-known-entry-2 : (t : ℕ) → agree-member-lts.Need-enum-known-entry-2 (agree-member-calls t) (agree-member-at t) agree-member.Post
+agree-member-enum-known-entry-2 : (t : ℕ) → agree-member-lts.Need-enum-known-entry-2 (agree-member-calls t) (agree-known-member-at t) agree-member.Post
 agree-member-enum-known-entry-2 t c = search needs
 
-agree-member-sub-agree-enumeration : (t : ℕ) → agree-member-lts.Need-sub-agree-enumeration (agree-member-calls t) (agree-member-at t) agree-member.Post
+agree-member-sub-agree-enumeration : (t : ℕ) → agree-member-lts.Need-sub-agree-enumeration (agree-member-calls t) (agree-known-member-at t) agree-member.Post
 agree-member-sub-agree-enumeration t c = search needs
 
 agree-member-agree-enumeration-requires :
     (t : ℕ) → agree-member-lts.Need-agree-enumeration-requires (
-      entry-at-reads.Asked,
-      entry-at-reads.Learnt,
+      known-entry-at-reads.Asked,
+      known-entry-at-reads.Learnt,
       agree-field-reads.Asked,
       agree-field-reads.Learnt,
       agree-enumeration-reads.Asked,
@@ -191,26 +191,26 @@ agree-member-agree-enumeration-requires :
       enter-reads.Learnt,
       agree-type-below t,
       agree-type.Post,
-    ) (agree-member-at t) agree-member.Post
-agree-member-agree-enumeration-requires t c κs = (enumeration-inside _ _ _ _ (c .before .before .before .entry-at .ensures .1) (c .before .entry2 .given .1), c .before .before .before .before .before .before .before .before .pre .1 .1)
+    ) (agree-known-member-at t) agree-member.Post
+agree-member-agree-enumeration-requires t c κs = (enumeration-inside _ _ _ _ (c .before .before .before .known-entry-at .ensures .1) (c .before .entry2 .given .1), c .before .before .before .before .before .before .before .before .pre .1 .1)
 
-agree-member-enter-requires : (t : ℕ) → agree-member-lts.Need-enter-requires (agree-member-calls t) (agree-member-at t) agree-member.Post
+agree-member-enter-requires : (t : ℕ) → agree-member-lts.Need-enter-requires (agree-member-calls t) (agree-known-member-at t) agree-member.Post
 agree-member-enter-requires t c κs = search needs
 
-agree-member-agree-type-requires : (t : ℕ) → agree-member-lts.Need-agree-type-requires (agree-member-calls t) (agree-member-at t) agree-member.Post
+agree-member-agree-type-requires : (t : ℕ) → agree-member-lts.Need-agree-type-requires (agree-member-calls t) (agree-known-member-at t) agree-member.Post
 agree-member-agree-type-requires t c κs =
     let p = c .before .before .before .before .before .before .before .pre in
     let d = c .enter .ensures .0 in
-    let r = read-entered (c .enter .result) (c .enter .ensures .1) (c .before .before .entry-at .ensures .0) (c .before .before .entry-at .ensures .1) in
+    let r = read-entered (c .enter .result) (c .enter .ensures .1) (c .before .before .known-entry-at .ensures .0) (c .before .before .known-entry-at .ensures .1) in
     (omega (arith, p .0, p .1 .0), (record { deep = omega arith; shallow = omega (arith, p .1 .0); begins = p .1 .1 .0; lengths = p .1 .1 .1 }, r))
 
-agree-member-returns : (t : ℕ) → agree-member-lts.Need-returns (agree-member-calls t) (agree-member-at t) agree-member.Post
+agree-member-returns : (t : ℕ) → agree-member-lts.Need-returns (agree-member-calls t) (agree-known-member-at t) agree-member.Post
 agree-member-returns t c = search member-leaf
 
-agree-member-returns-2 : (t : ℕ) → agree-member-lts.Need-returns-2 (agree-member-calls t) (agree-member-at t) agree-member.Post
+agree-member-returns-2 : (t : ℕ) → agree-member-lts.Need-returns-2 (agree-member-calls t) (agree-known-member-at t) agree-member.Post
 agree-member-returns-2 t c = search member-enumeration
 
-agree-member-returns-3 : (t : ℕ) → agree-member-lts.Need-returns-3 (agree-member-calls t) (agree-member-at t) agree-member.Post
+agree-member-returns-3 : (t : ℕ) → agree-member-lts.Need-returns-3 (agree-member-calls t) (agree-known-member-at t) agree-member.Post
 agree-member-returns-3 t c = search member-entered
 
 abbrev agree-members-Inv-loop : agree-members-lts.InvT-loop
@@ -225,8 +225,8 @@ agree-members-loop-holds t c = leads-same _ _ _ _
 agree-members-returns : (t : ℕ) → agree-members-lts.Need-returns (agree-members-calls t) (agree-members-at t) agree-members.Post agree-members-Inv-loop agree-members-μ-loop
 agree-members-returns t c = search members-deep
 
-agree-members-member-at-requires : (t : ℕ) → agree-members-lts.Need-member-at-requires (agree-members-calls t) (agree-members-at t) agree-members.Post agree-members-Inv-loop agree-members-μ-loop
-agree-members-member-at-requires t c κs = search needs
+agree-members-known-member-at-requires : (t : ℕ) → agree-members-lts.Need-known-member-at-requires (agree-members-calls t) (agree-members-at t) agree-members.Post agree-members-Inv-loop agree-members-μ-loop
+agree-members-known-member-at-requires t c κs = search needs
 
 agree-members-enum-told : (t : ℕ) → agree-members-lts.Need-enum-told (agree-members-calls t) (agree-members-at t) agree-members.Post agree-members-Inv-loop agree-members-μ-loop
 agree-members-enum-told t c = search needs
@@ -247,13 +247,13 @@ agree-members-returns-3 : (t : ℕ) → agree-members-lts.Need-returns-3 (agree-
 agree-members-returns-3 t c = search members-past
 
 agree-members-add-agree-member : (t : ℕ) → agree-members-lts.Need-add-agree-member (agree-members-calls t) (agree-members-at t) agree-members.Post agree-members-Inv-loop agree-members-μ-loop
-agree-members-add-agree-member t c = let i = named-inside _ _ _ _ (c .before .before .member .given .1) (c .before .before .before .before .member-at .ensures .1) in omega arith
+agree-members-add-agree-member t c = let i = named-inside _ _ _ _ (c .before .before .member .given .1) (c .before .before .before .before .known-member-at .ensures .1) in omega arith
 
 agree-members-cast-agree-member : (t : ℕ) → agree-members-lts.Need-cast-agree-member (agree-members-calls t) (agree-members-at t) agree-members.Post agree-members-Inv-loop agree-members-μ-loop
 agree-members-cast-agree-member t c = search needs
 
 agree-members-add-agree-member-2 : (t : ℕ) → agree-members-lts.Need-add-agree-member-2 (agree-members-calls t) (agree-members-at t) agree-members.Post agree-members-Inv-loop agree-members-μ-loop
-agree-members-add-agree-member-2 t c = let i = named-inside _ _ _ _ (c .before .before .member .given .1) (c .before .before .before .before .member-at .ensures .1) in omega arith
+agree-members-add-agree-member-2 t c = let i = named-inside _ _ _ _ (c .before .before .member .given .1) (c .before .before .before .before .known-member-at .ensures .1) in omega arith
 
 agree-members-cast-agree-member-2 : (t : ℕ) → agree-members-lts.Need-cast-agree-member-2 (agree-members-calls t) (agree-members-at t) agree-members.Post agree-members-Inv-loop agree-members-μ-loop
 agree-members-cast-agree-member-2 t c = search needs
@@ -382,8 +382,8 @@ agree-type-returns t c =
 agree-type-scaled-requires : (t : ℕ) → agree-type-lts.Need-scaled-requires (agree-type-calls t) (agree-type-at t) agree-type.Post
 agree-type-scaled-requires t c κs = array-inside _ _ _ _ (c .before .before .before .before .before .before .before .before .before .before .before .before .before .before .pre .1 .1 .inside) (c .before .before .before .before .before .before .before .entry4 .given .1) .1
 
-agree-type-entry-at-requires : (t : ℕ) → agree-type-lts.Need-entry-at-requires (agree-type-calls t) (agree-type-at t) agree-type.Post
-agree-type-entry-at-requires t c κs = search needs
+agree-type-known-entry-at-requires : (t : ℕ) → agree-type-lts.Need-known-entry-at-requires (agree-type-calls t) (agree-type-at t) agree-type.Post
+agree-type-known-entry-at-requires t c κs = search needs
 
 agree-type-is-field-requires : (t : ℕ) → agree-type-lts.Need-is-field-requires (agree-type-calls t) (agree-type-at t) agree-type.Post
 agree-type-is-field-requires t c κs = search needs
@@ -396,7 +396,7 @@ agree-type-agree-field-requires-2 t c κs =
 agree-type-returns-2 : (t : ℕ) → agree-type-lts.Need-returns-2 (agree-type-calls t) (agree-type-at t) agree-type.Post
 agree-type-returns-2 t c =
     let p = c .before .before .before .before .before .before .before .before .before .before .before .before .before .before .before .before .before .before .before .pre .1 in
-    type-array-solid _ _ _ _ _ _ _ _ (p .0 .shallow) (p .1 .is) _ (c .before .before .before .before .before .before .before .before .before .before .before .before .entry4 .given .1) (c .before .before .before .before .before .before .before .before .before .before .survey-type .ensures) (c .before .before .before .before .before .before .before .before .base .given .1) (c .before .before .before .before .scaled .ensures) (c .before .before .before .entry-at .ensures .0) (c .before .before .is-field .ensures) (c .before .if2 .taken) (c .agree-field2 .ensures)
+    type-array-solid _ _ _ _ _ _ _ _ (p .0 .shallow) (p .1 .is) _ (c .before .before .before .before .before .before .before .before .before .before .before .before .entry4 .given .1) (c .before .before .before .before .before .before .before .before .before .before .survey-type .ensures) (c .before .before .before .before .before .before .before .before .base .given .1) (c .before .before .before .before .scaled .ensures) _ (c .before .before .before .known-entry-at .ensures .0) (c .before .before .is-field .ensures) (c .before .if2 .taken) (c .agree-field2 .ensures)
 
 agree-type-enter-requires : (t : ℕ) → agree-type-lts.Need-enter-requires (agree-type-calls t) (agree-type-at t) agree-type.Post
 agree-type-enter-requires t c κs = sound-level _ _ _ _ _ (c .before .before .before .before .before .before .before .before .before .survey-type .ensures) (c .before .before .before .before .before .before .before .base .given .1)
@@ -409,7 +409,7 @@ agree-type-agree-entries-requires t c κs =
     let p = c .before .before .before .before .before .before .before .before .before .before .before .before .before .before .before .before .before .before .before .pre in
     let d = c .enter .ensures .0 in
     let l = sound-level _ _ _ _ _ (c .before .before .before .before .before .before .before .before .before .before .survey-type .ensures) (c .before .before .before .before .before .before .before .before .base .given .1) in
-    let r = read-entered (c .enter .result) (c .enter .ensures .1) (c .before .before .before .entry-at .ensures .0) (c .before .before .before .entry-at .ensures .1) in
+    let r = read-entered (c .enter .result) (c .enter .ensures .1) (c .before .before .before .known-entry-at .ensures .0) (c .before .before .before .known-entry-at .ensures .1) in
     (omega (arith, p .0), (record { deep = omega arith; shallow = omega arith; begins = p .1 .0 .begins; lengths = p .1 .0 .lengths }, r))
 
 agree-type-returns-3 : (t : ℕ) → agree-type-lts.Need-returns-3 (agree-type-calls t) (agree-type-at t) agree-type.Post
@@ -460,8 +460,8 @@ pub +agree-entries+agree-member+agree-members+agree-type-spec : {M : Type 1} →
     (agree-entries-loop-again t)
     (agree-entries-returns-4 t))
     (λ t. agree-member-lts.spec (
-      entry-at-reads.Asked,
-      entry-at-reads.Learnt,
+      known-entry-at-reads.Asked,
+      known-entry-at-reads.Learnt,
       agree-field-reads.Asked,
       agree-field-reads.Learnt,
       agree-enumeration-reads.Asked,
@@ -471,9 +471,9 @@ pub +agree-entries+agree-member+agree-members+agree-type-spec : {M : Type 1} →
       agree-type-below t,
       agree-type.Post,
     )
-    (agree-member-at t)
+    (agree-known-member-at t)
     agree-member.Post
-    (agree-member-entry-at-requires t)
+    (agree-member-known-entry-at-requires t)
     (agree-member-enum-known-entry t)
     (agree-member-cast-agree-field t)
     (agree-member-add-t17 t)
@@ -489,8 +489,8 @@ pub +agree-entries+agree-member+agree-members+agree-type-spec : {M : Type 1} →
     (agree-member-returns-2 t)
     (agree-member-returns-3 t))
     (λ t. agree-members-lts.spec (
-      member-at-reads.Asked,
-      member-at-reads.Learnt,
+      known-member-at-reads.Asked,
+      known-member-at-reads.Learnt,
       agree-member-below t,
       agree-member.Post,
     )
@@ -500,7 +500,7 @@ pub +agree-entries+agree-member+agree-members+agree-type-spec : {M : Type 1} →
     agree-members-μ-loop
     (agree-members-loop-holds t)
     (agree-members-returns t)
-    (agree-members-member-at-requires t)
+    (agree-members-known-member-at-requires t)
     (agree-members-enum-told t)
     (agree-members-returns-2 t)
     (agree-members-enum-known-member t)
@@ -533,8 +533,8 @@ pub +agree-entries+agree-member+agree-members+agree-type-spec : {M : Type 1} →
       survey-type-reads.Learnt,
       scaled-reads.Asked,
       scaled-reads.Learnt,
-      entry-at-reads.Asked,
-      entry-at-reads.Learnt,
+      known-entry-at-reads.Asked,
+      known-entry-at-reads.Learnt,
       is-field-reads.Asked,
       is-field-reads.Learnt,
       enter-reads.Asked,
@@ -573,7 +573,7 @@ pub +agree-entries+agree-member+agree-members+agree-type-spec : {M : Type 1} →
     (agree-type-cast-size t)
     (agree-type-returns t)
     (agree-type-scaled-requires t)
-    (agree-type-entry-at-requires t)
+    (agree-type-known-entry-at-requires t)
     (agree-type-is-field-requires t)
     (agree-type-agree-field-requires-2 t)
     (agree-type-returns-2 t)

@@ -43,11 +43,11 @@ equal-range-requires c κs = search needs
 returns-6 : tie.Need-returns-6
 returns-6 c = same-equal _ _ (c .before .before .before .before .before .before .before .before .before .before .before .before .check .ensures .good _ (c .before .before .before .before .before .before .before .before .before .before .checked .given .1)) _ _ (c .before .before .before .before .before .before .before .if1 .left) (c .before .before .before .before .before .before .if2 .left) (c .before .before .before .before .before .if3 .left) (c .before .before .before .if4 .left) (c .before .before .if5 .left) (c .before .equal-range .ensures) (c .if6 .taken)
 
-entry-at-requires : tie.Need-entry-at-requires
-entry-at-requires c κs = search needs
+known-entry-at-requires : tie.Need-known-entry-at-requires
+known-entry-at-requires c κs = search needs
 
 agree-type-requires : tie.Need-agree-type-requires
-agree-type-requires c κs = (search needs, record { is = c .entry-at .ensures .0; inside = c .entry-at .ensures .1 })
+agree-type-requires c κs = (search needs, record { is = c .known-entry-at .ensures .0; inside = c .known-entry-at .ensures .1 })
 
 enum-told-2 : tie.Need-enum-told-2
 enum-told-2 c = search needs
@@ -87,7 +87,7 @@ same-spec =
     returns-5
     equal-range-requires
     returns-6
-    entry-at-requires
+    known-entry-at-requires
     agree-type-requires
     enum-told-2
     enum-told-3
