@@ -89,13 +89,10 @@ module _ (a b : List ℕ) (at n i : ℕ) (inv : equalRange a b (at + i) (n - i) 
   unfolding equalRange
   range-end h = let e : n - i ≡ 0 = omega arith in rw e at inv
 
--- a count of bytes that differ, n of the i bytes from `at` on, then m with one more byte
-module _ (a b : List ℕ) (at i n : ℕ) {m : ℕ} (e : eqb n 0 ≡ equalRange a b at i) where
-  pub count-same : getD a (at + i) 0 ≡ getD b (at + i) 0 → m ≡ n → eqb m 0 ≡ equalRange a b at (i + 1)
-  count-same z q = rw q (sym (range-next a b at i ∙ rw (eq-eqb (getD a (at + i) 0) (getD b (at + i) 0) z, and-true) (sym e)))
-
-  pub count-more : (getD a (at + i) 0 ≡ getD b (at + i) 0 → ⊥) → m ≡ n + 1 → eqb m 0 ≡ equalRange a b at (i + 1)
-  count-more z q = ne-eqb m 0 (λ w. omega arith) ∙ sym (range-next a b at i ∙ rw (ne-eqb (getD a (at + i) 0) (getD b (at + i) 0) z, and-false))
+-- the bits in which i bytes from `at` on differ, put together, with those of one byte more
+pub bits-next : (a b : List ℕ) (at i all : ℕ) → eqb all 0 ≡ equalRange a b at i → eqb (bitOr all (bitXor (getD a (at + i) 0) (getD b (at + i) 0))) 0 ≡ equalRange a b at (i + 1)
+bits-next a b at i all e =
+    or-is-zero all (bitXor (getD a (at + i) 0) (getD b (at + i) 0)) ∙ rw (e, xor-is-zero (getD a (at + i) 0) (getD b (at + i) 0)) (sym (range-next a b at i))
 
 -- ---- answers
 

@@ -61,15 +61,13 @@ fn equal_block(a: &[u8], b: &[u8], at: usize) -> bool
     requires { ⌜ (at + 128 ≤ length (now a)) × (at + 128 ≤ length (now b)) ⌝ }
     ensures { λ r. ⌜ r ≡ equalRange (now (a .entry)) (now (b .entry)) at 128 ⌝ }
 {
-    let mut count: u8 = 0;
+    let mut all: u8 = 0;
     let mut i = 0;
     while i < 128 {
-        if a[at + i] != b[at + i] {
-            count += 1;
-        }
+        all = all | (a[at + i] ^ b[at + i]);
         i += 1;
     }
-    count == 0
+    all == 0
 }
 
 // Whether n bytes from `at` on are equal.

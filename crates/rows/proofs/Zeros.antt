@@ -1,13 +1,14 @@
 -- Runs of zeros, from one place of a list up to another.
-use Prim.Native.Nat.{ℕ, _+_, _-_, _<_, _≤_}
+use Prim.Native.Nat.{ℕ, zero, suc, _+_, _-_, _<_, _≤_}
 use mathlib.Core.Path.{_≡_, refl, sym, ap, _∙_}
 use mathlib.Core.Bool.{Bool, true, false, _&&_}
 use mathlib.Core.List.{List, [], _∷_, _++_}
 use native.Mathlib.Omega.{arith}
 use lib.ListN.{length, take, drop, getD}
 use lib.Seq.{take-add, drop-drop, drop-cons}
+use lib.Bits.{bitOr, bitXor, or-zero-l, or-add-and, xor-add-and, xor-self, and-le-l, and-le-r}
 use lib.Dec.{eqb}
-use borrow.Author.Tests.{eq-eqb, ne-eqb}
+use borrow.Author.Tests.{eqb-true, eqb-false, eq-eqb, ne-eqb}
 use Rattle.format.specs.Bytes.{allZero}
 
 pub and-assoc : (a b c : Bool) → ((a && b) && c) ≡ (a && (b && c))
@@ -17,10 +18,6 @@ and-assoc false b c = refl
 pub and-true : (a : Bool) → (a && true) ≡ a
 and-true true = refl
 and-true false = refl
-
-and-false : (a : Bool) → (a && false) ≡ false
-and-false true = refl
-and-false false = refl
 
 -- the n elements from i on are zero
 abbrev pub zeroAt : (l : List ℕ) (i n : ℕ) → Bool
@@ -68,10 +65,21 @@ module _ (l : List ℕ) (from to i : ℕ) (inv : zeroAt l i (to - i) ≡ zeroAt 
   unfolding allZero
   zero-end h = let e : to - i ≡ 0 = omega arith in rw e at inv
 
--- a count of elements that are not zero, n of the i elements from `at` on, then m with one more element
-module _ (l : List ℕ) (at i n : ℕ) {m : ℕ} (h : at + i < length l) (e : eqb n 0 ≡ zeroAt l at i) where
-  pub count-same : getD l (at + i) 0 ≡ 0 → m ≡ n → eqb m 0 ≡ zeroAt l at (i + 1)
-  count-same z q = rw q (sym (zero-next l at i h ∙ rw (eq-eqb (getD l (at + i) 0) 0 z, and-true) (sym e)))
+-- tests made of many numbers at once: all are zero, and two are equal
+pub or-is-zero : (a b : ℕ) → eqb (bitOr a b) 0 ≡ (eqb a 0 && eqb b 0)
+or-is-zero zero b = rw (or-zero-l b)
+or-is-zero (suc a) b =
+    rw (ne-eqb (suc a) 0 (λ e. omega arith)) (ne-eqb (bitOr (suc a) b) 0 (λ e. omega (arith, or-add-and (suc a) b, and-le-r (suc a) b)))
 
-  pub count-more : (getD l (at + i) 0 ≡ 0 → ⊥) → m ≡ n + 1 → eqb m 0 ≡ zeroAt l at (i + 1)
-  count-more z q = ne-eqb m 0 (λ w. omega arith) ∙ sym (zero-next l at i h ∙ rw (ne-eqb (getD l (at + i) 0) 0 z, and-false))
+pub xor-is-zero : (a b : ℕ) → eqb (bitXor a b) 0 ≡ eqb a b
+xor-is-zero a b = go (eqb (bitXor a b) 0) refl
+  where
+    go : (t : Bool) → eqb (bitXor a b) 0 ≡ t → t ≡ eqb a b
+    go true e =
+        let z : bitXor a b ≡ 0 = eqb-true (bitXor a b) 0 e in
+        sym (eq-eqb a b (omega (arith, xor-add-and a b, and-le-l a b, and-le-r a b)))
+    go false e = sym (ne-eqb a b (λ q. eqb-false (bitXor a b) 0 e (rw q (xor-self b))))
+
+-- the bits of i elements from `at` on, put together, with those of one more
+pub bits-next : (l : List ℕ) (at i all : ℕ) → at + i < length l → eqb all 0 ≡ zeroAt l at i → eqb (bitOr all (getD l (at + i) 0)) 0 ≡ zeroAt l at (i + 1)
+bits-next l at i all h e = or-is-zero all (getD l (at + i) 0) ∙ rw e (sym (zero-next l at i h))

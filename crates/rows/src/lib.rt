@@ -30,15 +30,13 @@ fn clear_16_words(table: &[u32], at: usize) -> bool
     requires { ⌜ at + 16 ≤ length (now table) ⌝ }
     ensures { λ r. ⌜ r ≡ allZero (take 16 (drop at (now (table .entry)))) ⌝ }
 {
-    let mut count: u32 = 0;
+    let mut all: u32 = 0;
     let mut i = 0;
     while i < 16 {
-        if table[at + i] != 0 {
-            count += 1;
-        }
+        all = all | table[at + i];
         i += 1;
     }
-    count == 0
+    all == 0
 }
 
 // Whether the words from `from` up to `to` are all zero.
@@ -68,15 +66,13 @@ fn clear_64_bytes(pool: &[u8], at: usize) -> bool
     requires { ⌜ at + 64 ≤ length (now pool) ⌝ }
     ensures { λ r. ⌜ r ≡ allZero (take 64 (drop at (now (pool .entry)))) ⌝ }
 {
-    let mut count: u8 = 0;
+    let mut all: u8 = 0;
     let mut i = 0;
     while i < 64 {
-        if pool[at + i] != 0 {
-            count += 1;
-        }
+        all = all | pool[at + i];
         i += 1;
     }
-    count == 0
+    all == 0
 }
 
 // Whether the bytes from `from` up to `to` are all zero.
@@ -126,15 +122,13 @@ fn clear_columns(table: &[u32], row: usize, from: usize, to: usize) -> bool
 {
     let at = row * 16 + from;
     let n = to - from;
-    let mut count: u32 = 0;
+    let mut all: u32 = 0;
     let mut i = 0;
     while i < n {
-        if table[at + i] != 0 {
-            count += 1;
-        }
+        all = all | table[at + i];
         i += 1;
     }
-    count == 0
+    all == 0
 }
 
 // The row of a leaf: columns 2 to 4, 6 up to `from`, and from `to` on are zero, and the code in column 5 is below `limit`.

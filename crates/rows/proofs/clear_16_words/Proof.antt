@@ -1,35 +1,31 @@
 use Prim.Native.Nat.{_≤_, _<_, _-_, _+_}
 use mathlib.Core.Path.{_≡_, refl, _∙_}
-use mathlib.Core.Logic.{⊎-elim}
 use native.Mathlib.Omega.{arith}
 use lib.Dec.{eqb}
 use lib.ListN.{length}
-use Rattle.rows.proofs.Zeros.{zeroAt, count-same, count-more}
 use Rattle.format.specs.Bytes.{allZero}
+use Rattle.rows.proofs.Zeros.{zeroAt, bits-next}
 use Rattle.rows.proofs.clear_16_words.Statement.{statement}
 use Rattle.rows.proofs.clear_16_words.Tie as tie
 
 abbrev Inv-loop : tie.InvT-loop
-Inv-loop table at count₀ i₀ count i = (i ≤ 16) × ((count ≤ i) × (eqb count 0 ≡ zeroAt table at i))
+Inv-loop table at all₀ i₀ all i = (i ≤ 16) × (eqb all 0 ≡ zeroAt table at i)
 
 abbrev μ-loop : tie.MeasureT-loop
-μ-loop table at count₀ i₀ count i = 16 - i
+μ-loop table at all₀ i₀ all i = 16 - i
 
 loop-holds : tie.Need-loop-holds Inv-loop μ-loop
 unfolding allZero
-loop-holds c = (omega arith, (omega arith, refl))
+loop-holds c = (omega arith, refl)
 
-add-if1 : tie.Need-add-if1 Inv-loop μ-loop
-add-if1 c = omega arith
+add-all : tie.Need-add-all Inv-loop μ-loop
+add-all c = omega arith
 
-mul-if1 : tie.Need-mul-if1 Inv-loop μ-loop
-mul-if1 c = omega arith
+mul-all : tie.Need-mul-all Inv-loop μ-loop
+mul-all c = omega arith
 
-shared-slice-read-if1 : tie.Need-shared-slice-read-if1 Inv-loop μ-loop
-shared-slice-read-if1 c = omega arith
-
-add-count : tie.Need-add-count Inv-loop μ-loop
-add-count c = omega arith
+shared-slice-read-all : tie.Need-shared-slice-read-all Inv-loop μ-loop
+shared-slice-read-all c = omega arith
 
 add-i : tie.Need-add-i Inv-loop μ-loop
 add-i c = omega arith
@@ -39,16 +35,14 @@ loop-less c = omega arith
 
 loop-again : tie.Need-loop-again Inv-loop μ-loop
 loop-again c =
-    let fits : c .before .before .before .before .args .at + (c .before .before .before .loop) .i < length (c .before .before .before .before .args .table .now) = omega arith in
-    ⊎-elim
-    (λ w. (omega arith, (omega arith, count-more _ _ _ _ fits (c .before .before .before .loop .inv .1 .1) (w .0 .taken) (w .1))))
-    (λ w. (omega arith, (omega arith, count-same _ _ _ _ fits (c .before .before .before .loop .inv .1 .1) (w .0 .left) (w .1))))
-    (c .if1 .came)
+    let a = c .before .before .before .args in
+    let fits : a .at + c .before .before .loop .i < length (a .table .now) = omega arith in
+    (omega arith, bits-next _ _ _ (c .before .before .loop .all) fits (c .before .before .loop .inv .1))
 
 returns : tie.Need-returns Inv-loop μ-loop
 returns c =
     let e : c .before .loop .i ≡ 16 = omega arith in
-    c .before .loop .inv .1 .1 ∙ rw e
+    c .before .loop .inv .1 ∙ rw e
 
 pub clear-16-words-spec : {M : Type 1} → statement M
 clear-16-words-spec =
@@ -57,10 +51,9 @@ clear-16-words-spec =
     Inv-loop
     μ-loop
     loop-holds
-    add-if1
-    mul-if1
-    shared-slice-read-if1
-    add-count
+    add-all
+    mul-all
+    shared-slice-read-all
     add-i
     loop-less
     loop-again
