@@ -6,18 +6,15 @@ use mathlib.Core.Bool.{Bool, true, false, _&&_, false≢true}
 use mathlib.Core.List.{List}
 use native.Mathlib.Omega.{arith}
 use lib.ListN.{length, getD}
+use lib.Bits.{bitOr, bitXor}
 use lib.Dec.{eqb}
 use borrow.Author.Tests.{eq-eqb, ne-eqb, eqb-true, eqb-false, lt-ltb, ltb-true}
 use Rattle.format.proofs.Booleans.{and-both, and-either}
-use Rattle.rows.proofs.Zeros.{and-assoc, and-true}
+use Rattle.rows.proofs.Zeros.{and-assoc, and-true, or-is-zero, xor-is-zero}
 use Rattle.table.specs.declared.Spot.{Spot}
 use Rattle.compare.specs.Agreeing.{equalRange, Agreement, Apartness, Answers, below, AgreesBytes}
 use Rattle.compare.specs.declared.Agreed.{Agreed}
 use Rattle.compare.specs.declared.Agreed.the-variants.{Apart, Together}
-
-and-false : (a : Bool) → (a && false) ≡ false
-and-false true = refl
-and-false false = refl
 
 module _ (a b : List ℕ) where
   range-split : (at m n : ℕ) → equalRange a b at (m + n) ≡ (equalRange a b at m && equalRange a b (at + m) n)
