@@ -5,7 +5,8 @@ use mathlib.Core.Bool.{Bool, true, false}
 use mathlib.Core.List.{List}
 use lib.ListN.{length, getD}
 use Rattle.refusal.specs.declared.RefusalValues.{RefusalValues}
-use Rattle.abi.specs.Answers.{Tells, yesOrNo}
+use Rattle.table.specs.Survey.{yesOrNo}
+use Rattle.abi.specs.Answers.{Tells}
 use Rattle.abi.specs.declared.Answer.{Answer}
 
 -- a refusal's number and values

@@ -1,7 +1,6 @@
 -- The answer of an exported function.
 use Prim.Native.Nat.{ℕ}
 use mathlib.Core.Path.{_≡_}
-use mathlib.Core.Bool.{Bool, true, false}
 use mathlib.Core.List.{List}
 use lib.ListN.{getD}
 use Rattle.abi.specs.declared.Answer.{Answer}
@@ -11,8 +10,3 @@ pub record Tells (number : ℕ) (values : List ℕ) (r : Answer) : Type 0 where
   pub number-is : r .number ≡ number
   pub first-is : r .first ≡ getD values 0 0
   pub second-is : r .second ≡ getD values 1 0
-
--- 1 for yes, 0 for no
-unfoldable pub yesOrNo : Bool → ℕ
-yesOrNo true = 1
-yesOrNo false = 0

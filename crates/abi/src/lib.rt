@@ -22,19 +22,19 @@ ghost use Prim.Native.Nat.{min};
 ghost use lib.ListN.{length, getD};
 ghost use Rattle.refusal.specs.Refusal.{numberOf, valuesOf};
 ghost use Rattle.format.specs.Message.{writing};
-ghost use Rattle.format.specs.Outcome.{outputAfter};
+ghost use Rattle.format.specs.Outcome.{outputAfter, outcomeNumber, outcomeValues};
 ghost use Rattle.format.specs.Ownership.{comparing};
 ghost use Rattle.format.specs.Reading.{reading, tableAfter, poolAfter};
 ghost use Rattle.format.specs.Sizes.{sizing, elementSizing, classMayHoldObjectAddress, objectAddressHeld, fileAddressHeld};
 ghost use Rattle.format.specs.Slots.{findingSlots, referencing};
-ghost use Rattle.reading.specs.Reads.{readingNumber, readingValues, outcomeNumber, outcomeValues};
-ghost use Rattle.writer.specs.Writes.{writingNumber, writingValues, answerOf as writingOf};
-ghost use Rattle.compare.specs.Agreeing.{comparisonNumber, comparisonValues, comparisonOf};
-ghost use Rattle.table.specs.Survey.{sizedNumber, sizedValues, sizedOf, heldNumber, heldValues, heldOf};
+ghost use Rattle.reading.specs.Reads.{readingNumber, readingValues};
+ghost use Rattle.writer.specs.Writes.{writingNumber, writingValues};
+ghost use Rattle.compare.specs.Agreeing.{comparisonNumber, comparisonValues, sameOrDiffers};
+ghost use Rattle.table.specs.Survey.{sizedNumber, sizedValues, heldNumber, heldValues, yesOrNo};
 ghost use Rattle.table.specs.Names.{nameOf, namePlace};
-ghost use Rattle.slots.specs.Slots.{slotsNumber, slotsValues, answerOf as slotsOf};
-ghost use Rattle.references.specs.References.{referencesNumber, referencesValues, answerOf as referencesOf, placesAfter, valuesAfter};
-ghost use Rattle.abi.specs.Answers.{Tells, yesOrNo};
+ghost use Rattle.slots.specs.Slots.{slotsNumber, slotsValues};
+ghost use Rattle.references.specs.References.{referencesNumber, referencesValues, placesAfter, valuesAfter};
+ghost use Rattle.abi.specs.Answers.{Tells};
 
 // The answer of a call: 0 or the refusal's number, and two values, 0 for each that is not there.
 struct Answer {
@@ -142,8 +142,8 @@ pub extern "C" fn datatype_read(
     second: &mut u64,
 ) -> u32
     ensures number { λ r. ⌜ r ≡ outcomeNumber (reading limit (length (now (table .entry))) (length (now (pool .entry))) (now («data» .entry))) ⌝ }
-    ensures first { λ _. ⌜ now (first .exit) ≡ getD (outcomeValues (reading limit (length (now (table .entry))) (length (now (pool .entry))) (now («data» .entry)))) 0 0 ⌝ }
-    ensures second { λ _. ⌜ now (second .exit) ≡ getD (outcomeValues (reading limit (length (now (table .entry))) (length (now (pool .entry))) (now («data» .entry)))) 1 0 ⌝ }
+    ensures first { λ _. ⌜ now (first .exit) ≡ getD (outcomeValues (λ x. x .consumed) (reading limit (length (now (table .entry))) (length (now (pool .entry))) (now («data» .entry)))) 0 0 ⌝ }
+    ensures second { λ _. ⌜ now (second .exit) ≡ getD (outcomeValues (λ x. x .consumed) (reading limit (length (now (table .entry))) (length (now (pool .entry))) (now («data» .entry)))) 1 0 ⌝ }
     ensures table { λ _. ⌜ now (table .exit) ≡ tableAfter (length (now (table .entry))) (reading limit (length (now (table .entry))) (length (now (pool .entry))) (now («data» .entry))) ⌝ }
     ensures pool { λ _. ⌜ now (pool .exit) ≡ poolAfter (length (now (pool .entry))) (reading limit (length (now (table .entry))) (length (now (pool .entry))) (now («data» .entry))) ⌝ }
 {
@@ -163,9 +163,9 @@ pub extern "C" fn datatype_write(
     first: &mut u64,
     second: &mut u64,
 ) -> u32
-    ensures number { λ r. ⌜ r ≡ writingNumber (writingOf (writing (now (table .entry)) (now (pool .entry)) edition (length (now (out .entry))))) ⌝ }
-    ensures first { λ _. ⌜ now (first .exit) ≡ getD (writingValues (writingOf (writing (now (table .entry)) (now (pool .entry)) edition (length (now (out .entry)))))) 0 0 ⌝ }
-    ensures second { λ _. ⌜ now (second .exit) ≡ getD (writingValues (writingOf (writing (now (table .entry)) (now (pool .entry)) edition (length (now (out .entry)))))) 1 0 ⌝ }
+    ensures number { λ r. ⌜ r ≡ outcomeNumber (writing (now (table .entry)) (now (pool .entry)) edition (length (now (out .entry)))) ⌝ }
+    ensures first { λ _. ⌜ now (first .exit) ≡ getD (outcomeValues length (writing (now (table .entry)) (now (pool .entry)) edition (length (now (out .entry))))) 0 0 ⌝ }
+    ensures second { λ _. ⌜ now (second .exit) ≡ getD (outcomeValues length (writing (now (table .entry)) (now (pool .entry)) edition (length (now (out .entry))))) 1 0 ⌝ }
     ensures out { λ _. ⌜ now (out .exit) ≡ outputAfter (now (out .entry)) (writing (now (table .entry)) (now (pool .entry)) edition (length (now (out .entry)))) ⌝ }
 {
     let answer = of_writing(write(table, pool, edition, out));
@@ -184,9 +184,9 @@ pub extern "C" fn datatype_compare(
     first: &mut u64,
     second: &mut u64,
 ) -> u32
-    ensures number { λ r. ⌜ r ≡ comparisonNumber (comparisonOf (comparing (now (table .entry)) (now (pool .entry)) (now (a .entry)) (now (b .entry)))) ⌝ }
-    ensures first { λ _. ⌜ now (first .exit) ≡ getD (comparisonValues (comparisonOf (comparing (now (table .entry)) (now (pool .entry)) (now (a .entry)) (now (b .entry))))) 0 0 ⌝ }
-    ensures second { λ _. ⌜ now (second .exit) ≡ getD (comparisonValues (comparisonOf (comparing (now (table .entry)) (now (pool .entry)) (now (a .entry)) (now (b .entry))))) 1 0 ⌝ }
+    ensures number { λ r. ⌜ r ≡ outcomeNumber (comparing (now (table .entry)) (now (pool .entry)) (now (a .entry)) (now (b .entry))) ⌝ }
+    ensures first { λ _. ⌜ now (first .exit) ≡ getD (outcomeValues sameOrDiffers (comparing (now (table .entry)) (now (pool .entry)) (now (a .entry)) (now (b .entry)))) 0 0 ⌝ }
+    ensures second { λ _. ⌜ now (second .exit) ≡ getD (outcomeValues sameOrDiffers (comparing (now (table .entry)) (now (pool .entry)) (now (a .entry)) (now (b .entry)))) 1 0 ⌝ }
 {
     let answer = of_comparison(same(table, pool, a, b));
     *first = answer.first;
@@ -202,9 +202,9 @@ pub extern "C" fn datatype_size(
     first: &mut u64,
     second: &mut u64,
 ) -> u32
-    ensures number { λ r. ⌜ r ≡ sizedNumber (sizedOf (sizing (now (table .entry)) (now (pool .entry)))) ⌝ }
-    ensures first { λ _. ⌜ now (first .exit) ≡ getD (sizedValues (sizedOf (sizing (now (table .entry)) (now (pool .entry))))) 0 0 ⌝ }
-    ensures second { λ _. ⌜ now (second .exit) ≡ getD (sizedValues (sizedOf (sizing (now (table .entry)) (now (pool .entry))))) 1 0 ⌝ }
+    ensures number { λ r. ⌜ r ≡ outcomeNumber (sizing (now (table .entry)) (now (pool .entry))) ⌝ }
+    ensures first { λ _. ⌜ now (first .exit) ≡ getD (outcomeValues (λ n. n) (sizing (now (table .entry)) (now (pool .entry)))) 0 0 ⌝ }
+    ensures second { λ _. ⌜ now (second .exit) ≡ getD (outcomeValues (λ n. n) (sizing (now (table .entry)) (now (pool .entry)))) 1 0 ⌝ }
 {
     let answer = of_sized(type_size(table, pool));
     *first = answer.first;
@@ -220,9 +220,9 @@ pub extern "C" fn datatype_element_size(
     first: &mut u64,
     second: &mut u64,
 ) -> u32
-    ensures number { λ r. ⌜ r ≡ sizedNumber (sizedOf (elementSizing (now (table .entry)) (now (pool .entry)))) ⌝ }
-    ensures first { λ _. ⌜ now (first .exit) ≡ getD (sizedValues (sizedOf (elementSizing (now (table .entry)) (now (pool .entry))))) 0 0 ⌝ }
-    ensures second { λ _. ⌜ now (second .exit) ≡ getD (sizedValues (sizedOf (elementSizing (now (table .entry)) (now (pool .entry))))) 1 0 ⌝ }
+    ensures number { λ r. ⌜ r ≡ outcomeNumber (elementSizing (now (table .entry)) (now (pool .entry))) ⌝ }
+    ensures first { λ _. ⌜ now (first .exit) ≡ getD (outcomeValues (λ n. n) (elementSizing (now (table .entry)) (now (pool .entry)))) 0 0 ⌝ }
+    ensures second { λ _. ⌜ now (second .exit) ≡ getD (outcomeValues (λ n. n) (elementSizing (now (table .entry)) (now (pool .entry)))) 1 0 ⌝ }
 {
     let answer = of_sized(element_size(table, pool));
     *first = answer.first;
@@ -239,9 +239,9 @@ pub extern "C" fn datatype_slots(
     first: &mut u64,
     second: &mut u64,
 ) -> u32
-    ensures number { λ r. ⌜ r ≡ slotsNumber (slotsOf (findingSlots (now (table .entry)) (now (pool .entry)) (length (now (out .entry))))) ⌝ }
-    ensures first { λ _. ⌜ now (first .exit) ≡ getD (slotsValues (slotsOf (findingSlots (now (table .entry)) (now (pool .entry)) (length (now (out .entry)))))) 0 0 ⌝ }
-    ensures second { λ _. ⌜ now (second .exit) ≡ getD (slotsValues (slotsOf (findingSlots (now (table .entry)) (now (pool .entry)) (length (now (out .entry)))))) 1 0 ⌝ }
+    ensures number { λ r. ⌜ r ≡ outcomeNumber (findingSlots (now (table .entry)) (now (pool .entry)) (length (now (out .entry)))) ⌝ }
+    ensures first { λ _. ⌜ now (first .exit) ≡ getD (outcomeValues length (findingSlots (now (table .entry)) (now (pool .entry)) (length (now (out .entry))))) 0 0 ⌝ }
+    ensures second { λ _. ⌜ now (second .exit) ≡ getD (outcomeValues length (findingSlots (now (table .entry)) (now (pool .entry)) (length (now (out .entry))))) 1 0 ⌝ }
     ensures out { λ _. ⌜ now (out .exit) ≡ outputAfter (now (out .entry)) (findingSlots (now (table .entry)) (now (pool .entry)) (length (now (out .entry)))) ⌝ }
 {
     let answer = of_slots(embedded_reference_slots(table, pool, out));
@@ -261,9 +261,9 @@ pub extern "C" fn datatype_references(
     first: &mut u64,
     second: &mut u64,
 ) -> u32
-    ensures number { λ r. ⌜ r ≡ referencesNumber (referencesOf (referencing (now (block .entry)) «record_size» (now (slots .entry)) (min (length (now (places .entry))) (length (now (values .entry)))))) ⌝ }
-    ensures first { λ _. ⌜ now (first .exit) ≡ getD (referencesValues (referencesOf (referencing (now (block .entry)) «record_size» (now (slots .entry)) (min (length (now (places .entry))) (length (now (values .entry))))))) 0 0 ⌝ }
-    ensures second { λ _. ⌜ now (second .exit) ≡ getD (referencesValues (referencesOf (referencing (now (block .entry)) «record_size» (now (slots .entry)) (min (length (now (places .entry))) (length (now (values .entry))))))) 1 0 ⌝ }
+    ensures number { λ r. ⌜ r ≡ outcomeNumber (referencing (now (block .entry)) «record_size» (now (slots .entry)) (min (length (now (places .entry))) (length (now (values .entry))))) ⌝ }
+    ensures first { λ _. ⌜ now (first .exit) ≡ getD (outcomeValues (λ x. length (x .places)) (referencing (now (block .entry)) «record_size» (now (slots .entry)) (min (length (now (places .entry))) (length (now (values .entry)))))) 0 0 ⌝ }
+    ensures second { λ _. ⌜ now (second .exit) ≡ getD (outcomeValues (λ x. length (x .places)) (referencing (now (block .entry)) «record_size» (now (slots .entry)) (min (length (now (places .entry))) (length (now (values .entry)))))) 1 0 ⌝ }
     ensures places { λ _. ⌜ now (places .exit) ≡ placesAfter (now (places .entry)) (referencing (now (block .entry)) «record_size» (now (slots .entry)) (min (length (now (places .entry))) (length (now (values .entry))))) ⌝ }
     ensures values { λ _. ⌜ now (values .exit) ≡ valuesAfter (now (values .entry)) (referencing (now (block .entry)) «record_size» (now (slots .entry)) (min (length (now (places .entry))) (length (now (values .entry))))) ⌝ }
 {
@@ -300,9 +300,9 @@ pub extern "C" fn datatype_holds_object_address(
     first: &mut u64,
     second: &mut u64,
 ) -> u32
-    ensures number { λ r. ⌜ r ≡ heldNumber (heldOf (objectAddressHeld (now (table .entry)) (now (pool .entry)))) ⌝ }
-    ensures first { λ _. ⌜ now (first .exit) ≡ getD (heldValues (heldOf (objectAddressHeld (now (table .entry)) (now (pool .entry))))) 0 0 ⌝ }
-    ensures second { λ _. ⌜ now (second .exit) ≡ getD (heldValues (heldOf (objectAddressHeld (now (table .entry)) (now (pool .entry))))) 1 0 ⌝ }
+    ensures number { λ r. ⌜ r ≡ outcomeNumber (objectAddressHeld (now (table .entry)) (now (pool .entry))) ⌝ }
+    ensures first { λ _. ⌜ now (first .exit) ≡ getD (outcomeValues yesOrNo (objectAddressHeld (now (table .entry)) (now (pool .entry)))) 0 0 ⌝ }
+    ensures second { λ _. ⌜ now (second .exit) ≡ getD (outcomeValues yesOrNo (objectAddressHeld (now (table .entry)) (now (pool .entry)))) 1 0 ⌝ }
 {
     let answer = of_held(table::datatype_holds_object_address(table, pool));
     *first = answer.first;
@@ -318,9 +318,9 @@ pub extern "C" fn datatype_holds_file_address(
     first: &mut u64,
     second: &mut u64,
 ) -> u32
-    ensures number { λ r. ⌜ r ≡ heldNumber (heldOf (fileAddressHeld (now (table .entry)) (now (pool .entry)))) ⌝ }
-    ensures first { λ _. ⌜ now (first .exit) ≡ getD (heldValues (heldOf (fileAddressHeld (now (table .entry)) (now (pool .entry))))) 0 0 ⌝ }
-    ensures second { λ _. ⌜ now (second .exit) ≡ getD (heldValues (heldOf (fileAddressHeld (now (table .entry)) (now (pool .entry))))) 1 0 ⌝ }
+    ensures number { λ r. ⌜ r ≡ outcomeNumber (fileAddressHeld (now (table .entry)) (now (pool .entry))) ⌝ }
+    ensures first { λ _. ⌜ now (first .exit) ≡ getD (outcomeValues yesOrNo (fileAddressHeld (now (table .entry)) (now (pool .entry)))) 0 0 ⌝ }
+    ensures second { λ _. ⌜ now (second .exit) ≡ getD (outcomeValues yesOrNo (fileAddressHeld (now (table .entry)) (now (pool .entry)))) 1 0 ⌝ }
 {
     let answer = of_held(table::datatype_holds_file_address(table, pool));
     *first = answer.first;

@@ -8,7 +8,7 @@ ghost use denote.Ref.{ptr};
 ghost use Rattle.format.specs.Ownership.{comparing};
 ghost use Rattle.format.specs.Slots.{recordCount};
 ghost use Rattle.table.specs.Names.{further};
-ghost use Rattle.compare.specs.Agreeing.{comparisonOf};
+ghost use Rattle.compare.specs.Agreeing.{Compares};
 ghost use Rattle.references.specs.References.{ReferencesAre};
 ghost use Rattle.blocks.specs.Blocks.{recordOf, recordPlace};
 
@@ -86,7 +86,7 @@ pub fn compare_records(
     first: u64,
     second: u64,
 ) -> Comparison
-    ensures { λ r. ⌜ r ≡ comparisonOf (comparing (now (table .entry)) (now (pool .entry)) (recordOf (now (bytes .entry)) «record_size» first) (recordOf (now (bytes .entry)) «record_size» second)) ⌝ }
+    ensures { λ r. ⌜ Compares (comparing (now (table .entry)) (now (pool .entry)) (recordOf (now (bytes .entry)) «record_size» first) (recordOf (now (bytes .entry)) «record_size» second)) r ⌝ }
 {
     let block = view(bytes, record_size);
     let a = record_at(block, first);

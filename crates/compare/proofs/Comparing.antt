@@ -9,7 +9,7 @@ use lib.ListN.{length, getD}
 use lib.Dec.{eqb}
 use Rattle.refusal.specs.declared.Refusal.the-variants.{BadTable, ZeroSize, OutsideRecord, HeapHeld, WrongLength}
 use Rattle.format.specs.Datatype.{Datatype, fixedPoint, floatingPoint, time, string, bitField, opaque, compound, reference, enumeration, variableLength, array, Members, noMembers, member, typeSize}
-use Rattle.format.specs.Outcome.{gives}
+use Rattle.format.specs.Outcome.{Outcome, gives, refuses, outcomeNumber, outcomeValues}
 use Rattle.format.specs.Ownership.{owned, outside, heapHeld, agree, comparing}
 use Rattle.format.specs.Slots.{firstZero, memberFirstZero, orElse, zeroClass}
 use Rattle.format.specs.Table.{found, typeAt}
@@ -20,7 +20,7 @@ use Rattle.table.specs.declared.Checked.{Checked}
 use Rattle.table.specs.declared.Checked.the-variants.{Bad}
 use Rattle.table.specs.declared.Spot.{Spot}
 use Rattle.table.proofs.Surveys.{Says, told, Told}
-use Rattle.compare.specs.Agreeing.{equalRange, Agreement, Answers, Agrees, comparisonOf}
+use Rattle.compare.specs.Agreeing.{equalRange, Agreement, Answers, Agrees, comparisonNumber, comparisonValues, comparisonOf, sameOrDiffers, Compares}
 use Rattle.compare.specs.declared.Agreed.{Agreed}
 use Rattle.compare.specs.declared.Agreed.the-variants.{Apart, Together, Lost}
 use Rattle.compare.specs.declared.Comparison.{Comparison}
@@ -75,9 +75,16 @@ some-zero (some c) h = let e : suc c - 1 ≡ c = omega arith in rw e
 
 -- ---- the ways out
 
-pub same-bad : (table pool a b : List ℕ) {x : Checked} → Checks table pool x → x ≡ Bad → Refused BadTable ≡ comparisonOf (comparing table pool a b)
+-- an answer that is the definition's has its number and values
+compares : (o : Outcome Bool) {r : Comparison} → r ≡ comparisonOf o → Compares o r
+unfolding comparisonOf comparisonNumber comparisonValues outcomeNumber outcomeValues sameOrDiffers
+compares (gives true) e = record { answer = e; number = ap comparisonNumber e; values = ap comparisonValues e }
+compares (gives false) e = record { answer = e; number = ap comparisonNumber e; values = ap comparisonValues e }
+compares (refuses x) e = record { answer = e; number = ap comparisonNumber e; values = ap comparisonValues e }
+
+pub same-bad : (table pool a b : List ℕ) {x : Checked} → Checks table pool x → x ≡ Bad → Compares (comparing table pool a b) (Refused BadTable)
 unfolding comparisonOf
-same-bad table pool a b h e = rw (comparing-refused table pool a b BadTable (h .bad-table e))
+same-bad table pool a b h e = compares _ (rw (comparing-refused table pool a b BadTable (h .bad-table e)))
 
 -- the check found a type, and a survey of it
 module _ (table pool : List ℕ) {s : Survey} (g : Sets table pool s) where
@@ -103,43 +110,43 @@ module _ (table pool : List ℕ) {s : Survey} (g : Sets table pool s) where
   heap-is f = sym (ap (λ (u : Survey). u .heap) (says .is)) ∙ f
 
   module _ (a b : List ℕ) where
-    pub same-zero : (s .zero ≡ 0 → ⊥) → Refused (ZeroSize (s .zero - 1)) ≡ comparisonOf (comparing table pool a b)
+    pub same-zero : (s .zero ≡ 0 → ⊥) → Compares (comparing table pool a b) (Refused (ZeroSize (s .zero - 1)))
     unfolding comparisonOf
-    same-zero n = rw (comparing-zero table pool a b (g .type) (g .is) (s .zero - 1) (zero-some n))
+    same-zero n = compares _ (rw (comparing-zero table pool a b (g .type) (g .is) (s .zero - 1) (zero-some n)))
 
     module _ (z : s .zero ≡ 0) where
       sized : firstZero (g .type) ≡ none
       sized = no-zero _ (sym zero-is ∙ z)
 
-      pub same-outside : s .outside ≡ true → Refused OutsideRecord ≡ comparisonOf (comparing table pool a b)
+      pub same-outside : s .outside ≡ true → Compares (comparing table pool a b) (Refused OutsideRecord)
       unfolding comparisonOf
-      same-outside o = rw (comparing-outside table pool a b (g .type) (g .is) sized (outside-is o))
+      same-outside o = compares _ (rw (comparing-outside table pool a b (g .type) (g .is) sized (outside-is o)))
 
       module _ (o : s .outside ≡ false) where
-        pub same-heap : s .heap ≡ true → Refused HeapHeld ≡ comparisonOf (comparing table pool a b)
+        pub same-heap : s .heap ≡ true → Compares (comparing table pool a b) (Refused HeapHeld)
         unfolding comparisonOf
-        same-heap p = rw (comparing-heap table pool a b (g .type) (g .is) sized (outside-is o) (heap-is p))
+        same-heap p = compares _ (rw (comparing-heap table pool a b (g .type) (g .is) sized (outside-is o) (heap-is p)))
 
         module _ (p : s .heap ≡ false) where
-          wrong : (length a ≡ s .size → length b ≡ s .size → ⊥) → Refused WrongLength ≡ comparisonOf (comparing table pool a b)
+          wrong : (length a ≡ s .size → length b ≡ s .size → ⊥) → Compares (comparing table pool a b) (Refused WrongLength)
           unfolding comparisonOf
-          wrong n = rw (comparing-length table pool a b (g .type) (g .is) sized (outside-is o) (heap-is p) (λ la lb. n (la ∙ sym size-is) (lb ∙ sym size-is)))
+          wrong n = compares _ (rw (comparing-length table pool a b (g .type) (g .is) sized (outside-is o) (heap-is p) (λ la lb. n (la ∙ sym size-is) (lb ∙ sym size-is))))
 
-          pub same-length : (length a ≡ s .size → ⊥) → Refused WrongLength ≡ comparisonOf (comparing table pool a b)
+          pub same-length : (length a ≡ s .size → ⊥) → Compares (comparing table pool a b) (Refused WrongLength)
           same-length n = wrong (λ la lb. n la)
 
-          pub same-length-b : (length b ≡ s .size → ⊥) → Refused WrongLength ≡ comparisonOf (comparing table pool a b)
+          pub same-length-b : (length b ≡ s .size → ⊥) → Compares (comparing table pool a b) (Refused WrongLength)
           same-length-b n = wrong (λ la lb. n lb)
 
           module _ (la : length a ≡ s .size) (lb : length b ≡ s .size) where
             given : comparing table pool a b ≡ gives (agree (g .type) a b)
             given = comparing-records table pool a b (g .type) (g .is) sized (outside-is o) (heap-is p) (la ∙ size-is) (lb ∙ size-is)
 
-            same-if : ((i : ℕ) → i < typeSize (g .type) → owned (g .type) i ≡ true → getD a (0 + i) 0 ≡ getD b (0 + i) 0) → Same ≡ comparisonOf (comparing table pool a b)
+            same-if : ((i : ℕ) → i < typeSize (g .type) → owned (g .type) i ≡ true → getD a (0 + i) 0 ≡ getD b (0 + i) 0) → Compares (comparing table pool a b) Same
             unfolding comparisonOf
-            same-if f = rw (given, agree-holds (g .type) a b (λ i l w. let j : 0 + i ≡ i = omega arith in rw j at (f i l w)))
+            same-if f = compares _ (rw (given, agree-holds (g .type) a b (λ i l w. let j : 0 + i ≡ i = omega arith in rw j at (f i l w))))
 
-            pub same-equal : {r : Bool} → r ≡ equalRange a b 0 (s .size) → r ≡ true → Same ≡ comparisonOf (comparing table pool a b)
+            pub same-equal : {r : Bool} → r ≡ equalRange a b 0 (s .size) → r ≡ true → Compares (comparing table pool a b) Same
             same-equal q t = same-if (λ i l w. range-says a b 0 (s .size) (sym q ∙ t) i (omega (arith, size-is)))
 
             -- by the walk over its fields
@@ -148,16 +155,16 @@ module _ (table pool : List ℕ) {s : Survey} (g : Sets table pool s) where
               unfolding Agrees
               answer = rw (g .stands) at w (record { sized = sized; inside = outside-is o; plain = heap-is p }) (omega (arith, size-is))
 
-              pub same-together : {next : Spot} → got ≡ Together next → Same ≡ comparisonOf (comparing table pool a b)
+              pub same-together : {next : Spot} → got ≡ Together next → Compares (comparing table pool a b) Same
               unfolding Agreement
               same-together {next = next} f = same-if (λ i l v. answer .together next f .0 i v)
 
-              pub same-apart : got ≡ Apart → Differs ≡ comparisonOf (comparing table pool a b)
+              pub same-apart : got ≡ Apart → Compares (comparing table pool a b) Differs
               unfolding comparisonOf
               same-apart f =
                   let d = answer .apart f in
                   let j : 0 + d .place ≡ d .place = omega arith in
-                  rw (given, agree-differs (g .type) a b (record { place = d .place; inside = owned-inside (g .type) (d .place) (outside-is o) (d .is-owned); is-owned = d .is-owned; differs = rw j at (d .differs) }))
+                  compares _ (rw (given, agree-differs (g .type) a b (record { place = d .place; inside = owned-inside (g .type) (d .place) (outside-is o) (d .is-owned); is-owned = d .is-owned; differs = rw j at (d .differs) })))
 
-              pub same-lost : (z : Comparison) → got ≡ Lost → z ≡ comparisonOf (comparing table pool a b)
+              pub same-lost : (z : Comparison) → got ≡ Lost → Compares (comparing table pool a b) z
               same-lost z f = absurd (answer .kept f)

@@ -13,7 +13,7 @@ use Rattle.format.specs.Ownership.{Owned, outside, heapHeld, comparingRecords, 
 use Rattle.format.specs.Slots.{firstZero}
 use Rattle.format.specs.Table.{typeOf}
 use Rattle.format.proofs.Ownership.{SameExactly, same-exactly, comparing-given}
-use Rattle.compare.specs.Agreeing.{comparisonOf}
+use Rattle.compare.specs.Agreeing.{comparisonOf, Compares}
 use Rattle.compare.specs.declared.Comparison.{Comparison}
 use Rattle.compare.specs.declared.Comparison.the-variants.{Same, Differs}
 
@@ -26,12 +26,12 @@ pub record Comparable (t : Datatype) (table pool a b : List ℕ) : Type 0 where
   pub first-long : length a ≡ typeSize t
   pub second-long : length b ≡ typeSize t
 
-module _ {t : Datatype} {table pool a b : List ℕ} {r : Comparison} (h : r ≡ comparisonOf (comparing table pool a b)) (c : Comparable t table pool a b) where
+module _ {t : Datatype} {table pool a b : List ℕ} {r : Comparison} (h : Compares (comparing table pool a b) r) (c : Comparable t table pool a b) where
   exact : SameExactly t a b
   exact = same-exactly t a b (c .sized) (c .inside) (c .plain) (c .first-long) (c .second-long)
 
   answered : (d : Bool) → comparingRecords a b t ≡ gives d → r ≡ comparisonOf (gives d)
-  answered d e = h ∙ ap comparisonOf (comparing-given table pool a b t (c .is) ∙ e)
+  answered d e = h .answer ∙ ap comparisonOf (comparing-given table pool a b t (c .is) ∙ e)
 
   pub same-if-they-agree : ((i : ℕ) → Owned t i → getD a i 0 ≡ getD b i 0) → r ≡ Same
   unfolding comparisonOf

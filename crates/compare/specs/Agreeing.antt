@@ -8,7 +8,7 @@ use lib.ListN.{length, getD}
 use lib.Dec.{ltb, eqb}
 use Rattle.refusal.specs.Refusal.{numberOf, valuesOf}
 use Rattle.format.specs.Datatype.{Datatype, Members, typeSize}
-use Rattle.format.specs.Outcome.{Outcome, gives, refuses}
+use Rattle.format.specs.Outcome.{Outcome, gives, refuses, outcomeNumber, outcomeValues}
 use Rattle.format.specs.Ownership.{inEntries, owned, memberOwned, outside, memberOutside, heapHeld, memberHeapHeld}
 use Rattle.format.specs.Slots.{firstZero, memberFirstZero}
 use Rattle.format.specs.Table.{Found, found, bad}
@@ -120,3 +120,14 @@ unfoldable pub comparisonOf : Outcome Bool → Comparison
 comparisonOf (gives true) = Same
 comparisonOf (gives false) = Differs
 comparisonOf (refuses e) = Refused e
+
+-- 0 for same, 1 for differs
+unfoldable pub sameOrDiffers : Bool → ℕ
+sameOrDiffers true = 0
+sameOrDiffers false = 1
+
+-- `same`: the answer by the definition's outcome
+pub record Compares (o : Outcome Bool) (r : Comparison) : Type 0 where
+  pub answer : r ≡ comparisonOf o
+  pub number : comparisonNumber r ≡ outcomeNumber o
+  pub values : comparisonValues r ≡ outcomeValues sameOrDiffers o

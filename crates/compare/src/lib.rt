@@ -20,7 +20,7 @@ ghost use Rattle.format.specs.Ownership.{comparing};
 ghost use Rattle.format.specs.Table.{typeAt, membersAt};
 ghost use Rattle.rows.specs.Entries.{fromEntry};
 ghost use Rattle.rows.specs.declared.Entry.the-variants.{Enumeration};
-ghost use Rattle.compare.specs.Agreeing.{topOf, equalRange, isField, Standing, Read, Agrees, AgreesIn, AgreesEach, AgreesBytes, comparisonOf};
+ghost use Rattle.compare.specs.Agreeing.{topOf, equalRange, isField, Standing, Read, Agrees, AgreesIn, AgreesEach, AgreesBytes, Compares};
 
 // The rows of the open levels, outermost first: its top is the row at hand.
 pub struct Path {
@@ -390,7 +390,7 @@ fn agree_entries(
 // Whether two records of the type that a table and pool set out agree on each byte that a field owns. Refused, in this order: BadTable,
 // ZeroSize, OutsideRecord, HeapHeld, WrongLength. Cost: the check of the table and, where the records differ at all, one walk over the fields.
 pub fn same(table: &[u32], pool: &[u8], a: &[u8], b: &[u8]) -> Comparison
-    ensures { λ r. ⌜ r ≡ comparisonOf (comparing (now (table .entry)) (now (pool .entry)) (now (a .entry)) (now (b .entry))) ⌝ }
+    ensures { λ r. ⌜ Compares (comparing (now (table .entry)) (now (pool .entry)) (now (a .entry)) (now (b .entry))) r ⌝ }
 {
     let checked = check(table, pool);
     match checked {

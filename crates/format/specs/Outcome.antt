@@ -1,8 +1,9 @@
 -- What a call gives or why it refuses, and the room that a result needs.
 use Prim.Native.Nat.{ℕ, min}
 use mathlib.Core.Bool.{Bool, cond}
-use mathlib.Core.List.{List, _++_}
+use mathlib.Core.List.{List, [], _∷_, _++_}
 use lib.ListN.{length, drop}
+use Rattle.refusal.specs.Refusal.{numberOf, valuesOf}
 use Rattle.refusal.specs.declared.Refusal.{Refusal}
 use Rattle.refusal.specs.declared.Refusal.the-variants.{NoRoom}
 
@@ -26,3 +27,13 @@ needed n = min n 18446744073709551615
 unfoldable pub outputAfter : List ℕ → Outcome (List ℕ) → List ℕ
 outputAfter out (gives s) = s ++ drop (length s) out
 outputAfter out (refuses e) = out
+
+-- Document 01's number of a call's outcome: 0 for a result, or the refusal's
+unfoldable pub outcomeNumber : {A : Type 0} → Outcome A → ℕ
+outcomeNumber (gives x) = 0
+outcomeNumber (refuses e) = numberOf e
+
+-- and its values: the one of a result, or the refusal's
+unfoldable pub outcomeValues : {A : Type 0} → (A → ℕ) → Outcome A → List ℕ
+outcomeValues value (gives x) = value x ∷ []
+outcomeValues value (refuses e) = valuesOf e

@@ -12,7 +12,7 @@ use Rattle.refusal.specs.declared.Refusal.the-variants.{Short, TooNew, BadClass
 use Rattle.format.specs.Bytes.{AllBytes, zeros, padded}
 use Rattle.format.specs.Datatype.{Datatype, fixedPoint, opaque, reference, array, depth, rowCount, poolBytes}
 use Rattle.format.specs.Message.{message, versions, storable, carried, firstAbove}
-use Rattle.format.specs.Outcome.{Outcome, gives, refuses}
+use Rattle.format.specs.Outcome.{Outcome, gives, refuses, outcomeNumber, outcomeValues}
 use Rattle.format.specs.Reading.{Answer, got, refused, Read, readOutcome, readingInto, reading, readsBack, tableAfter, poolAfter}
 use Rattle.format.specs.Table.{WithinLimits, SetsOut, typeOf, rows, maxRows, maxPool, tableOf, poolOf}
 use Rattle.format.proofs.Cases.{U1, P, typeP, twoR, sevenZeros, computing}
@@ -25,7 +25,7 @@ use Rattle.format.proofs.Table.{setsOut-of, typeOf-complete}
 use Rattle.format.proofs.Bytes.{length-padded}
 use Rattle.reading.specs.declared.Reading.{Reading}
 use Rattle.reading.specs.declared.Reading.the-variants.{Read as AnswerRead, Refused as AnswerRefused}
-use Rattle.reading.specs.Reads.{Reads, answerOf, readingNumber, readingValues, outcomeNumber, outcomeValues}
+use Rattle.reading.specs.Reads.{Reads, answerOf, readingNumber, readingValues}
 
 -- a refusal, with table and pool all zero
 pub record Refuses (e : Refusal) (table pool : List ℕ) (r : Reading) (table′ pool′ : List ℕ) : Type 0 where
@@ -186,7 +186,7 @@ expected (c ∷ cs) = c .outcome ∷ expected cs
 
 unfoldable spoken : List ReadCase → List (List ℕ)
 spoken [] = []
-spoken (c ∷ cs) = (outcomeNumber (c .outcome) ∷ outcomeValues (c .outcome)) ∷ spoken cs
+spoken (c ∷ cs) = (outcomeNumber (c .outcome) ∷ outcomeValues (λ x. x .consumed) (c .outcome)) ∷ spoken cs
 
 unfoldable said : List ReadCase → List (List ℕ)
 said [] = []
@@ -201,7 +201,7 @@ unfolding starredReadings spoken said outcomeNumber outcomeValues computing
 spoken-computed = refl
 
 abbrev Computed : ReadCase → Type 0
-Computed c = (reading (c .limit) 1024 256 (c .message) ≡ c .outcome) × (outcomeNumber (c .outcome) ∷ outcomeValues (c .outcome) ≡ c .says)
+Computed c = (reading (c .limit) 1024 256 (c .message) ≡ c .outcome) × (outcomeNumber (c .outcome) ∷ outcomeValues (λ x. x .consumed) (c .outcome) ≡ c .says)
 
 of-each : {c : ReadCase} (cs : List ReadCase) → outcomes cs ≡ expected cs → spoken cs ≡ said cs → List·Memᴰ c cs → Computed c
 unfolding outcomes expected spoken said

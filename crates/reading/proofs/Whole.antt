@@ -8,7 +8,7 @@ use lib.Seq.{sets, sets-eq, length-sets, take-at}
 use Rattle.refusal.specs.declared.Refusal.{Refusal}
 use Rattle.format.specs.Bytes.{zeros, padded}
 use Rattle.format.specs.Datatype.{Datatype, rowCount, poolBytes}
-use Rattle.format.specs.Outcome.{Outcome, gives, refuses}
+use Rattle.format.specs.Outcome.{Outcome, gives, refuses, outcomeNumber, outcomeValues}
 use Rattle.format.specs.Reading.{Answer, got, refused, Read, readType, readOutcome, readingInto, reading, tableAfter, poolAfter}
 use Rattle.format.specs.Table.{rows, tableOf, poolOf}
 use Rattle.format.proofs.Rows.{length-rows}
@@ -16,7 +16,7 @@ use Rattle.reading.specs.declared.Limits.{Limits}
 use Rattle.reading.specs.declared.State.{State}
 use Rattle.reading.specs.declared.Reading.the-variants.{Read as AnswerRead, Refused as AnswerRefused}
 use Rattle.reading.specs.Contract.{run, here, Landed}
-use Rattle.reading.specs.Reads.{Reads, answerOf, readingNumber, readingValues, outcomeNumber, outcomeValues}
+use Rattle.reading.specs.Reads.{Reads, answerOf, readingNumber, readingValues}
 use Rattle.reading.proofs.Members.{LandedType}
 
 -- what is stored at the front of a list, and zeros after it
@@ -44,7 +44,7 @@ module _ (limit : ℕ) (d t p : List ℕ) (lim : Limits) (ev : lim .version ≡ 
       number-of (gives y) = unfold answerOf readingNumber outcomeNumber in refl
       number-of (refuses f) = unfold answerOf readingNumber outcomeNumber in refl
 
-      values-of : (x : Outcome Read) → readingValues (answerOf x) ≡ outcomeValues x
+      values-of : (x : Outcome Read) → readingValues (answerOf x) ≡ outcomeValues (λ y. y .consumed) x
       values-of (gives y) = unfold answerOf readingValues outcomeValues in refl
       values-of (refuses f) = unfold answerOf readingValues outcomeValues in refl
 

@@ -4,7 +4,7 @@ use mathlib.Core.List.{List, [], _∷_}
 use Prim.Native.Nat.{ℕ}
 use lib.ListN.{length}
 use Rattle.refusal.specs.Refusal.{numberOf, valuesOf}
-use Rattle.format.specs.Outcome.{Outcome, gives, refuses}
+use Rattle.format.specs.Outcome.{Outcome, gives, refuses, outcomeNumber, outcomeValues}
 use Rattle.format.specs.Reading.{Read, reading, tableAfter, poolAfter}
 use Rattle.reading.specs.declared.Reading.{Reading}
 use Rattle.reading.specs.declared.Reading.the-variants.{Read as AnswerRead, Refused as AnswerRefused}
@@ -18,15 +18,6 @@ unfoldable pub readingValues : Reading → List ℕ
 readingValues (AnswerRead n) = n ∷ []
 readingValues (AnswerRefused e) = valuesOf e
 
--- the same of the definition's answer
-unfoldable pub outcomeNumber : Outcome Read → ℕ
-outcomeNumber (gives x) = 0
-outcomeNumber (refuses e) = numberOf e
-
-unfoldable pub outcomeValues : Outcome Read → List ℕ
-outcomeValues (gives x) = x .consumed ∷ []
-outcomeValues (refuses e) = valuesOf e
-
 -- the answer that the definition's is
 unfoldable pub answerOf : Outcome Read → Reading
 answerOf (gives x) = AnswerRead (x .consumed)
@@ -36,6 +27,6 @@ answerOf (refuses e) = AnswerRefused e
 pub record Reads (limit : ℕ) (d table pool : List ℕ) (r : Reading) (table′ pool′ : List ℕ) : Type 0 where
   pub answer : r ≡ answerOf (reading limit (length table) (length pool) d)
   pub number : readingNumber r ≡ outcomeNumber (reading limit (length table) (length pool) d)
-  pub values : readingValues r ≡ outcomeValues (reading limit (length table) (length pool) d)
+  pub values : readingValues r ≡ outcomeValues (λ x. x .consumed) (reading limit (length table) (length pool) d)
   pub table-is : table′ ≡ tableAfter (length table) (reading limit (length table) (length pool) d)
   pub pool-is : pool′ ≡ poolAfter (length pool) (reading limit (length table) (length pool) d)

@@ -12,11 +12,12 @@ use lib.Dec.{leb}
 use borrow.Author.Tests.{lt-ltb, le-ltb, le-leb, lt-leb}
 use Rattle.refusal.specs.declared.Refusal.the-variants.{SlotOutside, NoRoom}
 use Rattle.format.specs.Bytes.{numberFrom}
-use Rattle.format.specs.Outcome.{unless, needed}
-use Rattle.format.specs.Slots.{shifted, entries, someOutside, recordSize, recordCount, valuesAt, referencePlaces, referencing}
+use Rattle.format.specs.Outcome.{Outcome, gives, refuses, unless, needed, outcomeNumber, outcomeValues}
+use Rattle.format.specs.Slots.{References as Found·References, shifted, entries, someOutside, recordSize, recordCount, valuesAt, referencePlaces, referencing}
 use Rattle.format.proofs.Slots.{length-shifted, length-entries, length-places, length-values, value-at, getD-shifted, slot-inside}
 use Rattle.primitives.proofs.Laws.{sets-append, sets-take}
-use Rattle.references.specs.References.{ReferencesAre, answerOf, placesAfter, valuesAfter}
+use Rattle.references.specs.References.{ReferencesAre, referencesNumber, referencesValues, answerOf, placesAfter, valuesAfter}
+use Rattle.references.specs.declared.References.{References}
 use Rattle.references.specs.declared.References.the-variants.{Found, Refused}
 
 -- ---- a slot outside a record
@@ -162,12 +163,20 @@ stored-all xs l l₁ h e =
     let k : 0 + length xs ≡ length xs = omega arith in
     e ∙ sets-eq xs l 0 (omega arith) ∙ ap (λ (x : ℕ). xs ++ drop x l) k
 
+-- an answer that is the definition's has its number and values
+told : (o : Outcome Found·References) {r : References} → r ≡ answerOf o → (referencesNumber r ≡ outcomeNumber o) × (referencesValues r ≡ outcomeValues (λ x. length (x .places)) o)
+unfolding answerOf referencesNumber referencesValues outcomeNumber outcomeValues
+told (gives x) e = (ap referencesNumber e, ap referencesValues e)
+told (refuses x) e = (ap referencesNumber e, ap referencesValues e)
+
 module _ (block ss p v : List ℕ) (n size : ℕ) (flag : Bool) (z : size ≡ recordSize n) (o : flag ≡ someOutside size ss) where
   pub is-outside : flag ≡ true → ReferencesAre block n ss (Refused SlotOutside) p p v v
   unfolding referencing unless answerOf placesAfter valuesAfter
   is-outside f =
       let q : someOutside (recordSize n) ss ≡ true = rw (← z) (sym o ∙ f) in
-      record { answer = rw q; places-are = rw q; values-are = rw q }
+      let a : Refused SlotOutside ≡ answerOf (referencing block n ss (min (length p) (length v))) = rw q in
+      let w = told _ a in
+      record { answer = a; answer-number = w .0; answer-values = w .1; places-are = rw q; values-are = rw q }
 
   module _ (f : flag ≡ false) (records wanted room : ℕ) (c : records ≡ length block / size) (w : wanted ≡ min (records * length ss) 18446744073709551615) (m : room ≡ min (length p) (length v)) where
     inside : someOutside (recordSize n) ss ≡ false
@@ -181,7 +190,9 @@ module _ (block ss p v : List ℕ) (n size : ℕ) (flag : Bool) (z : size ≡ re
     unfolding referencing unless needed answerOf placesAfter valuesAfter
     is-no-room g =
         let q : leb (recordCount block n * length ss) (min (length p) (length v)) ≡ false = rw (← counted) (lt-leb (records * length ss) (min (length p) (length v)) (omega arith)) in
-        record { answer = rw (inside, q, w, counted); places-are = rw (inside, q); values-are = rw (inside, q) }
+        let a : Refused (NoRoom wanted) ≡ answerOf (referencing block n ss (min (length p) (length v))) = rw (inside, q, w, counted) in
+        let t = told _ a in
+        record { answer = a; answer-number = t .0; answer-values = t .1; places-are = rw (inside, q); values-are = rw (inside, q) }
 
     module _ (r : room < 18446744073709551615) (g : wanted ≤ room) where
       enough : records * length ss ≤ room
@@ -200,8 +211,12 @@ module _ (block ss p v : List ℕ) (n size : ℕ) (flag : Bool) (z : size ≡ re
           let k : length (referencePlaces block n ss) ≡ records * length ss = length-places block n ss ∙ rw (← counted) in
           let vk : length (valuesAt block (referencePlaces block n ss)) ≡ records * length ss = length-values block (referencePlaces block n ss) ∙ k in
           let s : wanted ≡ length (referencePlaces block n ss) = omega (arith, enough) in
+          let a : Found wanted ≡ answerOf (referencing block n ss (min (length p) (length v))) = rw (inside, q) (ap Found s) in
+          let t = told _ a in
           record {
-            answer = rw (inside, q) (ap Found s);
+            answer = a;
+            answer-number = t .0;
+            answer-values = t .1;
             places-are = rw (inside, q) (stored-all (referencePlaces block n ss) p p′ (omega (arith, enough)) (rw (← ps) e));
             values-are = rw (inside, q) (stored-all (valuesAt block (referencePlaces block n ss)) v v′ (omega (arith, enough)) (rw (← ps) d));
           }

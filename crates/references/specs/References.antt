@@ -4,7 +4,7 @@ use mathlib.Core.Path.{_≡_}
 use mathlib.Core.List.{List, [], _∷_, _++_}
 use lib.ListN.{length, drop}
 use Rattle.refusal.specs.Refusal.{numberOf, valuesOf}
-use Rattle.format.specs.Outcome.{Outcome, gives, refuses}
+use Rattle.format.specs.Outcome.{Outcome, gives, refuses, outcomeNumber, outcomeValues}
 use Rattle.format.specs.Slots.{References as Found·References, referencing}
 use Rattle.references.specs.declared.References.{References}
 use Rattle.references.specs.declared.References.the-variants.{Found, Refused}
@@ -35,5 +35,7 @@ valuesAfter out (refuses e) = out
 -- the room is the shorter of the two lent slices
 pub record ReferencesAre (block : List ℕ) (size : ℕ) (slots : List ℕ) (r : References) (places places′ values values′ : List ℕ) : Type 0 where
   pub answer : r ≡ answerOf (referencing block size slots (min (length places) (length values)))
+  pub answer-number : referencesNumber r ≡ outcomeNumber (referencing block size slots (min (length places) (length values)))
+  pub answer-values : referencesValues r ≡ outcomeValues (λ x. length (x .places)) (referencing block size slots (min (length places) (length values)))
   pub places-are : places′ ≡ placesAfter places (referencing block size slots (min (length places) (length values)))
   pub values-are : values′ ≡ valuesAfter values (referencing block size slots (min (length places) (length values)))

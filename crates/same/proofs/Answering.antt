@@ -16,10 +16,10 @@ use Rattle.reading.specs.Reads.{Reads}
 use Rattle.reading.specs.Reads.{answerOf as readingOf}
 use Rattle.reading.specs.declared.Reading.{Reading}
 use Rattle.reading.specs.declared.Reading.the-variants.{Read as ReadTo, Refused as NotRead}
-use Rattle.table.specs.Survey.{sizedOf}
+use Rattle.table.specs.Survey.{sizedOf, SizedAs}
 use Rattle.table.specs.declared.Sized.{Sized}
 use Rattle.table.specs.declared.Sized.the-variants.{Size, Refused as NotSized}
-use Rattle.compare.specs.Agreeing.{comparisonOf}
+use Rattle.compare.specs.Agreeing.{comparisonOf, Compares}
 use Rattle.compare.specs.declared.Comparison.{Comparison}
 use Rattle.compare.specs.declared.Comparison.the-variants.{Same as AreSame, Differs as AreNot, Refused as NotCompared}
 use Rattle.blocks.specs.Blocks.{recordOf}
@@ -51,11 +51,11 @@ module _ (table pool block : List ℕ) (n i j c : ℕ) (e : c ≡ recordCount bl
     unfolding answerSized
     past-second k = rw (e, lt-ltb i (recordCount block n) (rw e at h), le-ltb j (recordCount block n) (rw e at k))
 
-    module _ (k : j < c) (w : Comparison) (f : w ≡ comparisonOf (comparing table pool (recordOf block n i) (recordOf block n j))) where
+    module _ (k : j < c) (w : Comparison) (f : Compares (comparing table pool (recordOf block n i) (recordOf block n j)) w) where
       compared : from w ≡ answerSized table pool block n i j
       unfolding answerSized
       compared =
-          ap from f ∙ (from-outcome (comparing table pool (recordOf block n i) (recordOf block n j))
+          ap from (f .answer) ∙ (from-outcome (comparing table pool (recordOf block n i) (recordOf block n j))
           ∙ sym (rw (lt-ltb i (recordCount block n) (rw e at h), lt-ltb j (recordCount block n) (rw e at k))))
 
       pub are-same : w ≡ AreSame → Same ≡ answerSized table pool block n i j
@@ -81,10 +81,10 @@ unfolding sized sizedOf whenSized
 sized-outcome table pool block i j (gives n) = refl
 sized-outcome table pool block i j (refuses e) = refl
 
-module _ (table pool block : List ℕ) (i j : ℕ) (w : Sized) (f : w ≡ sizedOf (elementSizing table pool)) where
+module _ (table pool block : List ℕ) (i j : ℕ) (w : Sized) (f : SizedAs (elementSizing table pool) w) where
   by-size : sized table pool block i j w ≡ answering table pool block i j
   unfolding answering
-  by-size = ap (sized table pool block i j) f ∙ sized-outcome table pool block i j (elementSizing table pool)
+  by-size = ap (sized table pool block i j) (f .answer) ∙ sized-outcome table pool block i j (elementSizing table pool)
 
   pub not-sized : {x : Refusal} → w ≡ NotSized x → Refused x ≡ answering table pool block i j
   unfolding sized

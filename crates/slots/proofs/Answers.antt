@@ -13,7 +13,7 @@ use borrow.Author.Tests.{lt-ltb, le-ltb, le-leb, lt-leb, ltb-false}
 use Rattle.refusal.specs.declared.Refusal.{Refusal}
 use Rattle.refusal.specs.declared.Refusal.the-variants.{BadTable, ZeroSize, Unmapped, NoRoom}
 use Rattle.format.specs.Datatype.{Datatype, fixedPoint, floatingPoint, time, string, bitField, opaque, compound, reference, enumeration, variableLength, array, Members, noMembers, member, typeSize}
-use Rattle.format.specs.Outcome.{Outcome, gives, refuses, whenGiven, unless, needed, outputAfter}
+use Rattle.format.specs.Outcome.{Outcome, gives, refuses, whenGiven, unless, needed, outputAfter, outcomeNumber, outcomeValues}
 use Rattle.format.specs.Slots.{slots, slotCount, slotEnd, shifted, holdsOtherReference, holdsHiddenReference, someOutside, unmapped, orElse, zeroClass, firstZero, memberFirstZero, unlessZero, slotting, findingSlots}
 use Rattle.format.specs.Table.{typeAt}
 use Rattle.format.proofs.Booleans.{or-neither}
@@ -22,10 +22,11 @@ use Rattle.table.specs.Survey.{surveyOf, zeroCode, Sets, Checks}
 use Rattle.table.specs.declared.Survey.{Survey}
 use Rattle.table.specs.declared.Checked.{Checked}
 use Rattle.table.specs.declared.Checked.the-variants.{Good, Bad}
-use Rattle.slots.specs.Slots.{mostSlots, mostEnd, CountedAs, AllBelow, Fits, Listed, PutAs, answerOf, SlotsAre}
+use Rattle.slots.specs.Slots.{mostSlots, mostEnd, CountedAs, AllBelow, Fits, Listed, PutAs, slotsNumber, slotsValues, answerOf, SlotsAre}
 use Rattle.slots.specs.declared.Tally.{Tally}
 use Rattle.slots.specs.declared.Tallied.{Tallied}
 use Rattle.slots.specs.declared.Tallied.the-variants.{At, Lost}
+use Rattle.slots.specs.declared.Slots.{Slots}
 use Rattle.slots.specs.declared.Slots.the-variants.{Found as SlotsFound, Refused}
 use Rattle.slots.proofs.Listing.{shifted-zero}
 
@@ -87,9 +88,18 @@ unfolding zeroCode unlessZero
 some-code none y h = absurd (h refl)
 some-code (some c) y h = let e : suc c - 1 ≡ c = omega arith in rw e
 
+-- an answer that is the definition's has its number and values
+told : (o : Outcome (List ℕ)) {r : Slots} → r ≡ answerOf o → (slotsNumber r ≡ outcomeNumber o) × (slotsValues r ≡ outcomeValues length o)
+unfolding answerOf slotsNumber slotsValues outcomeNumber outcomeValues
+told (gives s) e = (ap slotsNumber e, ap slotsValues e)
+told (refuses x) e = (ap slotsNumber e, ap slotsValues e)
+
 refused : (table pool out : List ℕ) (e : Refusal) → findingSlots table pool (length out) ≡ refuses e → SlotsAre table pool (Refused e) out out
 unfolding answerOf outputAfter
-refused table pool out e h = record { answer = rw h; out-is = rw h }
+refused table pool out e h =
+    let a : Refused e ≡ answerOf (findingSlots table pool (length out)) = rw h in
+    let w = told (findingSlots table pool (length out)) a in
+    record { answer = a; number = w .0; values = w .1; out-is = rw h }
 
 module _ (table pool out : List ℕ) {k : Checked} (h : Checks table pool k) where
   pub slots-bad : k ≡ Bad → SlotsAre table pool (Refused BadTable) out out
@@ -198,7 +208,9 @@ module _ (table pool out : List ℕ) {k : Checked} (h : Checks table pool k) whe
               let p : Fits (slots (given .type)) out 0 = record { room = omega (arith, long); low = all-low (typeSize (given .type)) (slots (given .type)) (omega (arith, sized)) o } in
               let l : Listed (slots (given .type)) out 0 x out′ = rw q at (w (record { sized = none-zero; mapped = neither }) (rw q p)) in
               let d : findingSlots table pool (length out) ≡ gives (slots (given .type)) = finding ∙ rw (none-zero, mapped, long, le-leb (t .count) (length out) r) in
-              record { answer = rw (d, long); out-is = l .out-is ∙ rw d (written (slots (given .type)) out (omega (arith, long))) }
+              let a : SlotsFound (t .count) ≡ answerOf (findingSlots table pool (length out)) = rw (d, long) in
+              let n = told (findingSlots table pool (length out)) a in
+              record { answer = a; number = n .0; values = n .1; out-is = l .out-is ∙ rw d (written (slots (given .type)) out (omega (arith, long))) }
             where
               written : (vs out : List ℕ) → length vs ≤ length out → sets out 0 vs ≡ vs ++ drop (length vs) out
               written vs out h = let e : 0 + length vs ≡ length vs = omega arith in sets-eq vs out 0 (omega arith) ∙ ap (λ (k : ℕ). vs ++ drop k out) e

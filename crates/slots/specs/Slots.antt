@@ -9,7 +9,7 @@ use lib.Seq.{sets}
 use lib.Dec.{eqb}
 use Rattle.refusal.specs.Refusal.{numberOf, valuesOf}
 use Rattle.format.specs.Datatype.{Datatype, Members, typeSize}
-use Rattle.format.specs.Outcome.{Outcome, gives, refuses, outputAfter}
+use Rattle.format.specs.Outcome.{Outcome, gives, refuses, outputAfter, outcomeNumber, outcomeValues}
 use Rattle.format.specs.Sizes.{holdsObjectAddress}
 use Rattle.format.specs.Slots.{isSlot, shifted, entries, slots, memberSlots, lastEnd, slotCount, memberSlotCount, slotEnd, memberSlotEnd, holdsOtherReference, memberHoldsOtherReference, holdsHiddenReference, memberHoldsHiddenReference, firstZero, memberFirstZero, findingSlots}
 use Rattle.format.specs.Table.{Found, found, bad}
@@ -123,4 +123,6 @@ answerOf (refuses e) = Refused e
 
 pub record SlotsAre (table pool : List ℕ) (r : Slots) (out out′ : List ℕ) : Type 0 where
   pub answer : r ≡ answerOf (findingSlots table pool (length out))
+  pub number : slotsNumber r ≡ outcomeNumber (findingSlots table pool (length out))
+  pub values : slotsValues r ≡ outcomeValues length (findingSlots table pool (length out))
   pub out-is : out′ ≡ outputAfter out (findingSlots table pool (length out))

@@ -1,7 +1,7 @@
 -- The answers of the calls that only ask for the check's survey.
 use Prim.Native.Nat.{ℕ, suc, _-_, _<_, _≤_}
 use mathlib.Core.Path.{_≡_, refl, sym, ap, _∙_}
-use mathlib.Core.Bool.{true, false}
+use mathlib.Core.Bool.{Bool, true, false}
 use mathlib.Core.List.{List}
 use native.Mathlib.Omega.{arith}
 use lib.ListN.{length, getD, List·getD-append}
@@ -9,16 +9,18 @@ use borrow.Author.Tests.{lt-ltb}
 use Rattle.refusal.specs.declared.Refusal.the-variants.{BadTable, ZeroSize}
 use Rattle.format.specs.Bytes.{padded}
 use Rattle.format.specs.Datatype.{Datatype, fixedPoint, floatingPoint, time, string, bitField, opaque, compound, reference, enumeration, variableLength, array, rowCount, typeSize, classNumber}
-use Rattle.format.specs.Outcome.{whenGiven, unless}
+use Rattle.format.specs.Outcome.{Outcome, gives, refuses, whenGiven, unless, outcomeNumber, outcomeValues}
 use Rattle.format.specs.Sizes.{sizing, elementSizing, objectAddressHeld, fileAddressHeld, holdsObjectAddress, holdsFileAddress}
 use Rattle.format.specs.Table.{rows, row, found}
 use Rattle.format.proofs.Rows.{length-rows}
 use Rattle.format.proofs.Table.{typeOf-sound}
-use Rattle.table.specs.Survey.{Checks, sizedOf, heldOf}
+use Rattle.table.specs.Survey.{Checks, sizedNumber, sizedValues, sizedOf, SizedAs, heldNumber, heldValues, heldOf, yesOrNo, HeldAs}
 use Rattle.table.specs.declared.Survey.{Survey}
 use Rattle.table.specs.declared.Checked.{Checked}
 use Rattle.table.specs.declared.Checked.the-variants.{Good, Bad}
+use Rattle.table.specs.declared.Sized.{Sized}
 use Rattle.table.specs.declared.Sized.the-variants.{Size, Refused as SizedRefused}
+use Rattle.table.specs.declared.Held.{Held}
 use Rattle.table.specs.declared.Held.the-variants.{Yes, No, Refused as HeldRefused}
 use Rattle.table.proofs.Surveys.{Says, Told, told}
 use Rattle.table.proofs.Checking.{all-bytes}
@@ -66,62 +68,74 @@ rows-some (enumeration n t ms) = omega arith
 rows-some (variableLength i a k t) = omega arith
 rows-some (array ds t) = omega arith
 
+-- an answer that is the definition's has its number and values
+sized-as : (o : Outcome ℕ) {r : Sized} → r ≡ sizedOf o → SizedAs o r
+unfolding sizedOf sizedNumber sizedValues outcomeNumber outcomeValues
+sized-as (gives n) e = record { answer = e; number = ap sizedNumber e; values = ap sizedValues e }
+sized-as (refuses x) e = record { answer = e; number = ap sizedNumber e; values = ap sizedValues e }
+
+held-as : (o : Outcome Bool) {r : Held} → r ≡ heldOf o → HeldAs o r
+unfolding heldOf heldNumber heldValues outcomeNumber outcomeValues yesOrNo
+held-as (gives true) e = record { answer = e; number = ap heldNumber e; values = ap heldValues e }
+held-as (gives false) e = record { answer = e; number = ap heldNumber e; values = ap heldValues e }
+held-as (refuses x) e = record { answer = e; number = ap heldNumber e; values = ap heldValues e }
+
 module _ (table pool : List ℕ) {r : Checked} (h : Checks table pool r) where
   says : {s : Survey} (g : r ≡ Good s) → Says s (h .good s g .type) (s .row) (s .place)
   unfolding Told
   says {s = s} g = told (found (h .good s g .type) (s .row) (s .place)) s refl (h .good s g .says)
 
-  pub size-bad : r ≡ Bad → SizedRefused BadTable ≡ sizedOf (sizing table pool)
+  pub size-bad : r ≡ Bad → SizedAs (sizing table pool) (SizedRefused BadTable)
   unfolding sizing sizedOf whenGiven
-  size-bad e = rw (h .bad-table e)
+  size-bad e = sized-as _ (rw (h .bad-table e))
 
-  pub size-good : {s : Survey} → r ≡ Good s → Size (s .size) ≡ sizedOf (sizing table pool)
+  pub size-good : {s : Survey} → r ≡ Good s → SizedAs (sizing table pool) (Size (s .size))
   unfolding sizing sizedOf whenGiven
   size-good {s = s} g =
       let f : s .size ≡ typeSize (h .good s g .type) = ap (λ (v : Survey). v .size) (says g .is) in
-      rw (h .good s g .is, ← f)
+      sized-as _ (rw (h .good s g .is, ← f))
 
-  pub object-bad : r ≡ Bad → HeldRefused BadTable ≡ heldOf (objectAddressHeld table pool)
+  pub object-bad : r ≡ Bad → HeldAs (objectAddressHeld table pool) (HeldRefused BadTable)
   unfolding objectAddressHeld heldOf whenGiven
-  object-bad e = rw (h .bad-table e)
+  object-bad e = held-as _ (rw (h .bad-table e))
 
-  pub object-yes : {s : Survey} → r ≡ Good s → s .object ≡ true → Yes ≡ heldOf (objectAddressHeld table pool)
+  pub object-yes : {s : Survey} → r ≡ Good s → s .object ≡ true → HeldAs (objectAddressHeld table pool) Yes
   unfolding objectAddressHeld heldOf whenGiven
   object-yes {s = s} g e =
       let f : holdsObjectAddress (h .good s g .type) ≡ true = sym (ap (λ (v : Survey). v .object) (says g .is)) ∙ e in
-      rw (h .good s g .is, f)
+      held-as _ (rw (h .good s g .is, f))
 
-  pub object-no : {s : Survey} → r ≡ Good s → s .object ≡ false → No ≡ heldOf (objectAddressHeld table pool)
+  pub object-no : {s : Survey} → r ≡ Good s → s .object ≡ false → HeldAs (objectAddressHeld table pool) No
   unfolding objectAddressHeld heldOf whenGiven
   object-no {s = s} g e =
       let f : holdsObjectAddress (h .good s g .type) ≡ false = sym (ap (λ (v : Survey). v .object) (says g .is)) ∙ e in
-      rw (h .good s g .is, f)
+      held-as _ (rw (h .good s g .is, f))
 
-  pub file-bad : r ≡ Bad → HeldRefused BadTable ≡ heldOf (fileAddressHeld table pool)
+  pub file-bad : r ≡ Bad → HeldAs (fileAddressHeld table pool) (HeldRefused BadTable)
   unfolding fileAddressHeld heldOf whenGiven
-  file-bad e = rw (h .bad-table e)
+  file-bad e = held-as _ (rw (h .bad-table e))
 
-  pub file-yes : {s : Survey} → r ≡ Good s → s .file ≡ true → Yes ≡ heldOf (fileAddressHeld table pool)
+  pub file-yes : {s : Survey} → r ≡ Good s → s .file ≡ true → HeldAs (fileAddressHeld table pool) Yes
   unfolding fileAddressHeld heldOf whenGiven
   file-yes {s = s} g e =
       let f : holdsFileAddress (h .good s g .type) ≡ true = sym (ap (λ (v : Survey). v .file) (says g .is)) ∙ e in
-      rw (h .good s g .is, f)
+      held-as _ (rw (h .good s g .is, f))
 
-  pub file-no : {s : Survey} → r ≡ Good s → s .file ≡ false → No ≡ heldOf (fileAddressHeld table pool)
+  pub file-no : {s : Survey} → r ≡ Good s → s .file ≡ false → HeldAs (fileAddressHeld table pool) No
   unfolding fileAddressHeld heldOf whenGiven
   file-no {s = s} g e =
       let f : holdsFileAddress (h .good s g .type) ≡ false = sym (ap (λ (v : Survey). v .file) (says g .is)) ∙ e in
-      rw (h .good s g .is, f)
+      held-as _ (rw (h .good s g .is, f))
 
-  pub element-bad : r ≡ Bad → SizedRefused BadTable ≡ sizedOf (elementSizing table pool)
+  pub element-bad : r ≡ Bad → SizedAs (elementSizing table pool) (SizedRefused BadTable)
   unfolding elementSizing sizedOf whenGiven
-  element-bad e = rw (h .bad-table e)
+  element-bad e = sized-as _ (rw (h .bad-table e))
 
-  pub element-good : {s : Survey} → r ≡ Good s → (s .size ≡ 0 → ⊥) → Size (s .size) ≡ sizedOf (elementSizing table pool)
+  pub element-good : {s : Survey} → r ≡ Good s → (s .size ≡ 0 → ⊥) → SizedAs (elementSizing table pool) (Size (s .size))
   unfolding elementSizing sizedOf whenGiven unless
   element-good {s = s} g e =
       let f : s .size ≡ typeSize (h .good s g .type) = ap (λ (v : Survey). v .size) (says g .is) in
-      rw (h .good s g .is, ← f, lt-ltb 0 (s .size) (omega (arith, e)))
+      sized-as _ (rw (h .good s g .is, ← f, lt-ltb 0 (s .size) (omega (arith, e))))
 
   -- the outermost row of a table that sets a type out
   pub record Outermost (t : Datatype) : Type 0 where
@@ -141,11 +155,11 @@ module _ (table pool : List ℕ) {r : Checked} (h : Checks table pool r) where
       first : (t : Datatype) → table ≡ padded (length table) (rows 0 t) → 0 < length (rows 0 t) → getD table 0 0 ≡ suc (classNumber t)
       first t e n = unfold padded in ap (λ (l : List ℕ). getD l 0 0) e ∙ List·getD-append (rows 0 t) _ 0 0 n ∙ rows-first 0 t
 
-  pub element-zero : {s : Survey} {k : ℕ} → ((i : ℕ) → getD pool i 0 < 256) → r ≡ Good s → s .size ≡ 0 → k ≡ getD table 0 0 - 1 → SizedRefused (ZeroSize k) ≡ sizedOf (elementSizing table pool)
+  pub element-zero : {s : Survey} {k : ℕ} → ((i : ℕ) → getD pool i 0 < 256) → r ≡ Good s → s .size ≡ 0 → k ≡ getD table 0 0 - 1 → SizedAs (elementSizing table pool) (SizedRefused (ZeroSize k))
   unfolding elementSizing sizedOf whenGiven unless
   element-zero {s = s} {k = k} b g e j =
       let t = h .good s g .type in
       let f : typeSize t ≡ 0 = sym (ap (λ (v : Survey). v .size) (says g .is)) ∙ e in
       let o = outermost g b in
       let c : k ≡ classNumber t = omega (arith, o .kind) in
-      rw (h .good s g .is, f, c)
+      sized-as _ (rw (h .good s g .is, f, c))

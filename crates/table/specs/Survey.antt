@@ -8,7 +8,7 @@ use lib.Dec.{eqb}
 use Rattle.refusal.specs.Refusal.{numberOf, valuesOf}
 use Rattle.refusal.specs.declared.Refusal.the-variants.{BadTable}
 use Rattle.format.specs.Datatype.{Datatype, Members, EnumMember, typeSize}
-use Rattle.format.specs.Outcome.{Outcome, gives, refuses}
+use Rattle.format.specs.Outcome.{Outcome, gives, refuses, outcomeNumber, outcomeValues}
 use Rattle.format.specs.Ownership.{outside, memberOutside, heapHeld, memberHeapHeld}
 use Rattle.format.specs.Sizes.{holdsObjectAddress, memberHoldsObjectAddress, holdsFileAddress, memberHoldsFileAddress}
 use Rattle.format.specs.Slots.{firstZero, memberFirstZero, orElse, zeroClass}
@@ -67,7 +67,7 @@ pub record Checks (table pool : List ℕ) (r : Checked) : Type 0 where
   pub good : (s : Survey) → r ≡ Good s → Sets table pool s
   pub bad-table : r ≡ Bad → typeOf table pool ≡ refuses BadTable
 
--- Document 01's number and values of the answers: 0 for a result
+-- Document 01's number and values of the answers: 0 and the size, 0 and 1 for yes or 0 for no, or the refusal's
 unfoldable pub sizedNumber : Sized → ℕ
 sizedNumber (Size n) = 0
 sizedNumber (SizedRefused e) = numberOf e
@@ -96,8 +96,18 @@ heldOf (gives true) = Yes
 heldOf (gives false) = No
 heldOf (refuses e) = HeldRefused e
 
-abbrev pub SizedAs : Outcome ℕ → Sized → Type 0
-SizedAs o r = r ≡ sizedOf o
+-- 1 for yes, 0 for no
+unfoldable pub yesOrNo : Bool → ℕ
+yesOrNo true = 1
+yesOrNo false = 0
 
-abbrev pub HeldAs : Outcome Bool → Held → Type 0
-HeldAs o r = r ≡ heldOf o
+-- an answer by the definition's outcome
+pub record SizedAs (o : Outcome ℕ) (r : Sized) : Type 0 where
+  pub answer : r ≡ sizedOf o
+  pub number : sizedNumber r ≡ outcomeNumber o
+  pub values : sizedValues r ≡ outcomeValues (λ n. n) o
+
+pub record HeldAs (o : Outcome Bool) (r : Held) : Type 0 where
+  pub answer : r ≡ heldOf o
+  pub number : heldNumber r ≡ outcomeNumber o
+  pub values : heldValues r ≡ outcomeValues yesOrNo o

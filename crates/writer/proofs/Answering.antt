@@ -14,7 +14,7 @@ use Rattle.refusal.specs.declared.Refusal.the-variants.{BadTable, NoSuchEdition
 use Rattle.format.specs.Bytes.{allZero}
 use Rattle.format.specs.Datatype.{Datatype}
 use Rattle.format.specs.Message.{message, messageLength, storable, carried, writing, writingType}
-use Rattle.format.specs.Outcome.{Outcome, gives, refuses, outputAfter, needed}
+use Rattle.format.specs.Outcome.{Outcome, gives, refuses, outputAfter, needed, outcomeNumber, outcomeValues}
 use Rattle.format.specs.Table.{WithinLimits, SetsOut, Found, found, bad, typeAt, wholeType, typeOf}
 use Rattle.format.proofs.Table.{typeOf-sound}
 use Rattle.format.proofs.Written.{length-message, writingType-unstorable, writingType-not-in-edition, writingType-no-room, writingType-given, writing-bad-table, writing-found, writing-no-edition}
@@ -33,7 +33,7 @@ use Rattle.writer_parts.specs.Places.{Stands}
 use Rattle.writer_parts.specs.declared.Put.{Put}
 use Rattle.writer_parts.specs.declared.Put.the-variants.{At, Lost}
 use Rattle.writer_parts.specs.declared.Written.{Written}
-use Rattle.writer.specs.Writes.{PutsType, writingNumber, writingValues, outcomeNumber, outcomeValues, answerOf, Answers, WritesType}
+use Rattle.writer.specs.Writes.{PutsType, writingNumber, writingValues, answerOf, Answers, WritesType}
 use Rattle.writer.specs.declared.Writing.{Writing}
 use Rattle.writer.specs.declared.Writing.the-variants.{Written as AnswerWritten, Refused as AnswerRefused}
 use Rattle.writer.proofs.Compounds.{found-puts}
@@ -47,7 +47,7 @@ module _ {o : Outcome (List ℕ)} {out : List ℕ} where
       record {
         answer = sym (ap answerOf h);
         number = sym (ap outcomeNumber h);
-        values = sym (ap outcomeValues h);
+        values = sym (ap (outcomeValues length) h);
         out-is = sym (ap (outputAfter out) h);
       }
 
@@ -57,7 +57,7 @@ module _ {o : Outcome (List ℕ)} {out : List ℕ} where
       record {
         answer = ap AnswerWritten e ∙ sym (ap answerOf h);
         number = sym (ap outcomeNumber h);
-        values = ap (λ (n : ℕ). n ∷ []) e ∙ sym (ap outcomeValues h);
+        values = ap (λ (n : ℕ). n ∷ []) e ∙ sym (ap (outcomeValues length) h);
         out-is = w ∙ sym (ap (outputAfter out) h);
       }
 

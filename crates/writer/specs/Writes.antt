@@ -7,7 +7,7 @@ use lib.ListN.{length}
 use Rattle.refusal.specs.Refusal.{numberOf, valuesOf}
 use Rattle.format.specs.Datatype.{Datatype, Members, typeSize}
 use Rattle.format.specs.Message.{message, memberBytes, storable, storableMembers, carried, carriedMembers, writing, writingType}
-use Rattle.format.specs.Outcome.{Outcome, gives, refuses, outputAfter}
+use Rattle.format.specs.Outcome.{Outcome, gives, refuses, outputAfter, outcomeNumber, outcomeValues}
 use Rattle.format.specs.Table.{Found, found, bad, typeOf}
 use Rattle.writer_parts.specs.Places.{Stands}
 use Rattle.writer_parts.specs.declared.Put.{Put}
@@ -48,20 +48,11 @@ unfoldable pub answerOf : Outcome (List ℕ) → Writing
 answerOf (gives s) = AnswerWritten (length s)
 answerOf (refuses e) = AnswerRefused e
 
--- document 01's number and values of the definition's answer
-unfoldable pub outcomeNumber : Outcome (List ℕ) → ℕ
-outcomeNumber (gives s) = 0
-outcomeNumber (refuses e) = numberOf e
-
-unfoldable pub outcomeValues : Outcome (List ℕ) → List ℕ
-outcomeValues (gives s) = length s ∷ []
-outcomeValues (refuses e) = valuesOf e
-
 -- an answer, and every byte of `out`, by the definition's outcome
 pub record Answers (o : Outcome (List ℕ)) (r : Writing) (out out′ : List ℕ) : Type 0 where
   pub answer : r ≡ answerOf o
   pub number : writingNumber r ≡ outcomeNumber o
-  pub values : writingValues r ≡ outcomeValues o
+  pub values : writingValues r ≡ outcomeValues length o
   pub out-is : out′ ≡ outputAfter out o
 
 -- of a type that the check admits, in an edition that exists

@@ -1,5 +1,3 @@
-use mathlib.Core.Path.{ap}
-use Rattle.compare.specs.Agreeing.{comparisonNumber, comparisonValues}
 use Rattle.abi.proofs.Answers.{told}
 use borrow.Author.Needs.{needs}
 use Rattle.abi.proofs.datatype_compare.Statement.{statement}
@@ -12,7 +10,7 @@ of-comparison-requires : tie.Need-of-comparison-requires
 of-comparison-requires c κs = search needs
 
 returns : tie.Need-returns
-returns c = told (c .of-comparison .ensures) (ap comparisonNumber (c .before .same .ensures)) (ap comparisonValues (c .before .same .ensures))
+returns c = told (c .of-comparison .ensures) (c .before .same .ensures .number) (c .before .same .ensures .values)
 
 pub datatype-compare-spec : {M : Type 1} → statement M
 datatype-compare-spec = tie.close (tie.spec same-requires of-comparison-requires returns)

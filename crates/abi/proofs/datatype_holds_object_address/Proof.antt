@@ -1,5 +1,3 @@
-use mathlib.Core.Path.{ap}
-use Rattle.table.specs.Survey.{heldNumber, heldValues}
 use Rattle.abi.proofs.Answers.{told}
 use borrow.Author.Needs.{needs}
 use Rattle.abi.proofs.datatype_holds_object_address.Statement.{statement}
@@ -12,7 +10,7 @@ of-held-requires : tie.Need-of-held-requires
 of-held-requires c κs = search needs
 
 returns : tie.Need-returns
-returns c = told (c .of-held .ensures) (ap heldNumber (c .before .datatype-holds-object-address .ensures)) (ap heldValues (c .before .datatype-holds-object-address .ensures))
+returns c = told (c .of-held .ensures) (c .before .datatype-holds-object-address .ensures .number) (c .before .datatype-holds-object-address .ensures .values)
 
 pub datatype-holds-object-address-spec : {M : Type 1} → statement M
 datatype-holds-object-address-spec =

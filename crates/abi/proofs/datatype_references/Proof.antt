@@ -1,5 +1,3 @@
-use mathlib.Core.Path.{ap}
-use Rattle.references.specs.References.{referencesNumber, referencesValues}
 use Rattle.abi.proofs.Answers.{told-with}
 use borrow.Author.Needs.{needs}
 use Rattle.abi.proofs.datatype_references.Statement.{statement}
@@ -18,7 +16,7 @@ same-length-2 : tie.Need-same-length-2
 same-length-2 c = search needs
 
 returns : tie.Need-returns
-returns c = told-with (c .of-references .ensures) (ap referencesNumber (c .before .before .before .before .before .stored-object-references .ensures .answer)) (ap referencesValues (c .before .before .before .before .before .stored-object-references .ensures .answer)) (c .before .before .before .before .before .stored-object-references .ensures .places-are, c .before .before .before .before .before .stored-object-references .ensures .values-are)
+returns c = told-with (c .of-references .ensures) (c .before .before .before .before .before .stored-object-references .ensures .answer-number) (c .before .before .before .before .before .stored-object-references .ensures .answer-values) (c .before .before .before .before .before .stored-object-references .ensures .places-are, c .before .before .before .before .before .stored-object-references .ensures .values-are)
 
 pub datatype-references-spec : {M : Type 1} → statement M
 datatype-references-spec =

@@ -1,5 +1,3 @@
-use mathlib.Core.Path.{ap}
-use Rattle.slots.specs.Slots.{slotsNumber, slotsValues}
 use Rattle.abi.proofs.Answers.{told-with}
 use borrow.Author.Needs.{needs}
 use Rattle.abi.proofs.datatype_slots.Statement.{statement}
@@ -15,7 +13,7 @@ same-length : tie.Need-same-length
 same-length c = search needs
 
 returns : tie.Need-returns
-returns c = told-with (c .of-slots .ensures) (ap slotsNumber (c .before .before .before .embedded-reference-slots .ensures .answer)) (ap slotsValues (c .before .before .before .embedded-reference-slots .ensures .answer)) (c .before .before .before .embedded-reference-slots .ensures .out-is)
+returns c = told-with (c .of-slots .ensures) (c .before .before .before .embedded-reference-slots .ensures .number) (c .before .before .before .embedded-reference-slots .ensures .values) (c .before .before .before .embedded-reference-slots .ensures .out-is)
 
 pub datatype-slots-spec : {M : Type 1} → statement M
 datatype-slots-spec =

@@ -1,5 +1,3 @@
-use mathlib.Core.Path.{ap}
-use Rattle.writer.specs.Writes.{writingNumber, writingValues}
 use Rattle.abi.proofs.Answers.{told-with}
 use borrow.Author.Needs.{needs}
 use Rattle.abi.proofs.datatype_write.Statement.{statement}
@@ -15,7 +13,7 @@ same-length : tie.Need-same-length
 same-length c = search needs
 
 returns : tie.Need-returns
-returns c = told-with (c .of-writing .ensures) (ap writingNumber (c .before .before .before .write .ensures .answer)) (ap writingValues (c .before .before .before .write .ensures .answer)) (c .before .before .before .write .ensures .out-is)
+returns c = told-with (c .of-writing .ensures) (c .before .before .before .write .ensures .number) (c .before .before .before .write .ensures .values) (c .before .before .before .write .ensures .out-is)
 
 pub datatype-write-spec : {M : Type 1} → statement M
 datatype-write-spec = tie.close (tie.spec write-requires of-writing-requires same-length returns)

@@ -41,7 +41,7 @@ use denote.Exit.{yes}
 use denote.Triple.Clauses.{ensured, lasts}
 use Rattle.format.specs.Ownership.{comparing}
 use Rattle.table.specs.Names.{further}
-use Rattle.compare.specs.Agreeing.{comparisonOf}
+use Rattle.compare.specs.Agreeing.{Compares}
 use Rattle.compare.specs.declared.Comparison.{Comparison}
 use Rattle.compare.proofs.Comparison as S
 use Rattle.compare.proofs.Comparison.Laws as S′
@@ -229,17 +229,16 @@ module _ {M : Type 1} (𝓤 : URA M) (H : Heap 𝓤) (A : Atoms 𝓤) (W : Given
         use2 W (raw (Same 𝓤 H A mem run .pre to-same)) asked-same $ frame ! $ done !
 
     abbrev Compared : Comparison → Type 0
-    Compared c = c ≡ comparisonOf (comparing (now t) (now p) (now a) (now b))
+    Compared c = Compares (comparing (now t) (now p) (now a) (now b)) c
 
     said-same : (c : Comparison) → ent 𝓤 (ensured 𝓤 H A same.ended (same.clauses 𝓤 H A mem run) κs₄ (t, (p, (a, (b, tt)))) tt c) (fact 𝓤 (Compared c))
     said-same c = exE 𝓤 _ (λ ws. snd∗ 𝓤 (sem 𝓤 H A (lasts same.ended κs₄ (t, (p, (a, (b, tt)))) ws)) (fact 𝓤 (Compared c)))
 
     compared-is : (c : Comparison) → now a ≡ recordOf (now s) n i → now b ≡ recordOf (now s) n j → Compared c
-        → c ≡ comparisonOf (comparing (now t) (now p) (recordOf (now s) n i) (recordOf (now s) n j))
-    compared-is c f g h =
-        h ∙ (ap (λ (x : List ℕ). comparisonOf (comparing (now t) (now p) x (now b))) f ∙ ap (λ (x : List ℕ). comparisonOf (comparing (now t) (now p) (recordOf (now s) n i) x)) g)
+        → Compares (comparing (now t) (now p) (recordOf (now s) n i) (recordOf (now s) n j)) c
+    compared-is c f g h = rw (f, g) at h
 
-    exits : (c : Comparison) (v : Val) → c ≡ comparisonOf (comparing (now t) (now p) (recordOf (now s) n i) (recordOf (now s) n j))
+    exits : (c : Comparison) (v : Val) → Compares (comparing (now t) (now p) (recordOf (now s) n i) (recordOf (now s) n j)) c
         → ent 𝓤 (⋆ 𝓤 H A (‵ (S.the-row .own c (v ∷ [])) ∷ tokens ∷ ‵ Own ∷ [])) (Post v)
     exits c v e =
         qed W (‵ (S.the-row .own c (v ∷ [])) ∷ tokens ∷ ‵ Own ∷ []) ∵
