@@ -10,12 +10,12 @@ use borrow.Author.Tests.{le-leb, lt-leb, not-true, not-false}
 use Rattle.refusal.specs.declared.Refusal.the-variants.{BadTable}
 use Rattle.format.specs.Bytes.{AllBytes, allZero}
 use Rattle.format.specs.Datatype.{Datatype, poolBytes}
-use Rattle.format.specs.Outcome.{refuses}
+use Rattle.format.specs.Outcome.{gives, refuses}
 use Rattle.format.specs.Table.{rows, Found, found, bad, typeAt, wholeType, typeOf}
 use Rattle.format.proofs.Rows.{length-rows}
 use Rattle.format.proofs.TableSound.{Sure, holds, TypeStands, typeAt-sound}
 use Rattle.primitives.proofs.Laws.{part-all}
-use Rattle.table.specs.Survey.{surveyOf, Sets, Checks}
+use Rattle.table.specs.Survey.{surveyOf, endsAt, Sets, Checks}
 use Rattle.table.specs.declared.Survey.{Survey}
 use Rattle.table.specs.declared.Surveyed.{Surveyed}
 use Rattle.table.specs.declared.Surveyed.the-variants.{Sound, Unsound}
@@ -43,79 +43,90 @@ module _ (table pool : List ℕ) where
   pub stands-at : (t : Datatype) (r p : ℕ) → ((i : ℕ) → getD pool i 0 < 256) → typeAt 32 table pool 0 0 ≡ found t r p → TypeStands table pool 32 0 0 t r p
   stands-at t r p b e = sure-found (rw e at (typeAt-sound table pool (all-bytes pool b) 32 0 0))
 
-  stands-fits : (t : Datatype) (r p : ℕ) → TypeStands table pool 32 0 0 t r p → (r * 16 ≤ length table) × (p ≤ length pool)
-  stands-fits t r p s =
+  pub stands-fits : (t : Datatype) (r p : ℕ) → ((i : ℕ) → getD pool i 0 < 256) → typeAt 32 table pool 0 0 ≡ found t r p → (r * 16 ≤ length table) × (p ≤ length pool)
+  stands-fits t r p small e =
+      let s = stands-at t r p small e in
       let w : table ≡ rows 0 t ++ drop (r * 16) table = s .words in
       let b : pool ≡ poolBytes t ++ drop p pool = s .bytes in (
         omega (arith, s .row-behind, length-rows t 0, ap length w, length-append (rows 0 t) (drop (r * 16) table)),
         omega (arith, s .place-behind, ap length b, length-append (poolBytes t) (drop p pool)),
       )
 
-  refused : {r : Checked} → r ≡ Bad → typeOf table pool ≡ refuses BadTable → Checks table pool r
-  refused e h = record { good = λ s g. let z : _≡_ {A = ℕ} 0 1 = cc in absurd (omega arith); bad-table = λ g. h }
+  -- ---- the limits and the zeros behind a type
+
+  module _ (r p : ℕ) where
+    pub ends-rows : 4096 < r → false ≡ endsAt table pool r p
+    unfolding endsAt
+    ends-rows h = rw (lt-leb r 4096 h)
+
+    pub ends-place : r ≤ 4096 → 65536 < p → false ≡ endsAt table pool r p
+    unfolding endsAt
+    ends-place h g = rw (le-leb r 4096 h, lt-leb p 65536 g)
+
+    module _ (h : r ≤ 4096) (g : p ≤ 65536) {u : Bool} (w : u ≡ allZero (take (length table - r * 16) (drop (r * 16) table))) where
+      words : allZero (drop (r * 16) table) ≡ u
+      words = sym (w ∙ ap allZero (part-all table (r * 16)))
+
+      pub ends-words : not u ≡ true → false ≡ endsAt table pool r p
+      unfolding endsAt
+      ends-words f = rw (le-leb r 4096 h, le-leb p 65536 g, words, not-true u f)
+
+      pub ends-bytes : not u ≡ false → {v : Bool} → v ≡ allZero (take (length pool - p) (drop p pool)) → v ≡ endsAt table pool r p
+      unfolding endsAt
+      ends-bytes f {v = v} b =
+          let bytes : allZero (drop p pool) ≡ v = sym (b ∙ ap allZero (part-all pool p)) in
+          rw (le-leb r 4096 h, le-leb p 65536 g, words, not-false u f, bytes)
+
+  -- a type that stands at the start is the one that is set out exactly if it ends there
+  module _ (t : Datatype) (r p : ℕ) (s : typeAt 32 table pool 0 0 ≡ found t r p) where
+    pub whole-given : endsAt table pool r p ≡ true → typeOf table pool ≡ gives t
+    unfolding typeOf wholeType endsAt
+    whole-given e = ap (wholeType table pool) s ∙ picks-first _ _ _ e
+
+    pub whole-refused : endsAt table pool r p ≡ false → typeOf table pool ≡ refuses BadTable
+    unfolding typeOf wholeType endsAt
+    whole-refused e = ap (wholeType table pool) s ∙ picks-second _ _ _ e
+
+  pub none-refused : typeAt 32 table pool 0 0 ≡ bad → typeOf table pool ≡ refuses BadTable
+  unfolding typeOf wholeType
+  none-refused e = rw e
+
+  -- ---- the check
+
+  refused : typeOf table pool ≡ refuses BadTable → Checks table pool Bad
+  refused h = record { good = λ s g. let z : _≡_ {A = ℕ} 0 1 = cc in absurd (omega arith); bad-table = λ g. h }
 
   module _ {y : Surveyed} (q : y ≡ surveyOf (typeAt 32 table pool 0 0)) where
     pub check-unsound : y ≡ Unsound → Checks table pool Bad
-    check-unsound e = refused refl (unfold typeOf wholeType in rw (untold _ q e))
+    check-unsound e = refused (none-refused (untold _ q e))
 
     module _ (s : Survey) (e : y ≡ Sound s) where
-      -- the limits and the zeros behind the type
-      within : Bool
-      within = leb (s .row) 4096 && (leb (s .place) 65536 && (allZero (drop (s .row * 16) table) && allZero (drop (s .place) pool)))
+      -- the type that the walk found
+      record Standing : Type 0 where
+        pub type : Datatype
+        pub stands : typeAt 32 table pool 0 0 ≡ found type (s .row) (s .place)
+        pub says : surveyOf (found type (s .row) (s .place)) ≡ Sound s
 
-      whole-refuses : (x : Found Datatype) → Told x s → within ≡ false → wholeType table pool x ≡ refuses BadTable
-      unfolding Told wholeType within
-      whole-refuses (found t r p) h f =
-          let fr : s .row ≡ r = ap (λ (v : Survey). v .row) (h .is) in
-          let fp : s .place ≡ p = ap (λ (v : Survey). v .place) (h .is) in
-          picks-second _ _ _ (rw (fr, fp) at f)
-      whole-refuses bad h f = absurd h
-
-      no-type : within ≡ false → Checks table pool Bad
-      unfolding typeOf
-      no-type f = refused refl (whole-refuses (typeAt 32 table pool 0 0) (told _ s q e) f)
-
-      pub check-rows : 4096 < s .row → Checks table pool Bad
-      check-rows h = no-type (unfold within in rw (lt-leb (s .row) 4096 h))
-
-      pub check-place : s .row ≤ 4096 → 65536 < s .place → Checks table pool Bad
-      check-place h g = no-type (unfold within in rw (le-leb (s .row) 4096 h, lt-leb (s .place) 65536 g))
-
-      module _ (h : s .row ≤ 4096) (g : s .place ≤ 65536) {u : Bool} (w : u ≡ allZero (take (length table - s .row * 16) (drop (s .row * 16) table))) where
-        words : allZero (drop (s .row * 16) table) ≡ u
-        words = sym (w ∙ ap allZero (part-all table (s .row * 16)))
-
-        pub check-words : not u ≡ true → Checks table pool Bad
-        check-words f = no-type (unfold within in rw (le-leb (s .row) 4096 h, le-leb (s .place) 65536 g, words, not-true u f))
-
-        module _ (i : not u ≡ false) {v : Bool} (b : v ≡ allZero (take (length pool - s .place) (drop (s .place) pool))) where
-          bytes : allZero (drop (s .place) pool) ≡ v
-          bytes = sym (b ∙ ap allZero (part-all pool (s .place)))
-
-          pub check-bytes : not v ≡ true → Checks table pool Bad
-          check-bytes f = no-type (unfold within in rw (le-leb (s .row) 4096 h, le-leb (s .place) 65536 g, words, not-false u i, bytes, not-true v f))
-
-          sets-out : (x : Found Datatype) → Told x s → within ≡ true → typeAt 32 table pool 0 0 ≡ x → Sets table pool s
-          unfolding Told wholeType within typeOf surveyOf
-          sets-out (found t r p) k f j =
+      standing : Standing
+      unfolding Told surveyOf
+      standing = go (typeAt 32 table pool 0 0) (told (typeAt 32 table pool 0 0) s q e) refl
+        where
+          go : (x : Found Datatype) → Told x s → typeAt 32 table pool 0 0 ≡ x → Standing
+          go (found t r p) k j =
               let fr : s .row ≡ r = ap (λ (v : Survey). v .row) (k .is) in
               let fp : s .place ≡ p = ap (λ (v : Survey). v .place) (k .is) in
-              record { type = t; is = ap (wholeType table pool) j ∙ picks-first _ _ _ (rw (fr, fp) at f); stands = rw (fr, fp) j; says = rw (k .is) }
-          sets-out bad k f j = absurd k
-
-          pub check-good : not v ≡ false → Checks table pool (Good s)
-          check-good f =
-              let m : within ≡ true = unfold within in rw (le-leb (s .row) 4096 h, le-leb (s .place) 65536 g, words, not-false u i, bytes, not-false v f) in
-              record { good = λ s′ d. let a : s ≡ s′ = cc in rw (← a) (sets-out _ (told _ s q e) m refl); bad-table = λ d. let z : _≡_ {A = ℕ} 0 1 = cc in absurd (omega arith) }
-
-      fits-in : ((i : ℕ) → getD pool i 0 < 256) → (x : Found Datatype) → Told x s → typeAt 32 table pool 0 0 ≡ x → (s .row * 16 ≤ length table) × (s .place ≤ length pool)
-      unfolding Told
-      fits-in b (found t r p) k j =
-          let fr : s .row ≡ r = ap (λ (v : Survey). v .row) (k .is) in
-          let fp : s .place ≡ p = ap (λ (v : Survey). v .place) (k .is) in
-          rw (fr, fp) (stands-fits t r p (stands-at t r p b j))
-      fits-in b bad k j = absurd k
+              record { type = t; stands = rw (fr, fp) j; says = rw (k .is) }
+          go bad k j = absurd k
 
       -- the rows and the pool bytes lie in the table and in the pool
       pub check-fits : ((i : ℕ) → getD pool i 0 < 256) → (s .row * 16 ≤ length table) × (s .place ≤ length pool)
-      check-fits b = fits-in b _ (told _ s q e) refl
+      check-fits b = stands-fits (standing .type) (s .row) (s .place) b (standing .stands)
+
+      module _ {u : Bool} (w : u ≡ endsAt table pool (s .row) (s .place)) where
+        pub check-bad : u ≡ false → Checks table pool Bad
+        check-bad f = refused (whole-refused (standing .type) (s .row) (s .place) (standing .stands) (sym w ∙ f))
+
+        pub check-good : u ≡ true → Checks table pool (Good s)
+        check-good f =
+            let x : Sets table pool s = record { type = standing .type; is = whole-given (standing .type) (s .row) (s .place) (standing .stands) (sym w ∙ f); stands = standing .stands; says = standing .says } in
+            record { good = λ s′ d. let a : s ≡ s′ = cc in rw (← a) x; bad-table = λ d. let z : _≡_ {A = ℕ} 0 1 = cc in absurd (omega arith) }

@@ -1,18 +1,20 @@
 -- What the walk over a table answers, as a function of the type that is found there; and the answers of the public calls.
-use Prim.Native.Nat.{ℕ, zero, suc}
+use Prim.Native.Nat.{ℕ, zero, suc, _*_}
 use mathlib.Core.Path.{_≡_}
-use mathlib.Core.Bool.{Bool, true, false, cond}
+use mathlib.Core.Bool.{Bool, true, false, cond, _&&_}
 use mathlib.Core.List.{List, [], _∷_}
 use mathlib.Core.Option.{Option, none, some}
-use lib.Dec.{eqb}
+use lib.ListN.{drop}
+use lib.Dec.{eqb, leb}
 use Rattle.refusal.specs.Refusal.{numberOf, valuesOf}
 use Rattle.refusal.specs.declared.Refusal.the-variants.{BadTable}
+use Rattle.format.specs.Bytes.{allZero}
 use Rattle.format.specs.Datatype.{Datatype, Members, EnumMember, typeSize}
 use Rattle.format.specs.Outcome.{Outcome, gives, refuses, outcomeNumber, outcomeValues}
 use Rattle.format.specs.Ownership.{outside, memberOutside, heapHeld, memberHeapHeld}
 use Rattle.format.specs.Sizes.{holdsObjectAddress, memberHoldsObjectAddress, holdsFileAddress, memberHoldsFileAddress}
 use Rattle.format.specs.Slots.{firstZero, memberFirstZero, orElse, zeroClass}
-use Rattle.format.specs.Table.{Found, found, bad, andThen, typeAt, typeOf, enumNamesAt, enumValuesAt}
+use Rattle.format.specs.Table.{Found, found, bad, andThen, typeAt, typeOf, maxRows, maxPool, enumNamesAt, enumValuesAt}
 use Rattle.table.specs.declared.Survey.{Survey}
 use Rattle.table.specs.declared.Surveyed.{Surveyed}
 use Rattle.table.specs.declared.Surveyed.the-variants.{Sound, Unsound}
@@ -55,6 +57,10 @@ spotOf bad = Lost
 
 unfoldable pub enumSpotOf : (table pool : List ℕ) (count row place : ℕ) → Walked
 enumSpotOf table pool k r p = spotOf (andThen (enumNamesAt table pool k r p) (enumValuesAt pool))
+
+-- a type of r rows and p pool bytes keeps the limits, and all behind it is zero: the test of `wholeType`
+unfoldable pub endsAt : (table pool : List ℕ) (r p : ℕ) → Bool
+endsAt table pool r p = leb r maxRows && (leb p maxPool && (allZero (drop (r * 16) table) && allZero (drop p pool)))
 
 -- the check: the type that the table and pool set out, and what a walk over it finds
 pub record Sets (table pool : List ℕ) (s : Survey) : Type 0 where

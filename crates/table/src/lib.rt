@@ -18,7 +18,7 @@ ghost use Rattle.format.specs.Bytes.{dimensionsFrom};
 ghost use Rattle.format.specs.Datatype.{product};
 ghost use Rattle.format.specs.Sizes.{sizing, elementSizing, classMayHoldObjectAddress, objectAddressHeld, fileAddressHeld};
 ghost use Rattle.format.specs.Table.{typeAt, membersAt};
-ghost use Rattle.table.specs.Survey.{surveyOf, surveyIn, enumSpotOf, Checks, firstOf, zeroNote, SizedAs, HeldAs};
+ghost use Rattle.table.specs.Survey.{surveyOf, surveyIn, enumSpotOf, endsAt, Checks, firstOf, zeroNote, SizedAs, HeldAs};
 ghost use Rattle.table.specs.Names.{nameOf, namePlace, further, PartIs};
 ghost use denote.Ref.{ptr};
 
@@ -338,6 +338,24 @@ fn survey_members(
     })
 }
 
+// Whether a type whose rows end before a row and whose pool bytes end before a place is all of a table and pool: it keeps the limits, and
+// every word and byte behind it is zero.
+pub fn ends_at(table: &[u32], pool: &[u8], row: usize, place: usize) -> bool
+    requires { ⌜ (row * 16 ≤ length (now table)) × (place ≤ length (now pool)) ⌝ }
+    ensures { λ r. ⌜ r ≡ endsAt (now (table .entry)) (now (pool .entry)) row place ⌝ }
+{
+    if row > 4096 {
+        return false;
+    }
+    if place > 65536 {
+        return false;
+    }
+    if !clear_words(table, row * 16, table.len()) {
+        return false;
+    }
+    clear_bytes(pool, place, pool.len())
+}
+
 // Whether a table and pool set out exactly one type, and what a walk over it finds: row and place are its numbers of rows and pool bytes.
 pub fn check(table: &[u32], pool: &[u8]) -> Checked
     ensures { λ r. ⌜ Checks (now (table .entry)) (now (pool .entry)) r ⌝ }
@@ -346,21 +364,10 @@ pub fn check(table: &[u32], pool: &[u8]) -> Checked
     match got {
         Surveyed::Unsound => Checked::Bad,
         Surveyed::Sound(s) => {
-            if s.row > 4096 {
-                return Checked::Bad;
+            if ends_at(table, pool, s.row, s.place) {
+                return Checked::Good(s);
             }
-            if s.place > 65536 {
-                return Checked::Bad;
-            }
-            let row = s.row;
-            let place = s.place;
-            if !clear_words(table, row * 16, table.len()) {
-                return Checked::Bad;
-            }
-            if !clear_bytes(pool, place, pool.len()) {
-                return Checked::Bad;
-            }
-            Checked::Good(s)
+            Checked::Bad
         }
     }
 }

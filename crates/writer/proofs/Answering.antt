@@ -2,38 +2,37 @@
 use Prim.Native.Nat.{ℕ, zero, suc, _+_, _*_, _<_, _≤_, min}
 use mathlib.Core.Path.{_≡_, refl, sym, ap, _∙_}
 use mathlib.Core.Logic.{inl, inr}
-use mathlib.Core.Bool.{Bool, true, false, cond, not, _&&_}
+use mathlib.Core.Bool.{Bool, true, false, not}
 use mathlib.Core.List.{List, [], _∷_, _++_}
 use native.Mathlib.Omega.{arith}
 use native.Mathlib.Nat.{min-eq-left, zero-add}
 use lib.ListN.{length, getD, drop}
 use lib.Seq.{sets, sets-eq}
-use lib.Dec.{leb}
+use borrow.Author.Tests.{not-true, not-false}
 use Rattle.refusal.specs.declared.Refusal.{Refusal}
 use Rattle.refusal.specs.declared.Refusal.the-variants.{BadTable, NoSuchEdition, Unstorable, NotInEdition, NoRoom}
-use Rattle.format.specs.Bytes.{allZero}
 use Rattle.format.specs.Datatype.{Datatype}
-use Rattle.format.specs.Message.{message, messageLength, storable, carried, writing, writingType}
+use Rattle.format.specs.Message.{message, messageLength, storable, carried, writing}
 use Rattle.format.specs.Outcome.{Outcome, gives, refuses, outputAfter, needed, outcomeNumber, outcomeValues}
-use Rattle.format.specs.Table.{WithinLimits, SetsOut, Found, found, bad, typeAt, wholeType, typeOf}
+use Rattle.format.specs.Table.{WithinLimits, SetsOut, Found, found, bad, typeAt, typeOf}
 use Rattle.format.proofs.Table.{typeOf-sound}
-use Rattle.format.proofs.Written.{length-message, writingType-unstorable, writingType-not-in-edition, writingType-no-room, writingType-given, writing-bad-table, writing-found, writing-no-edition}
-use Rattle.table.specs.Survey.{Sets, Checks}
+use Rattle.format.proofs.Written.{length-message, writing-bad-table, writing-no-edition, writing-unstorable, writing-not-in-edition, writing-no-room, writing-given}
+use Rattle.table.specs.Survey.{endsAt, Sets, Checks}
 use Rattle.table.specs.declared.Survey.{Survey}
 use Rattle.table.specs.declared.Checked.{Checked}
 use Rattle.table.specs.declared.Checked.the-variants.{Good, Bad}
-use Rattle.table.proofs.Checking.{all-bytes}
-use Rattle.measure.specs.Measure.{measureOf}
+use Rattle.table.proofs.Checking.{all-bytes, stands-fits, whole-given, whole-refused, none-refused}
+use Rattle.measure.specs.Measure.{measureOf, mostLength}
 use Rattle.measure.specs.declared.Measure.{Measure}
 use Rattle.measure.specs.declared.Measured.{Measured}
 use Rattle.measure.specs.declared.Measured.the-variants.{At as MeasuredAt, Lost as MeasuredLost}
 use Rattle.measure.proofs.Bounds.{message-below, length-exact}
-use Rattle.measure.proofs.Measures.{Says, Told, told, untold}
+use Rattle.measure.proofs.Measures.{Told, told, untold}
 use Rattle.writer_parts.specs.Places.{Stands}
 use Rattle.writer_parts.specs.declared.Put.{Put}
 use Rattle.writer_parts.specs.declared.Put.the-variants.{At, Lost}
 use Rattle.writer_parts.specs.declared.Written.{Written}
-use Rattle.writer.specs.Writes.{PutsType, writingNumber, writingValues, answerOf, Answers, WritesType}
+use Rattle.writer.specs.Writes.{PutsType, writingNumber, writingValues, answerOf, Answers, Writes}
 use Rattle.writer.specs.declared.Writing.{Writing}
 use Rattle.writer.specs.declared.Writing.the-variants.{Written as AnswerWritten, Refused as AnswerRefused}
 use Rattle.writer.proofs.Compounds.{found-puts}
@@ -64,131 +63,109 @@ module _ {o : Outcome (List ℕ)} {out : List ℕ} where
 at-start : (s out : List ℕ) → 0 + length s ≤ length out → sets out 0 s ≡ s ++ drop (length s) out
 at-start s out h = sets-eq s out 0 h ∙ rw (zero-add (length s))
 
--- ---- the type that a table and pool set out is found by the walk
-
-record FoundAs (y : Found Datatype) (t : Datatype) : Type 0 where
-  pub row : ℕ
-  pub place : ℕ
-  pub is : y ≡ found t row place
-
-gives-is : {t u : Datatype} → _≡_ {A = Outcome Datatype} (gives t) (gives u) → t ≡ u
-gives-is h = cc
-
-no-gives : {t : Datatype} {e : Refusal} → refuses e ≡ gives t → ⊥
-no-gives h = let z : _≡_ {A = ℕ} 0 1 = cc in omega arith
-
-whole-found : (table pool : List ℕ) (t : Datatype) (y : Found Datatype) → wholeType table pool y ≡ gives t → FoundAs y t
-unfolding wholeType
-whole-found table pool t (found u r p) h = go (leb r 4096 && (leb p 65536 && (allZero (drop (r * 16) table) && allZero (drop p pool)))) h
-  where
-    go : (b : Bool) → cond b (gives u) (refuses BadTable) ≡ gives t → FoundAs (found u r p) t
-    go true e = record { row = r; place = p; is = ap (λ (v : Datatype). found v r p) (gives-is e) }
-    go false e = absurd (no-gives e)
-whole-found table pool t bad h = absurd (no-gives h)
-
-type-found : (table pool : List ℕ) (t : Datatype) → typeOf table pool ≡ gives t → FoundAs (typeAt 32 table pool 0 0) t
-unfolding typeOf
-type-found table pool t h = whole-found table pool t (typeAt 32 table pool 0 0) h
-
-no-found : {t : Datatype} {r p : ℕ} → bad ≡ found t r p → ⊥
-no-found h = let z : _≡_ {A = ℕ} 0 1 = cc in omega arith
-
 no-at : {w : Written} → Lost ≡ At w → ⊥
 no-at h = let z : _≡_ {A = ℕ} 0 1 = cc in omega arith
 
-not-true : {b : Bool} → not b ≡ true → b ≡ false
-not-true {b = true} h = let z : true ≡ false = sym h in z
-not-true {b = false} h = refl
-
-not-false : {b : Bool} → not b ≡ false → b ≡ true
-not-false {b = true} h = refl
-not-false {b = false} h = sym h
-
 -- ---- a type that is measured
 
-module _ (table pool : List ℕ) (e : ℕ) (out : List ℕ) {y : Measured} (q : y ≡ measureOf e (typeAt 32 table pool 0 0)) where
-  pub checked-lost : {out′ : List ℕ} {r : Writing} → y ≡ MeasuredLost → WritesType table pool e r out out′
-  checked-lost l = record { writes = λ t h. let f = type-found table pool t h in absurd (no-found (sym (untold e (typeAt 32 table pool 0 0) q l) ∙ f .is)) }
+module _ (table pool : List ℕ) (e : ℕ) {y : Measured} (q : y ≡ measureOf e (typeAt 32 table pool 0 0)) where
+  pub write-lost : (out : List ℕ) → y ≡ MeasuredLost → Writes table pool e (AnswerRefused BadTable) out out
+  write-lost out l = refused (writing-bad-table table pool e (length out) (none-refused table pool (untold e (typeAt 32 table pool 0 0) q l)))
 
   module _ {m : Measure} (i : y ≡ MeasuredAt m) where
-    said : (t : Datatype) (h : typeOf table pool ≡ gives t) → Says e m t (type-found table pool t h .row) (type-found table pool t h .place)
+    -- the type that the walk found
+    record Measuring : Type 0 where
+      pub type : Datatype
+      pub stands : typeAt 32 table pool 0 0 ≡ found type (m .row) (m .place)
+      pub storable-is : m .storable ≡ storable type
+      pub carried-is : m .carried ≡ carried e type
+      pub length-is : m .length ≡ mostLength (messageLength e type)
+
+    measuring : Measuring
     unfolding Told
-    said t h = rw (type-found table pool t h .is) at (told e (typeAt 32 table pool 0 0) m q i)
-
-    module _ (lo : 1 ≤ e) (hi : e ≤ 3) where
-      pub checked-unstorable : not (m .storable) ≡ true → WritesType table pool e (AnswerRefused Unstorable) out out
-      checked-unstorable s =
-          record {
-            writes = λ t h.
-                let f : m .storable ≡ storable t = ap (λ (x : Measure). x .storable) (said t h .is) in
-                refused (writingType-unstorable e (length out) t lo hi (sym f ∙ not-true s));
-          }
-
-      module _ (s : not (m .storable) ≡ false) where
-        is-storable : (t : Datatype) → typeOf table pool ≡ gives t → storable t ≡ true
-        is-storable t h = let f : m .storable ≡ storable t = ap (λ (x : Measure). x .storable) (said t h .is) in sym f ∙ not-false s
-
-        pub checked-not-carried : not (m .carried) ≡ true → WritesType table pool e (AnswerRefused NotInEdition) out out
-        checked-not-carried c =
+    measuring = go (typeAt 32 table pool 0 0) (told e (typeAt 32 table pool 0 0) m q i) refl
+      where
+        go : (x : Found Datatype) → Told e x m → typeAt 32 table pool 0 0 ≡ x → Measuring
+        go (found t r p) k j =
+            let fr : m .row ≡ r = ap (λ (v : Measure). v .row) (k .is) in
+            let fp : m .place ≡ p = ap (λ (v : Measure). v .place) (k .is) in
             record {
-              writes = λ t h.
-                  let f : m .carried ≡ carried e t = ap (λ (x : Measure). x .carried) (said t h .is) in
-                  refused (writingType-not-in-edition e (length out) t lo hi (is-storable t h) (sym f ∙ not-true c));
+              type = t;
+              stands = rw (fr, fp) j;
+              storable-is = ap (λ (v : Measure). v .storable) (k .is);
+              carried-is = ap (λ (v : Measure). v .carried) (k .is);
+              length-is = ap (λ (v : Measure). v .length) (k .is);
             }
+        go bad k j = absurd k
 
-        module _ (c : not (m .carried) ≡ false) (small : (i : ℕ) → getD pool i 0 < 256) where
-          is-carried : (t : Datatype) → typeOf table pool ≡ gives t → carried e t ≡ true
-          is-carried t h = let f : m .carried ≡ carried e t = ap (λ (x : Measure). x .carried) (said t h .is) in sym f ∙ not-false c
+    abbrev t : Datatype
+    t = measuring .type
 
-          within : (t : Datatype) → typeOf table pool ≡ gives t → WithinLimits t
-          within t h = typeOf-sound table pool t (all-bytes pool small) h .within
+    -- its rows and pool bytes lie in the table and in the pool
+    pub write-fits : ((i : ℕ) → getD pool i 0 < 256) → (m .row * 16 ≤ length table) × (m .place ≤ length pool)
+    write-fits small = stands-fits table pool t (m .row) (m .place) small (measuring .stands)
 
-          exact : (t : Datatype) → typeOf table pool ≡ gives t → m .length ≡ messageLength e t
-          exact t h = ap (λ (x : Measure). x .length) (said t h .is) ∙ length-exact e t (within t h)
+    module _ (out : List ℕ) {u : Bool} (w : u ≡ endsAt table pool (m .row) (m .place)) where
+      pub write-behind : not u ≡ true → Writes table pool e (AnswerRefused BadTable) out out
+      write-behind n = refused (writing-bad-table table pool e (length out) (whole-refused table pool t (m .row) (m .place) (measuring .stands) (sym w ∙ not-true u n)))
 
-          needs-all : (t : Datatype) → typeOf table pool ≡ gives t → needed (messageLength e t) ≡ m .length
-          unfolding needed
-          needs-all t h = let w = within t h in min-eq-left (omega (arith, message-below e t, w .rows-fit, w .pool-fits)) ∙ sym (exact t h)
+      module _ (n : not u ≡ false) (lo : 1 ≤ e) (hi : e ≤ 3) where
+        is : typeOf table pool ≡ gives t
+        is = whole-given table pool t (m .row) (m .place) (measuring .stands) (sym w ∙ not-false u n)
 
-          pub checked-no-room : length out < m .length → WritesType table pool e (AnswerRefused (NoRoom (m .length))) out out
-          checked-no-room l =
-              record {
-                writes = λ t h.
-                    refused (writingType-no-room e (length out) t lo hi (is-storable t h) (is-carried t h) (omega (arith, exact t h)) ∙ ap (λ (n : ℕ). refuses (NoRoom n)) (needs-all t h));
-              }
+        pub write-unstorable : not (m .storable) ≡ true → Writes table pool e (AnswerRefused Unstorable) out out
+        write-unstorable s =
+            refused (writing-unstorable table pool e (length out) t is lo hi (sym (measuring .storable-is) ∙ not-true (m .storable) s))
 
-          module _ (l : m .length ≤ length out) {z : Put} {out′ : List ℕ} (k : PutsType e 0 (typeAt 32 table pool 0 0) z out out′) where
-            stood : (t : Datatype) (h : typeOf table pool ≡ gives t) → Stands (message e t) (type-found table pool t h .row) (type-found table pool t h .place) 0 z out out′
-            stood t h =
-                let j : PutsType e 0 (found t (type-found table pool t h .row) (type-found table pool t h .place)) z out out′ = rw (type-found table pool t h .is) at k in
-                found-puts j (is-storable t h) (is-carried t h)
+        module _ (s : not (m .storable) ≡ false) where
+          is-storable : storable t ≡ true
+          is-storable = sym (measuring .storable-is) ∙ not-false (m .storable) s
 
-            fits : (t : Datatype) → typeOf table pool ≡ gives t → 0 + length (message e t) ≤ length out
-            fits t h = omega (arith, length-message e t, exact t h)
+          pub write-not-carried : not (m .carried) ≡ true → Writes table pool e (AnswerRefused NotInEdition) out out
+          write-not-carried c =
+              refused (writing-not-in-edition table pool e (length out) t is lo hi is-storable (sym (measuring .carried-is) ∙ not-true (m .carried) c))
 
-            pub checked-unput : {r : Writing} → z ≡ Lost → WritesType table pool e r out out′
-            checked-unput f = record { writes = λ t h. absurd (no-at (sym f ∙ stood t h .answer (fits t h))) }
+          module _ (c : not (m .carried) ≡ false) (small : (i : ℕ) → getD pool i 0 < 256) where
+            is-carried : carried e t ≡ true
+            is-carried = sym (measuring .carried-is) ∙ not-false (m .carried) c
 
-            pub checked-written : {w : Written} → z ≡ At w → WritesType table pool e (AnswerWritten (m .length)) out out′
-            checked-written f =
-                record {
-                  writes = λ t h.
-                      given (writingType-given e (length out) t lo hi (is-storable t h) (is-carried t h) (omega (arith, exact t h))) (exact t h ∙ sym (length-message e t))
-                      (stood t h .written (fits t h) ∙ at-start (message e t) out (fits t h));
-                }
+            within : WithinLimits t
+            within = typeOf-sound table pool t (all-bytes pool small) is .within
 
--- ---- a table that is checked
+            exact : m .length ≡ messageLength e t
+            exact = measuring .length-is ∙ length-exact e t within
+
+            needs-all : needed (messageLength e t) ≡ m .length
+            unfolding needed
+            needs-all = min-eq-left (omega (arith, message-below e t, within .rows-fit, within .pool-fits)) ∙ sym exact
+
+            pub write-no-room : length out < m .length → Writes table pool e (AnswerRefused (NoRoom (m .length))) out out
+            write-no-room l = refused (writing-no-room table pool e (length out) t is lo hi is-storable is-carried (omega (arith, exact)) ∙ ap (λ (n : ℕ). refuses (NoRoom n)) needs-all)
+
+            module _ (l : m .length ≤ length out) {z : Put} {out′ : List ℕ} (k : PutsType e 0 (typeAt 32 table pool 0 0) z out out′) where
+              stood : Stands (message e t) (m .row) (m .place) 0 z out out′
+              stood = let j : PutsType e 0 (found t (m .row) (m .place)) z out out′ = rw (measuring .stands) at k in found-puts j is-storable is-carried
+
+              fits : 0 + length (message e t) ≤ length out
+              fits = omega (arith, length-message e t, exact)
+
+              pub write-unput : {r : Writing} → z ≡ Lost → Writes table pool e r out out′
+              write-unput f = absurd (no-at (sym f ∙ stood .answer fits))
+
+              pub write-written : {v : Written} → z ≡ At v → Writes table pool e (AnswerWritten (m .length)) out out′
+              write-written f =
+                  given (writing-given table pool e (length out) t is lo hi is-storable is-carried (omega (arith, exact))) (exact ∙ sym (length-message e t))
+                  (stood .written fits ∙ at-start (message e t) out fits)
+
+-- ---- an edition that there is not
 
 module _ (table pool : List ℕ) (e : ℕ) (out : List ℕ) {x : Checked} (k : Checks table pool x) where
-  pub write-bad : x ≡ Bad → Answers (writing table pool e (length out)) (AnswerRefused BadTable) out out
+  pub write-bad : x ≡ Bad → Writes table pool e (AnswerRefused BadTable) out out
   write-bad b = refused (writing-bad-table table pool e (length out) (k .bad-table b))
 
   module _ {s : Survey} (g : x ≡ Good s) where
-    pub write-none : e < 1 → Answers (writing table pool e (length out)) (AnswerRefused NoSuchEdition) out out
+    pub write-none : e < 1 → Writes table pool e (AnswerRefused NoSuchEdition) out out
     write-none l = let w = k .good s g in refused (writing-no-edition table pool e (length out) (w .type) (w .is) (inl l))
 
-    pub write-past : 4 ≤ e → Answers (writing table pool e (length out)) (AnswerRefused NoSuchEdition) out out
+    pub write-past : 4 ≤ e → Writes table pool e (AnswerRefused NoSuchEdition) out out
     write-past l = let w = k .good s g in refused (writing-no-edition table pool e (length out) (w .type) (w .is) (inr (omega arith)))
-
-    pub write-good : {r : Writing} {out′ : List ℕ} → WritesType table pool e r out out′ → Answers (writing table pool e (length out)) r out out′
-    write-good j = let w = k .good s g in rw (writing-found table pool e (length out) (w .type) (w .is)) (j .writes (w .type) (w .is))

@@ -6,9 +6,9 @@ use mathlib.Core.List.{List, [], _∷_, _++_}
 use lib.ListN.{length}
 use Rattle.refusal.specs.Refusal.{numberOf, valuesOf}
 use Rattle.format.specs.Datatype.{Datatype, Members, typeSize}
-use Rattle.format.specs.Message.{message, memberBytes, storable, storableMembers, carried, carriedMembers, writing, writingType}
+use Rattle.format.specs.Message.{message, memberBytes, storable, storableMembers, carried, carriedMembers, writing}
 use Rattle.format.specs.Outcome.{Outcome, gives, refuses, outputAfter, outcomeNumber, outcomeValues}
-use Rattle.format.specs.Table.{Found, found, bad, typeOf}
+use Rattle.format.specs.Table.{Found, found, bad}
 use Rattle.writer_parts.specs.Places.{Stands}
 use Rattle.writer_parts.specs.declared.Put.{Put}
 use Rattle.writer.specs.declared.Writing.{Writing}
@@ -54,10 +54,6 @@ pub record Answers (o : Outcome (List ℕ)) (r : Writing) (out out′ : List ℕ
   pub number : writingNumber r ≡ outcomeNumber o
   pub values : writingValues r ≡ outcomeValues length o
   pub out-is : out′ ≡ outputAfter out o
-
--- of a type that the check admits, in an edition that exists
-pub record WritesType (table pool : List ℕ) (e : ℕ) (r : Writing) (out out′ : List ℕ) : Type 0 where
-  pub writes : (t : Datatype) → typeOf table pool ≡ gives t → Answers (writingType e (length out) t) r out out′
 
 -- `write`: "Success writes the result and nothing past it", a refusal leaves `out` as it was
 abbrev pub Writes : (table pool : List ℕ) (edition : ℕ) → Writing → (out out′ : List ℕ) → Type 0

@@ -9,6 +9,7 @@ use rows::member_at;
 use table::Checked;
 use table::Surveyed;
 use table::check;
+use table::ends_at;
 use table::survey_type;
 use writer_parts::Placed;
 use writer_parts::Put;
@@ -23,7 +24,7 @@ ghost use mathlib.Core.Path.{_≡_};
 ghost use Prim.Native.Nat.{_+_, _*_, _-_, _≤_, _<_};
 ghost use lib.ListN.{length};
 ghost use Rattle.format.specs.Table.{typeAt, membersAt};
-ghost use Rattle.writer.specs.Writes.{PutsType, PutsMembers, sizeIn, WritesType, Writes};
+ghost use Rattle.writer.specs.Writes.{PutsType, PutsMembers, sizeIn, Writes};
 
 // The answer of `write`: the length of the message, or why it is refused.
 pub enum Writing {
@@ -198,31 +199,35 @@ fn put_type(
 }
 
 // Writes the message of the type that a table and pool set out, in an edition, to the start of `out`. Refused, in this order: BadTable,
-// NoSuchEdition, Unstorable, NotInEdition, NoRoom. Costs three passes over the rows, and one more for each array that holds a row.
+// NoSuchEdition, Unstorable, NotInEdition, NoRoom. Costs two passes over the rows, and one more for each array that holds a row; what is
+// behind the type in table and pool is looked at once.
 pub fn write(table: &[u32], pool: &[u8], edition: u32, out: &mut [u8]) -> Writing
     ensures { λ r. ⌜ Writes (now (table .entry)) (now (pool .entry)) edition r (now (out .entry)) (now (out .exit)) ⌝ }
 {
-    let checked = check(table, pool);
-    match checked {
-        Checked::Bad => Writing::Refused(Refusal::BadTable),
-        Checked::Good(_) => {
-            match edition {
-                1..=3 => write_checked(table, pool, edition as u8, out),
-                _ => Writing::Refused(Refusal::NoSuchEdition),
+    match edition {
+        1..=3 => write_edition(table, pool, edition as u8, out),
+        _ => {
+            let checked = check(table, pool);
+            match checked {
+                Checked::Bad => Writing::Refused(Refusal::BadTable),
+                Checked::Good(_) => Writing::Refused(Refusal::NoSuchEdition),
             }
         }
     }
 }
 
-// The same, of a table that the check admits, in an edition that exists.
-fn write_checked(table: &[u32], pool: &[u8], edition: u8, out: &mut [u8]) -> Writing
+// The same, in an edition that exists. Measuring finds no type exactly where the check does.
+fn write_edition(table: &[u32], pool: &[u8], edition: u8, out: &mut [u8]) -> Writing
     requires { ⌜ (1 ≤ edition) × (edition ≤ 3) ⌝ }
-    ensures { λ r. ⌜ WritesType (now (table .entry)) (now (pool .entry)) edition r (now (out .entry)) (now (out .exit)) ⌝ }
+    ensures { λ r. ⌜ Writes (now (table .entry)) (now (pool .entry)) edition r (now (out .entry)) (now (out .exit)) ⌝ }
 {
     let measured = measure_type(table, pool, 0, 0, 32, edition);
     match measured {
         Measured::Lost => Writing::Refused(Refusal::BadTable),
         Measured::At(m) => {
+            if !ends_at(table, pool, m.row, m.place) {
+                return Writing::Refused(Refusal::BadTable);
+            }
             if !m.storable {
                 return Writing::Refused(Refusal::Unstorable);
             }

@@ -63,333 +63,251 @@ put-members-calls t = (member-at-reads.Asked, member-at-reads.Learnt, put-member
 abbrev put-type-calls : ℕ → put-type-lts.Claims
 put-type-calls t = (entry-at-reads.Asked, entry-at-reads.Learnt, put-leaf-reads.Asked, put-leaf-reads.Learnt, put-group-header-reads.Asked, put-group-header-reads.Learnt, put-members-below t, put-members.Post, put-type-below t, put-type.Post, put-enum-members-reads.Asked, put-enum-members-reads.Learnt, put-variable-header-reads.Asked, put-variable-header-reads.Learnt, size-at-reads.Asked, size-at-reads.Learnt, put-array-head-reads.Asked, put-array-head-reads.Learnt)
 
--- src/lib.rt:61:5
 put-members-loop-holds : (t : ℕ) → put-members-lts.Need-loop-holds (put-members-calls t) (put-members-at t) put-members.Post put-members-Inv-loop put-members-μ-loop
 put-members-loop-holds t c = search members-begun
 
--- src/lib.rt:62:13
 put-members-member-at-requires : (t : ℕ) → put-members-lts.Need-member-at-requires (put-members-calls t) (put-members-at t) put-members.Post put-members-Inv-loop put-members-μ-loop
 put-members-member-at-requires t c κs = search needs
 
--- src/lib.rt:65:17
 put-members-enum-told : (t : ℕ) → put-members-lts.Need-enum-told (put-members-calls t) (put-members-at t) put-members.Post put-members-Inv-loop put-members-μ-loop
 put-members-enum-told t c = search needs
 
--- src/lib.rt:65:17
 put-members-same-length : (t : ℕ) → put-members-lts.Need-same-length (put-members-calls t) (put-members-at t) put-members.Post put-members-Inv-loop put-members-μ-loop
 put-members-same-length t c = search needs
 
--- src/lib.rt:65:17
 put-members-returns : (t : ℕ) → put-members-lts.Need-returns (put-members-calls t) (put-members-at t) put-members.Post put-members-Inv-loop put-members-μ-loop
 put-members-returns t c = search members-unnamed
 
--- src/lib.rt:67:27
 put-members-enum-known-member : (t : ℕ) → put-members-lts.Need-enum-known-member (put-members-calls t) (put-members-at t) put-members.Post put-members-Inv-loop put-members-μ-loop
 put-members-enum-known-member t c = search needs
 
--- src/lib.rt:68:21
 put-members-put-member-head-requires : (t : ℕ) → put-members-lts.Need-put-member-head-requires (put-members-calls t) (put-members-at t) put-members.Post put-members-Inv-loop put-members-μ-loop
 put-members-put-member-head-requires t c κs = search needs
 
--- src/lib.rt:71:25
 put-members-enum-told-2 : (t : ℕ) → put-members-lts.Need-enum-told-2 (put-members-calls t) (put-members-at t) put-members.Post put-members-Inv-loop put-members-μ-loop
 put-members-enum-told-2 t c = search needs
 
--- src/lib.rt:71:25
 put-members-same-length-2 : (t : ℕ) → put-members-lts.Need-same-length-2 (put-members-calls t) (put-members-at t) put-members.Post put-members-Inv-loop put-members-μ-loop
 put-members-same-length-2 t c = search needs
 
--- src/lib.rt:71:25
 put-members-returns-2 : (t : ℕ) → put-members-lts.Need-returns-2 (put-members-calls t) (put-members-at t) put-members.Post put-members-Inv-loop put-members-μ-loop
 put-members-returns-2 t c = search members-full
 
--- src/lib.rt:73:36
 put-members-enum-known-headed : (t : ℕ) → put-members-lts.Need-enum-known-headed (put-members-calls t) (put-members-at t) put-members.Post put-members-Inv-loop put-members-μ-loop
 put-members-enum-known-headed t c = search needs
 
--- src/lib.rt:74:40
 put-members-cast-from : (t : ℕ) → put-members-lts.Need-cast-from (put-members-calls t) (put-members-at t) put-members.Post put-members-Inv-loop put-members-μ-loop
 put-members-cast-from t c = search needs
 
--- src/lib.rt:74:36
 put-members-add-from : (t : ℕ) → put-members-lts.Need-add-from (put-members-calls t) (put-members-at t) put-members.Post put-members-Inv-loop put-members-μ-loop
 put-members-add-from t c = omega (arith, named-inside _ _ _ _ ((c .before .before .before .before .before .before .before .before .member) .given .1) ((c .before .before .before .before .before .before .before .before .before .before .member-at) .ensures .1))
 
--- src/lib.rt:75:57
 put-members-add-put-type : (t : ℕ) → put-members-lts.Need-add-put-type (put-members-calls t) (put-members-at t) put-members.Post put-members-Inv-loop put-members-μ-loop
 put-members-add-put-type t c = omega (arith, named-inside _ _ _ _ ((c .before .before .before .before .before .before .before .before .member) .given .1) ((c .before .before .before .before .before .before .before .before .before .before .member-at) .ensures .1))
 
--- src/lib.rt:75:29
 put-members-put-type-requires : (t : ℕ) → put-members-lts.Need-put-type-requires (put-members-calls t) (put-members-at t) put-members.Post put-members-Inv-loop put-members-μ-loop
 put-members-put-type-requires t c κs = search needs
 
--- src/lib.rt:78:33
 put-members-enum-told-3 : (t : ℕ) → put-members-lts.Need-enum-told-3 (put-members-calls t) (put-members-at t) put-members.Post put-members-Inv-loop put-members-μ-loop
 put-members-enum-told-3 t c = search needs
 
--- src/lib.rt:78:33
 put-members-same-length-3 : (t : ℕ) → put-members-lts.Need-same-length-3 (put-members-calls t) (put-members-at t) put-members.Post put-members-Inv-loop put-members-μ-loop
 put-members-same-length-3 t c = search needs
 
--- src/lib.rt:78:33
 put-members-returns-3 : (t : ℕ) → put-members-lts.Need-returns-3 (put-members-calls t) (put-members-at t) put-members.Post put-members-Inv-loop put-members-μ-loop
 put-members-returns-3 t c = search members-lost
 
--- src/lib.rt:80:37
 put-members-enum-known-put : (t : ℕ) → put-members-lts.Need-enum-known-put (put-members-calls t) (put-members-at t) put-members.Post put-members-Inv-loop put-members-μ-loop
 put-members-enum-known-put t c = search needs
 
--- src/lib.rt:84:33
 put-members-sub-left : (t : ℕ) → put-members-lts.Need-sub-left (put-members-calls t) (put-members-at t) put-members.Post put-members-Inv-loop put-members-μ-loop
 put-members-sub-left t c = search needs
 
--- src/lib.rt:61:5
 put-members-loop-less : (t : ℕ) → put-members-lts.Need-loop-less (put-members-calls t) (put-members-at t) put-members.Post put-members-Inv-loop put-members-μ-loop
 put-members-loop-less t c = search needs
 
--- src/lib.rt:61:5
 put-members-loop-again : (t : ℕ) → put-members-lts.Need-loop-again (put-members-calls t) (put-members-at t) put-members.Post put-members-Inv-loop put-members-μ-loop
 put-members-loop-again t c = search members-next
 
--- src/lib.rt:42:1
 put-members-same-length-4 : (t : ℕ) → put-members-lts.Need-same-length-4 (put-members-calls t) (put-members-at t) put-members.Post put-members-Inv-loop put-members-μ-loop
 put-members-same-length-4 t c = search needs
 
--- src/lib.rt:42:1
 put-members-returns-4 : (t : ℕ) → put-members-lts.Need-returns-4 (put-members-calls t) (put-members-at t) put-members.Post put-members-Inv-loop put-members-μ-loop
 put-members-returns-4 t c = search members-ended
 
--- src/lib.rt:115:9
 put-type-returns : (t : ℕ) → put-type-lts.Need-returns (put-type-calls t) (put-type-at t) put-type.Post
 put-type-returns t c = search type-shallow
 
--- src/lib.rt:117:17
 put-type-sub-inner : (t : ℕ) → put-type-lts.Need-sub-inner (put-type-calls t) (put-type-at t) put-type.Post
 put-type-sub-inner t c = search needs
 
--- src/lib.rt:118:9
 put-type-entry-at-requires : (t : ℕ) → put-type-lts.Need-entry-at-requires (put-type-calls t) (put-type-at t) put-type.Post
 put-type-entry-at-requires t c κs = search needs
 
--- src/lib.rt:120:27
 put-type-enum-told : (t : ℕ) → put-type-lts.Need-enum-told (put-type-calls t) (put-type-at t) put-type.Post
 put-type-enum-told t c = search needs
 
--- src/lib.rt:121:21
 put-type-enum-known-entry : (t : ℕ) → put-type-lts.Need-enum-known-entry (put-type-calls t) (put-type-at t) put-type.Post
 put-type-enum-known-entry t c = search needs
 
--- src/lib.rt:121:51
 put-type-put-leaf-requires : (t : ℕ) → put-type-lts.Need-put-leaf-requires (put-type-calls t) (put-type-at t) put-type.Post
 put-type-put-leaf-requires t c κs = (leaf-inside _ _ _ _ ((c .before .before .before .before .entry-at) .ensures .1) ((c .before .before .entry) .given .1) .0, (leaf-class _ _ _ _ ((c .before .before .before .before .entry-at) .ensures .0) ((c .before .before .entry) .given .1), leaf-inside _ _ _ _ ((c .before .before .before .before .entry-at) .ensures .1) ((c .before .before .entry) .given .1) .1))
 
--- src/lib.rt:124:25
 put-type-enum-known-entry-2 : (t : ℕ) → put-type-lts.Need-enum-known-entry-2 (put-type-calls t) (put-type-at t) put-type.Post
 put-type-enum-known-entry-2 t c = search needs
 
--- src/lib.rt:125:17
 put-type-put-group-header-requires : (t : ℕ) → put-type-lts.Need-put-group-header-requires (put-type-calls t) (put-type-at t) put-type.Post
 put-type-put-group-header-requires t c κs = search needs
 
--- src/lib.rt:127:33
 put-type-enum-told-2 : (t : ℕ) → put-type-lts.Need-enum-told-2 (put-type-calls t) (put-type-at t) put-type.Post
 put-type-enum-told-2 t c = search needs
 
--- src/lib.rt:128:32
 put-type-enum-known-headed : (t : ℕ) → put-type-lts.Need-enum-known-headed (put-type-calls t) (put-type-at t) put-type.Post
 put-type-enum-known-headed t c = search needs
 
--- src/lib.rt:129:34
 put-type-add-put-members : (t : ℕ) → put-type-lts.Need-add-put-members (put-type-calls t) (put-type-at t) put-type.Post
 put-type-add-put-members t c = omega (arith, compound-inside _ _ _ _ ((c .before .before .before .before .before .before .before .before .before .before .entry-at) .ensures .1) ((c .before .before .before .before .before .before .before .before .entry2) .given .1))
 
--- src/lib.rt:128:38
 put-type-put-members-requires : (t : ℕ) → put-type-lts.Need-put-members-requires (put-type-calls t) (put-type-at t) put-type.Post
 put-type-put-members-requires t c κs = search needs
 
--- src/lib.rt:133:28
 put-type-enum-known-entry-3 : (t : ℕ) → put-type-lts.Need-enum-known-entry-3 (put-type-calls t) (put-type-at t) put-type.Post
 put-type-enum-known-entry-3 t c = search needs
 
--- src/lib.rt:134:17
 put-type-put-group-header-requires-2 : (t : ℕ) → put-type-lts.Need-put-group-header-requires-2 (put-type-calls t) (put-type-at t) put-type.Post
 put-type-put-group-header-requires-2 t c κs = search needs
 
--- src/lib.rt:136:33
 put-type-enum-told-3 : (t : ℕ) → put-type-lts.Need-enum-told-3 (put-type-calls t) (put-type-at t) put-type.Post
 put-type-enum-told-3 t c = search needs
 
--- src/lib.rt:137:32
 put-type-enum-known-headed-2 : (t : ℕ) → put-type-lts.Need-enum-known-headed-2 (put-type-calls t) (put-type-at t) put-type.Post
 put-type-enum-known-headed-2 t c = search needs
 
--- src/lib.rt:138:53
 put-type-add-put-type : (t : ℕ) → put-type-lts.Need-add-put-type (put-type-calls t) (put-type-at t) put-type.Post
 put-type-add-put-type t c = omega (arith, enumeration-inside _ _ _ _ ((c .before .before .before .before .before .before .before .before .before .before .entry-at) .ensures .1) ((c .before .before .before .before .before .before .before .before .entry3) .given .1))
 
--- src/lib.rt:138:25
 put-type-put-type-requires : (t : ℕ) → put-type-lts.Need-put-type-requires (put-type-calls t) (put-type-at t) put-type.Post
 put-type-put-type-requires t c κs = search needs
 
--- src/lib.rt:140:38
 put-type-enum-told-4 : (t : ℕ) → put-type-lts.Need-enum-told-4 (put-type-calls t) (put-type-at t) put-type.Post
 put-type-enum-told-4 t c = search needs
 
--- src/lib.rt:141:33
 put-type-enum-known-put : (t : ℕ) → put-type-lts.Need-enum-known-put (put-type-calls t) (put-type-at t) put-type.Post
 put-type-enum-known-put t c = search needs
 
--- src/lib.rt:141:42
 put-type-put-enum-members-requires : (t : ℕ) → put-type-lts.Need-put-enum-members-requires (put-type-calls t) (put-type-at t) put-type.Post
 put-type-put-enum-members-requires t c κs = search needs
 
--- src/lib.rt:148:31
 put-type-enum-known-entry-4 : (t : ℕ) → put-type-lts.Need-enum-known-entry-4 (put-type-calls t) (put-type-at t) put-type.Post
 put-type-enum-known-entry-4 t c = search needs
 
--- src/lib.rt:149:17
 put-type-put-variable-header-requires : (t : ℕ) → put-type-lts.Need-put-variable-header-requires (put-type-calls t) (put-type-at t) put-type.Post
 put-type-put-variable-header-requires t c κs = search needs
 
--- src/lib.rt:151:33
 put-type-enum-told-5 : (t : ℕ) → put-type-lts.Need-enum-told-5 (put-type-calls t) (put-type-at t) put-type.Post
 put-type-enum-told-5 t c = search needs
 
--- src/lib.rt:152:32
 put-type-enum-known-headed-3 : (t : ℕ) → put-type-lts.Need-enum-known-headed-3 (put-type-calls t) (put-type-at t) put-type.Post
 put-type-enum-known-headed-3 t c = search needs
 
--- src/lib.rt:153:43
 put-type-add-put-type-2 : (t : ℕ) → put-type-lts.Need-add-put-type-2 (put-type-calls t) (put-type-at t) put-type.Post
 put-type-add-put-type-2 t c = omega (arith, variableLength-inside _ _ _ _ ((c .before .before .before .before .before .before .before .before .before .before .entry-at) .ensures .1) ((c .before .before .before .before .before .before .before .before .entry4) .given .1))
 
--- src/lib.rt:153:21
 put-type-put-type-requires-2 : (t : ℕ) → put-type-lts.Need-put-type-requires-2 (put-type-calls t) (put-type-at t) put-type.Post
 put-type-put-type-requires-2 t c κs = search needs
 
--- src/lib.rt:157:22
 put-type-enum-known-entry-5 : (t : ℕ) → put-type-lts.Need-enum-known-entry-5 (put-type-calls t) (put-type-at t) put-type.Post
 put-type-enum-known-entry-5 t c = search needs
 
--- src/lib.rt:158:17
 put-type-size-at-requires : (t : ℕ) → put-type-lts.Need-size-at-requires (put-type-calls t) (put-type-at t) put-type.Post
 put-type-size-at-requires t c κs = search needs
 
--- src/lib.rt:159:17
 put-type-put-array-head-requires : (t : ℕ) → put-type-lts.Need-put-array-head-requires (put-type-calls t) (put-type-at t) put-type.Post
 put-type-put-array-head-requires t c κs = search needs
 
--- src/lib.rt:161:33
 put-type-enum-told-6 : (t : ℕ) → put-type-lts.Need-enum-told-6 (put-type-calls t) (put-type-at t) put-type.Post
 put-type-enum-told-6 t c = search needs
 
--- src/lib.rt:162:32
 put-type-enum-known-headed-4 : (t : ℕ) → put-type-lts.Need-enum-known-headed-4 (put-type-calls t) (put-type-at t) put-type.Post
 put-type-enum-known-headed-4 t c = search needs
 
--- src/lib.rt:163:41
 put-type-cast-from : (t : ℕ) → put-type-lts.Need-cast-from (put-type-calls t) (put-type-at t) put-type.Post
 put-type-cast-from t c = search needs
 
--- src/lib.rt:163:40
 put-type-mul-from : (t : ℕ) → put-type-lts.Need-mul-from (put-type-calls t) (put-type-at t) put-type.Post
 put-type-mul-from t c = search needs
 
--- src/lib.rt:163:32
 put-type-add-from : (t : ℕ) → put-type-lts.Need-add-from (put-type-calls t) (put-type-at t) put-type.Post
 put-type-add-from t c = omega (arith, array-inside _ _ _ _ ((c .before .before .before .before .before .before .before .before .before .before .before .entry-at) .ensures .1) ((c .before .before .before .before .before .before .before .before .before .entry5) .given .1))
 
--- src/lib.rt:164:43
 put-type-add-put-type-3 : (t : ℕ) → put-type-lts.Need-add-put-type-3 (put-type-calls t) (put-type-at t) put-type.Post
 put-type-add-put-type-3 t c = omega (arith, array-inside _ _ _ _ ((c .before .before .before .before .before .before .before .before .before .before .before .entry-at) .ensures .1) ((c .before .before .before .before .before .before .before .before .before .entry5) .given .1))
 
--- src/lib.rt:164:21
 put-type-put-type-requires-3 : (t : ℕ) → put-type-lts.Need-put-type-requires-3 (put-type-calls t) (put-type-at t) put-type.Post
 put-type-put-type-requires-3 t c κs = search needs
 
--- src/lib.rt:101:1
 put-type-returns-2 : (t : ℕ) → put-type-lts.Need-returns-2 (put-type-calls t) (put-type-at t) put-type.Post
 put-type-returns-2 t c = search type-unknown
 
--- src/lib.rt:101:1
 put-type-same-length : (t : ℕ) → put-type-lts.Need-same-length (put-type-calls t) (put-type-at t) put-type.Post
 put-type-same-length t c = search needs
 
--- src/lib.rt:101:1
 put-type-returns-3 : (t : ℕ) → put-type-lts.Need-returns-3 (put-type-calls t) (put-type-at t) put-type.Post
 put-type-returns-3 t c = search type-leaf
 
--- src/lib.rt:101:1
 put-type-same-length-2 : (t : ℕ) → put-type-lts.Need-same-length-2 (put-type-calls t) (put-type-at t) put-type.Post
 put-type-same-length-2 t c = search needs
 
--- src/lib.rt:101:1
 put-type-returns-4 : (t : ℕ) → put-type-lts.Need-returns-4 (put-type-calls t) (put-type-at t) put-type.Post
 put-type-returns-4 t c = search type-compound-full
 
--- src/lib.rt:101:1
 put-type-same-length-3 : (t : ℕ) → put-type-lts.Need-same-length-3 (put-type-calls t) (put-type-at t) put-type.Post
 put-type-same-length-3 t c = search needs
 
--- src/lib.rt:101:1
 put-type-returns-5 : (t : ℕ) → put-type-lts.Need-returns-5 (put-type-calls t) (put-type-at t) put-type.Post
 put-type-returns-5 t c = search type-compound
 
--- src/lib.rt:101:1
 put-type-same-length-4 : (t : ℕ) → put-type-lts.Need-same-length-4 (put-type-calls t) (put-type-at t) put-type.Post
 put-type-same-length-4 t c = search needs
 
--- src/lib.rt:101:1
 put-type-returns-6 : (t : ℕ) → put-type-lts.Need-returns-6 (put-type-calls t) (put-type-at t) put-type.Post
 put-type-returns-6 t c = search type-enumeration-full
 
--- src/lib.rt:101:1
 put-type-same-length-5 : (t : ℕ) → put-type-lts.Need-same-length-5 (put-type-calls t) (put-type-at t) put-type.Post
 put-type-same-length-5 t c = search needs
 
--- src/lib.rt:101:1
 put-type-returns-7 : (t : ℕ) → put-type-lts.Need-returns-7 (put-type-calls t) (put-type-at t) put-type.Post
 put-type-returns-7 t c = search type-enumeration-lost
 
--- src/lib.rt:101:1
 put-type-same-length-6 : (t : ℕ) → put-type-lts.Need-same-length-6 (put-type-calls t) (put-type-at t) put-type.Post
 put-type-same-length-6 t c = search needs
 
--- src/lib.rt:101:1
 put-type-returns-8 : (t : ℕ) → put-type-lts.Need-returns-8 (put-type-calls t) (put-type-at t) put-type.Post
 put-type-returns-8 t c = type-enumeration _ _ _ _ _ _ _ _ ((c .before .before .before .before .before .before .before .before .before .before .before .before .before .before .before .before .before .before .before .before .before .before .if1) .left) ((c .before .before .before .before .before .before .before .before .before .before .before .before .before .before .before .before .before .before .before .before .before .entry-at) .ensures .0) ((c .before .before .before .before .before .before .before .before .before .before .before .before .before .before .before .before .before .before .before .entry3) .given .1) ((c .before .before .before .before .before .before .before .before .before .before .before .before .before .before .before .before .put-group-header2) .ensures) ((c .before .before .before .before .before .before .before .before .before .before .before .before .headed2) .given .1) ((c .before .before .before .before .before .before .before .before .before .put-type) .ensures) ((c .before .before .before .before .before .put) .given .1) ((c .before .before .put-enum-members) .ensures)
 
--- src/lib.rt:101:1
 put-type-same-length-7 : (t : ℕ) → put-type-lts.Need-same-length-7 (put-type-calls t) (put-type-at t) put-type.Post
 put-type-same-length-7 t c = search needs
 
--- src/lib.rt:101:1
 put-type-returns-9 : (t : ℕ) → put-type-lts.Need-returns-9 (put-type-calls t) (put-type-at t) put-type.Post
 put-type-returns-9 t c = search type-variable-full
 
--- src/lib.rt:101:1
 put-type-same-length-8 : (t : ℕ) → put-type-lts.Need-same-length-8 (put-type-calls t) (put-type-at t) put-type.Post
 put-type-same-length-8 t c = search needs
 
--- src/lib.rt:101:1
 put-type-returns-10 : (t : ℕ) → put-type-lts.Need-returns-10 (put-type-calls t) (put-type-at t) put-type.Post
 put-type-returns-10 t c = search type-variable
 
--- src/lib.rt:101:1
 put-type-same-length-9 : (t : ℕ) → put-type-lts.Need-same-length-9 (put-type-calls t) (put-type-at t) put-type.Post
 put-type-same-length-9 t c = search needs
 
--- src/lib.rt:101:1
 put-type-returns-11 : (t : ℕ) → put-type-lts.Need-returns-11 (put-type-calls t) (put-type-at t) put-type.Post
 put-type-returns-11 t c =
     let small : (i : ℕ) → getD ((c .before .before .before .before .before .before .before .before .before .before .before .before .before .before .before) .args .pool .now) i 0 < 256 = λ i. omega (arith, (c .before .before .before .before .before .before .before .before .before .before .before .before .before .shared-slice-known2) .given i) in
     search (type-array-full, small)
 
--- src/lib.rt:101:1
 put-type-same-length-10 : (t : ℕ) → put-type-lts.Need-same-length-10 (put-type-calls t) (put-type-at t) put-type.Post
 put-type-same-length-10 t c = search needs
 
--- src/lib.rt:101:1
 put-type-returns-12 : (t : ℕ) → put-type-lts.Need-returns-12 (put-type-calls t) (put-type-at t) put-type.Post
 put-type-returns-12 t c =
     let small : (i : ℕ) → getD ((c .before .before .before .before .before .before .before .before .before .before .before .before .before .before .before .before .before .before .before .before) .args .pool .now) i 0 < 256 = λ i. omega (arith, (c .before .before .before .before .before .before .before .before .before .before .before .before .before .before .before .before .before .before .shared-slice-known2) .given i) in

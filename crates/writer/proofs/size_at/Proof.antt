@@ -6,23 +6,18 @@ use Rattle.writer.proofs.size_at.Reads as reads
 use Rattle.writer.proofs.size_at.Lts as lts
 use Rattle.table.proofs.survey_type.Reads as survey-type-reads
 
--- src/lib.rt:34:9
 survey-type-requires : tie.Need-survey-type-requires
 survey-type-requires c κs = search needs
 
--- src/lib.rt:36:30
 enum-told : tie.Need-enum-told
 enum-told c = search needs
 
--- src/lib.rt:37:25
 enum-known-surveyed : tie.Need-enum-known-surveyed
 enum-known-surveyed c = search needs
 
--- src/lib.rt:31:1
 returns : tie.Need-returns
 returns c = search no-size
 
--- src/lib.rt:31:1
 returns-2 : tie.Need-returns-2
 returns-2 c = search size-found
 

@@ -1,63 +1,46 @@
-use Rattle.writer.proofs.Answering.{write-bad, write-none, write-past, write-good}
+use mathlib.Core.Logic.{⊎-elim}
+use Rattle.writer.proofs.Answering.{write-bad, write-none, write-past}
 use borrow.Author.Needs.{needs}
 use Rattle.writer.proofs.write.Statement.{statement}
 use Rattle.writer.proofs.write.Tie as tie
-use Rattle.writer.proofs.write.Reads as reads
-use Rattle.writer.proofs.write.Lts as lts
-use Rattle.table.proofs.check.Reads as check-reads
-use Rattle.writer.proofs.write_checked.Reads as write-checked-reads
 
--- src/lib.rt:180:9
+cast-write-edition : tie.Need-cast-write-edition
+cast-write-edition c = search needs
+
+write-edition-requires : tie.Need-write-edition-requires
+write-edition-requires c κs = search needs
+
 check-requires : tie.Need-check-requires
 check-requires c κs = search needs
 
--- src/lib.rt:182:42
 enum-told : tie.Need-enum-told
 enum-told c = search needs
 
--- src/lib.rt:184:13
 enum-told-2 : tie.Need-enum-told-2
 enum-told-2 c = search needs
 
--- src/lib.rt:185:53
-cast-write-checked : tie.Need-cast-write-checked
-cast-write-checked c = search needs
-
--- src/lib.rt:185:26
-write-checked-requires : tie.Need-write-checked-requires
-write-checked-requires c κs = search needs
-
--- src/lib.rt:177:1
-returns : tie.Need-returns
-returns c = search write-bad
-
--- src/lib.rt:177:1
 same-length : tie.Need-same-length
 same-length c = search needs
 
--- src/lib.rt:177:1
+returns : tie.Need-returns
+returns c = search needs
+
 returns-2 : tie.Need-returns-2
-returns-2 c = search write-good
+returns-2 c = search write-bad
 
--- src/lib.rt:177:1
 returns-3 : tie.Need-returns-3
-returns-3 c = search (write-none, write-past)
-
--- src/lib.rt:177:1
-returns-4 : tie.Need-returns-4
-returns-4 c = search (write-none, write-past)
+returns-3 c = ⊎-elim (λ w. search write-none) (λ w. search write-past) (c .before .before .before .if1 .came)
 
 pub write-spec : {M : Type 1} → statement M
 write-spec =
     tie.close
     (tie.spec
+    cast-write-edition
+    write-edition-requires
     check-requires
     enum-told
     enum-told-2
-    cast-write-checked
-    write-checked-requires
-    returns
     same-length
+    returns
     returns-2
-    returns-3
-    returns-4)
+    returns-3)

@@ -5,15 +5,12 @@ use Rattle.writer_parts.proofs.column_width.Tie as tie
 use Rattle.writer_parts.proofs.column_width.Reads as reads
 use Rattle.writer_parts.proofs.column_width.Lts as lts
 
--- src/lib.rt:309:1
 returns : tie.Need-returns
 returns c = search (needs, width-two, width-one, width-four)
 
--- src/lib.rt:309:1
 returns-2 : tie.Need-returns-2
 returns-2 c = search (needs, width-two, width-one, width-four)
 
--- src/lib.rt:309:1
 returns-3 : tie.Need-returns-3
 returns-3 c = search (needs, width-two, width-one, width-four)
 

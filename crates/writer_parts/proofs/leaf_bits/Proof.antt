@@ -5,27 +5,21 @@ use Rattle.writer_parts.proofs.leaf_bits.Tie as tie
 use Rattle.writer_parts.proofs.leaf_bits.Reads as reads
 use Rattle.writer_parts.proofs.leaf_bits.Lts as lts
 
--- src/lib.rt:300:9
 returns : tie.Need-returns
 returns c = search (no-bits, bits-of-none, bits-of)
 
--- src/lib.rt:303:9
 returns-2 : tie.Need-returns-2
 returns-2 c = search (no-bits, bits-of-none, bits-of)
 
--- src/lib.rt:305:7
 mul-result : tie.Need-mul-result
 mul-result c = search needs
 
--- src/lib.rt:305:7
 sub-result : tie.Need-sub-result
 sub-result c = search needs
 
--- src/lib.rt:305:5
 cast-result : tie.Need-cast-result
 cast-result c = search needs
 
--- src/lib.rt:296:1
 returns-3 : tie.Need-returns-3
 returns-3 c = search (no-bits, bits-of-none, bits-of)
 

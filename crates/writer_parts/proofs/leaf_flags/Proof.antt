@@ -8,71 +8,54 @@ use Rattle.primitives.proofs.fixed_flags.Reads as fixed-flags-reads
 use Rattle.primitives.proofs.float_flags.Reads as float-flags-reads
 use Rattle.primitives.proofs.nibbles_of.Reads as nibbles-of-reads
 
--- src/lib.rt:258:17
 returns : tie.Need-returns
 returns c = search (fixed-order, fixed-signed, fixed-flag, float-order, float-flag, string-padding, string-charset, string-flag, tag-long, tag-flag, code-great, code-flag)
 
--- src/lib.rt:261:17
 returns-2 : tie.Need-returns-2
 returns-2 c = search (fixed-order, fixed-signed, fixed-flag, float-order, float-flag, string-padding, string-charset, string-flag, tag-long, tag-flag, code-great, code-flag)
 
--- src/lib.rt:263:13
 fixed-flags-requires : tie.Need-fixed-flags-requires
 fixed-flags-requires c κs = search needs
 
--- src/lib.rt:267:17
 returns-3 : tie.Need-returns-3
 returns-3 c = search (fixed-order, fixed-signed, fixed-flag, float-order, float-flag, string-padding, string-charset, string-flag, tag-long, tag-flag, code-great, code-flag)
 
--- src/lib.rt:269:13
 float-flags-requires : tie.Need-float-flags-requires
 float-flags-requires c κs = search needs
 
--- src/lib.rt:273:17
 returns-4 : tie.Need-returns-4
 returns-4 c = search (fixed-order, fixed-signed, fixed-flag, float-order, float-flag, string-padding, string-charset, string-flag, tag-long, tag-flag, code-great, code-flag)
 
--- src/lib.rt:276:17
 returns-5 : tie.Need-returns-5
 returns-5 c = search (fixed-order, fixed-signed, fixed-flag, float-order, float-flag, string-padding, string-charset, string-flag, tag-long, tag-flag, code-great, code-flag)
 
--- src/lib.rt:278:13
 nibbles-of-requires : tie.Need-nibbles-of-requires
 nibbles-of-requires c κs = search needs
 
--- src/lib.rt:282:17
 returns-6 : tie.Need-returns-6
 returns-6 c = search (fixed-order, fixed-signed, fixed-flag, float-order, float-flag, string-padding, string-charset, string-flag, tag-long, tag-flag, code-great, code-flag)
 
--- src/lib.rt:284:13
 cast-result : tie.Need-cast-result
 cast-result c = search needs
 
--- src/lib.rt:288:17
 returns-7 : tie.Need-returns-7
 returns-7 c = search (fixed-order, fixed-signed, fixed-flag, float-order, float-flag, string-padding, string-charset, string-flag, tag-long, tag-flag, code-great, code-flag)
 
--- src/lib.rt:290:13
 cast-result-2 : tie.Need-cast-result-2
 cast-result-2 c = search needs
 
--- src/lib.rt:252:1
 returns-8 : tie.Need-returns-8
 returns-8 c = search (fixed-order, fixed-signed, fixed-flag, float-order, float-flag, string-padding, string-charset, string-flag, tag-long, tag-flag, code-great, code-flag)
 
--- src/lib.rt:252:1
 returns-9 : tie.Need-returns-9
 returns-9 c = search (fixed-order, fixed-signed, fixed-flag, float-order, float-flag, string-padding, string-charset, string-flag, tag-long, tag-flag, code-great, code-flag)
 
--- src/lib.rt:252:1
 returns-10 : tie.Need-returns-10
 returns-10 c = search (fixed-order, fixed-signed, fixed-flag, float-order, float-flag, string-padding, string-charset, string-flag, tag-long, tag-flag, code-great, code-flag)
 
--- src/lib.rt:252:1
 returns-11 : tie.Need-returns-11
 returns-11 c = search (fixed-order, fixed-signed, fixed-flag, float-order, float-flag, string-padding, string-charset, string-flag, tag-long, tag-flag, code-great, code-flag)
 
--- src/lib.rt:252:1
 returns-12 : tie.Need-returns-12
 returns-12 c = search (fixed-order, fixed-signed, fixed-flag, float-order, float-flag, string-padding, string-charset, string-flag, tag-long, tag-flag, code-great, code-flag)
 

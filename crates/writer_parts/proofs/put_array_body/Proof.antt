@@ -7,35 +7,27 @@ use Rattle.writer_parts.proofs.put_array_body.Lts as lts
 use Rattle.writer_parts.proofs.put_dimensions.Reads as put-dimensions-reads
 use Rattle.writer_parts.proofs.put_rank.Reads as put-rank-reads
 
--- src/lib.rt:244:9
 put-rank-requires : tie.Need-put-rank-requires
 put-rank-requires c κs = search needs
 
--- src/lib.rt:246:25
 enum-told : tie.Need-enum-told
 enum-told c = search needs
 
--- src/lib.rt:247:24
 enum-known-put : tie.Need-enum-known-put
 enum-known-put c = search needs
 
--- src/lib.rt:247:32
 put-dimensions-requires : tie.Need-put-dimensions-requires
 put-dimensions-requires c κs = search needs
 
--- src/lib.rt:239:1
 same-length : tie.Need-same-length
 same-length c = search needs
 
--- src/lib.rt:239:1
 returns : tie.Need-returns
 returns c = search (behind-from, full-from)
 
--- src/lib.rt:239:1
 same-length-2 : tie.Need-same-length-2
 same-length-2 c = search needs
 
--- src/lib.rt:239:1
 returns-2 : tie.Need-returns-2
 returns-2 c = search (behind-from, full-from)
 

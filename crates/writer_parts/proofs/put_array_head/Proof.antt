@@ -7,39 +7,30 @@ use Rattle.writer_parts.proofs.put_array_head.Lts as lts
 use Rattle.writer_parts.proofs.put_array_body.Reads as put-array-body-reads
 use Rattle.writer_parts.proofs.put_header.Reads as put-header-reads
 
--- src/lib.rt:267:9
 returns : tie.Need-returns
 returns c = search rank-great
 
--- src/lib.rt:269:9
 put-header-requires : tie.Need-put-header-requires
 put-header-requires c κs = search needs
 
--- src/lib.rt:271:25
 enum-told : tie.Need-enum-told
 enum-told c = search needs
 
--- src/lib.rt:272:24
 enum-known-headed : tie.Need-enum-known-headed
 enum-known-headed c = search needs
 
--- src/lib.rt:272:32
 put-array-body-requires : tie.Need-put-array-body-requires
 put-array-body-requires c κs = search needs
 
--- src/lib.rt:252:1
 same-length : tie.Need-same-length
 same-length c = search needs
 
--- src/lib.rt:252:1
 returns-2 : tie.Need-returns-2
 returns-2 c = search full-from
 
--- src/lib.rt:252:1
 same-length-2 : tie.Need-same-length-2
 same-length-2 c = search needs
 
--- src/lib.rt:252:1
 returns-3 : tie.Need-returns-3
 returns-3 c = search behind-from
 

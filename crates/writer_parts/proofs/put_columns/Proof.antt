@@ -14,67 +14,51 @@ Inv-loop table row from to out₀ at start a₀ c₀ out a c = ColumnsLeft table
 abbrev μ-loop : tie.MeasureT-loop
 μ-loop table row from to out₀ at start a₀ c₀ out a c = to - c
 
--- src/lib.rt:324:17
 mul-start : tie.Need-mul-start Inv-loop μ-loop
 mul-start c = search needs
 
--- src/lib.rt:327:5
 loop-holds : tie.Need-loop-holds Inv-loop μ-loop
 loop-holds c = search columns-begun
 
--- src/lib.rt:328:38
 column-width-requires : tie.Need-column-width-requires Inv-loop μ-loop
 column-width-requires c κs = search needs
 
--- src/lib.rt:328:61
 add-put-number : tie.Need-add-put-number Inv-loop μ-loop
 add-put-number c = search needs
 
--- src/lib.rt:328:55
 mul-put-number : tie.Need-mul-put-number Inv-loop μ-loop
 mul-put-number c = search needs
 
--- src/lib.rt:328:55
 shared-slice-read-put-number : tie.Need-shared-slice-read-put-number Inv-loop μ-loop
 shared-slice-read-put-number c = search needs
 
--- src/lib.rt:328:13
 put-number-requires : tie.Need-put-number-requires Inv-loop μ-loop
 put-number-requires c κs = search needs
 
--- src/lib.rt:331:17
 enum-told : tie.Need-enum-told Inv-loop μ-loop
 enum-told c = search needs
 
--- src/lib.rt:331:17
 same-length : tie.Need-same-length Inv-loop μ-loop
 same-length c = search needs
 
--- src/lib.rt:331:17
 returns : tie.Need-returns Inv-loop μ-loop
 returns c = search columns-full
 
--- src/lib.rt:333:28
 enum-known-put : tie.Need-enum-known-put Inv-loop μ-loop
 enum-known-put c = search needs
 
--- src/lib.rt:335:17
 add-c : tie.Need-add-c Inv-loop μ-loop
 add-c c = search needs
 
--- src/lib.rt:327:5
 loop-less : tie.Need-loop-less Inv-loop μ-loop
 loop-less c = search needs
 
--- src/lib.rt:327:5
 loop-again : tie.Need-loop-again Inv-loop μ-loop
 loop-again c = search columns-next
 
--- src/lib.rt:320:1
 same-length-2 : tie.Need-same-length-2 Inv-loop μ-loop
 same-length-2 c = search needs
 
--- src/lib.rt:320:1
 returns-2 : tie.Need-returns-2 Inv-loop μ-loop
 returns-2 c = search columns-ended
 

@@ -17,123 +17,93 @@ Inv-loop table pool row place count out₀ at version r₀ p₀ a₀ values₀ l
 abbrev μ-loop : tie.MeasureT-loop
 μ-loop table pool row place count out₀ at version r₀ p₀ a₀ values₀ left₀ out r p a values left = left
 
--- src/lib.rt:430:5
 loop-holds : tie.Need-loop-holds Inv-loop μ-loop
 loop-holds c = search (needs, enum-begun)
 
--- src/lib.rt:431:13
 enum-member-at-requires : tie.Need-enum-member-at-requires Inv-loop μ-loop
 enum-member-at-requires c κs = search needs
 
--- src/lib.rt:434:17
 enum-told : tie.Need-enum-told Inv-loop μ-loop
 enum-told c = search needs
 
--- src/lib.rt:434:17
 same-length : tie.Need-same-length Inv-loop μ-loop
 same-length c = search needs
 
--- src/lib.rt:434:17
 returns : tie.Need-returns Inv-loop μ-loop
 returns c = search enum-unnamed
 
--- src/lib.rt:436:27
 enum-known-member : tie.Need-enum-known-member Inv-loop μ-loop
 enum-known-member c = search needs
 
--- src/lib.rt:437:21
 put-name-requires : tie.Need-put-name-requires Inv-loop μ-loop
 put-name-requires c κs = search needs
 
--- src/lib.rt:440:25
 enum-told-2 : tie.Need-enum-told-2 Inv-loop μ-loop
 enum-told-2 c = search needs
 
--- src/lib.rt:440:25
 same-length-2 : tie.Need-same-length-2 Inv-loop μ-loop
 same-length-2 c = search needs
 
--- src/lib.rt:440:25
 returns-2 : tie.Need-returns-2 Inv-loop μ-loop
 returns-2 c = search enum-full
 
--- src/lib.rt:442:36
 enum-known-put : tie.Need-enum-known-put Inv-loop μ-loop
 enum-known-put c = search needs
 
--- src/lib.rt:443:36
 cast-long : tie.Need-cast-long Inv-loop μ-loop
 cast-long c = search needs
 
--- src/lib.rt:444:28
 sub-if1 : tie.Need-sub-if1 Inv-loop μ-loop
 sub-if1 c = search needs
 
--- src/lib.rt:445:29
 same-length-3 : tie.Need-same-length-3 Inv-loop μ-loop
 same-length-3 c = search needs
 
--- src/lib.rt:445:29
 returns-3 : tie.Need-returns-3 Inv-loop μ-loop
 returns-3 c = search enum-past
 
--- src/lib.rt:447:25
 add-r : tie.Need-add-r Inv-loop μ-loop
 add-r c = omega (arith, enumNamed-inside _ _ _ _ ((c .before .before .before .before .before .before .before .before .before .member) .given .1) ((c .before .before .before .before .before .before .before .before .before .before .before .enum-member-at) .ensures .1))
 
--- src/lib.rt:448:30
 cast-p : tie.Need-cast-p Inv-loop μ-loop
 cast-p c = search needs
 
--- src/lib.rt:448:25
 add-p : tie.Need-add-p Inv-loop μ-loop
 add-p c = omega (arith, enumNamed-inside _ _ _ _ ((c .before .before .before .before .before .before .before .before .before .member) .given .1) ((c .before .before .before .before .before .before .before .before .before .before .before .enum-member-at) .ensures .1))
 
--- src/lib.rt:450:25
 add-values : tie.Need-add-values Inv-loop μ-loop
 add-values c = search needs
 
--- src/lib.rt:451:25
 sub-left : tie.Need-sub-left Inv-loop μ-loop
 sub-left c = search needs
 
--- src/lib.rt:430:5
 loop-less : tie.Need-loop-less Inv-loop μ-loop
 loop-less c = search needs
 
--- src/lib.rt:430:5
 loop-again : tie.Need-loop-again Inv-loop μ-loop
 loop-again c = search enum-next
 
--- src/lib.rt:457:9
 put-piece-requires : tie.Need-put-piece-requires Inv-loop μ-loop
 put-piece-requires c κs = search needs
 
--- src/lib.rt:459:25
 enum-told-3 : tie.Need-enum-told-3 Inv-loop μ-loop
 enum-told-3 c = search needs
 
--- src/lib.rt:460:24
 enum-known-put-2 : tie.Need-enum-known-put-2 Inv-loop μ-loop
 enum-known-put-2 c = search needs
 
--- src/lib.rt:462:20
 add-t31 : tie.Need-add-t31 Inv-loop μ-loop
 add-t31 c = omega (arith, (c .before .before .before .before .before .put-piece) .ensures .inside _ ((c .before .put2) .given .1))
 
--- src/lib.rt:413:1
 same-length-4 : tie.Need-same-length-4 Inv-loop μ-loop
 same-length-4 c = search needs
 
--- src/lib.rt:413:1
 returns-4 : tie.Need-returns-4 Inv-loop μ-loop
 returns-4 c = search enum-cut
 
--- src/lib.rt:413:1
 same-length-5 : tie.Need-same-length-5 Inv-loop μ-loop
 same-length-5 c = search needs
 
--- src/lib.rt:413:1
 returns-5 : tie.Need-returns-5 Inv-loop μ-loop
 returns-5 c = search enum-ended
 

@@ -6,27 +6,21 @@ use Rattle.writer_parts.proofs.put_group_header.Reads as reads
 use Rattle.writer_parts.proofs.put_group_header.Lts as lts
 use Rattle.writer_parts.proofs.put_header.Reads as put-header-reads
 
--- src/lib.rt:133:9
 returns : tie.Need-returns
 returns c = search group-many
 
--- src/lib.rt:140:9
 cast-put-header : tie.Need-cast-put-header
 cast-put-header c = search needs
 
--- src/lib.rt:141:9
 cast-put-header-2 : tie.Need-cast-put-header-2
 cast-put-header-2 c = search needs
 
--- src/lib.rt:135:5
 put-header-requires : tie.Need-put-header-requires
 put-header-requires c κs = search needs
 
--- src/lib.rt:121:1
 same-length : tie.Need-same-length
 same-length c = search needs
 
--- src/lib.rt:121:1
 returns-2 : tie.Need-returns-2
 returns-2 c = search needs
 

@@ -12,63 +12,48 @@ use Rattle.primitives.proofs.class_and_version.Reads as class-and-version-reads
 use Rattle.primitives.proofs.write_uint.Reads as write-uint-reads
 use Rattle.writer_parts.proofs.room.Reads as room-reads
 
--- src/lib.rt:109:8
 room-requires : tie.Need-room-requires
 room-requires c κs = search needs
 
--- src/lib.rt:110:9
 returns : tie.Need-returns
 returns c = search header-full
 
--- src/lib.rt:112:15
 class-and-version-requires : tie.Need-class-and-version-requires
 class-and-version-requires c κs = search needs
 
--- src/lib.rt:112:5
 slice-write-out : tie.Need-slice-write-out
 slice-write-out c = search needs
 
--- src/lib.rt:113:9
 add-out : tie.Need-add-out
 add-out c = search needs
 
--- src/lib.rt:113:5
 slice-write-out-2 : tie.Need-slice-write-out-2
 slice-write-out-2 c = simp length-set (omega arith)
 
--- src/lib.rt:114:9
 add-out-2 : tie.Need-add-out-2
 add-out-2 c = search needs
 
--- src/lib.rt:114:5
 slice-write-out-3 : tie.Need-slice-write-out-3
 slice-write-out-3 c = simp length-set (omega arith)
 
--- src/lib.rt:115:9
 add-out-3 : tie.Need-add-out-3
 add-out-3 c = search needs
 
--- src/lib.rt:115:5
 slice-write-out-4 : tie.Need-slice-write-out-4
 slice-write-out-4 c = simp length-set (omega arith)
 
--- src/lib.rt:116:21
 add-write-uint : tie.Need-add-write-uint
 add-write-uint c = search needs
 
--- src/lib.rt:116:5
 write-uint-requires : tie.Need-write-uint-requires
 write-uint-requires c κs = (omega arith, simp length-set (omega arith))
 
--- src/lib.rt:117:20
 add-t8 : tie.Need-add-t8
 add-t8 c = search needs
 
--- src/lib.rt:97:1
 same-length : tie.Need-same-length
 same-length c = ap length ((c .before .before .write-uint) .ensures) ∙ simp (length-sets, length-set)
 
--- src/lib.rt:97:1
 returns-2 : tie.Need-returns-2
 returns-2 c = search header-stored
 

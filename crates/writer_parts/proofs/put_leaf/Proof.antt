@@ -9,87 +9,66 @@ use Rattle.writer_parts.proofs.leaf_flags.Reads as leaf-flags-reads
 use Rattle.writer_parts.proofs.put_header.Reads as put-header-reads
 use Rattle.writer_parts.proofs.put_leaf_rest.Reads as put-leaf-rest-reads
 
--- src/lib.rt:394:47
 mul-leaf-flags : tie.Need-mul-leaf-flags
 mul-leaf-flags c = search needs
 
--- src/lib.rt:394:47
 add-leaf-flags : tie.Need-add-leaf-flags
 add-leaf-flags c = search needs
 
--- src/lib.rt:394:41
 mul-leaf-flags-2 : tie.Need-mul-leaf-flags-2
 mul-leaf-flags-2 c = search needs
 
--- src/lib.rt:394:41
 shared-slice-read-leaf-flags : tie.Need-shared-slice-read-leaf-flags
 shared-slice-read-leaf-flags c = search needs
 
--- src/lib.rt:394:9
 leaf-flags-requires : tie.Need-leaf-flags-requires
 leaf-flags-requires c κs = search needs
 
--- src/lib.rt:395:38
 cast-put-header : tie.Need-cast-put-header
 cast-put-header c = search needs
 
--- src/lib.rt:395:61
 leaf-bits-requires : tie.Need-leaf-bits-requires
 leaf-bits-requires c κs = search needs
 
--- src/lib.rt:395:9
 put-header-requires : tie.Need-put-header-requires
 put-header-requires c κs = search needs
 
--- src/lib.rt:397:25
 enum-told : tie.Need-enum-told
 enum-told c = search needs
 
--- src/lib.rt:398:24
 enum-known-headed : tie.Need-enum-known-headed
 enum-known-headed c = search needs
 
--- src/lib.rt:399:17
 put-leaf-rest-requires : tie.Need-put-leaf-rest-requires
 put-leaf-rest-requires c κs = search needs
 
--- src/lib.rt:401:33
 enum-told-2 : tie.Need-enum-told-2
 enum-told-2 c = search needs
 
--- src/lib.rt:402:32
 enum-known-put : tie.Need-enum-known-put
 enum-known-put c = search needs
 
--- src/lib.rt:403:26
 add-t29 : tie.Need-add-t29
 add-t29 c = search needs
 
--- src/lib.rt:404:28
 add-t31 : tie.Need-add-t31
 add-t31 c = search needs
 
--- src/lib.rt:379:1
 same-length : tie.Need-same-length
 same-length c = search needs
 
--- src/lib.rt:379:1
 returns : tie.Need-returns
 returns c = search leaf-headless
 
--- src/lib.rt:379:1
 same-length-2 : tie.Need-same-length-2
 same-length-2 c = search needs
 
--- src/lib.rt:379:1
 returns-2 : tie.Need-returns-2
 returns-2 c = search leaf-cut
 
--- src/lib.rt:379:1
 same-length-3 : tie.Need-same-length-3
 same-length-3 c = search needs
 
--- src/lib.rt:379:1
 returns-3 : tie.Need-returns-3
 returns-3 c = search leaf-put
 

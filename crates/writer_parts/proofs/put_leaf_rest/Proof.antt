@@ -7,67 +7,51 @@ use Rattle.writer_parts.proofs.put_leaf_rest.Lts as lts
 use Rattle.writer_parts.proofs.put_columns.Reads as put-columns-reads
 use Rattle.writer_parts.proofs.put_tag.Reads as put-tag-reads
 
--- src/lib.rt:369:14
 put-columns-requires : tie.Need-put-columns-requires
 put-columns-requires c κs = search needs
 
--- src/lib.rt:370:14
 put-columns-requires-2 : tie.Need-put-columns-requires-2
 put-columns-requires-2 c κs = search needs
 
--- src/lib.rt:371:14
 put-columns-requires-3 : tie.Need-put-columns-requires-3
 put-columns-requires-3 c κs = search needs
 
--- src/lib.rt:372:14
 put-columns-requires-4 : tie.Need-put-columns-requires-4
 put-columns-requires-4 c κs = search needs
 
--- src/lib.rt:373:14
 put-tag-requires : tie.Need-put-tag-requires
 put-tag-requires c κs = search needs
 
--- src/lib.rt:355:1
 same-length : tie.Need-same-length
 same-length c = search needs
 
--- src/lib.rt:355:1
 returns : tie.Need-returns
 returns c = search rest-fixed
 
--- src/lib.rt:355:1
 same-length-2 : tie.Need-same-length-2
 same-length-2 c = search needs
 
--- src/lib.rt:355:1
 returns-2 : tie.Need-returns-2
 returns-2 c = search rest-float
 
--- src/lib.rt:355:1
 same-length-3 : tie.Need-same-length-3
 same-length-3 c = search needs
 
--- src/lib.rt:355:1
 returns-3 : tie.Need-returns-3
 returns-3 c = search rest-time
 
--- src/lib.rt:355:1
 same-length-4 : tie.Need-same-length-4
 same-length-4 c = search needs
 
--- src/lib.rt:355:1
 returns-4 : tie.Need-returns-4
 returns-4 c = search rest-bits
 
--- src/lib.rt:355:1
 same-length-5 : tie.Need-same-length-5
 same-length-5 c = search needs
 
--- src/lib.rt:355:1
 returns-5 : tie.Need-returns-5
 returns-5 c = search rest-tag
 
--- src/lib.rt:355:1
 returns-6 : tie.Need-returns-6
 returns-6 c = search rest-none
 

@@ -7,35 +7,27 @@ use Rattle.writer_parts.proofs.put_member_head.Lts as lts
 use Rattle.writer_parts.proofs.put_name.Reads as put-name-reads
 use Rattle.writer_parts.proofs.put_offset.Reads as put-offset-reads
 
--- src/lib.rt:207:9
 put-name-requires : tie.Need-put-name-requires
 put-name-requires c κs = search needs
 
--- src/lib.rt:209:25
 enum-told : tie.Need-enum-told
 enum-told c = search needs
 
--- src/lib.rt:210:24
 enum-known-named : tie.Need-enum-known-named
 enum-known-named c = search needs
 
--- src/lib.rt:210:32
 put-offset-requires : tie.Need-put-offset-requires
 put-offset-requires c κs = search needs
 
--- src/lib.rt:194:1
 same-length : tie.Need-same-length
 same-length c = search needs
 
--- src/lib.rt:194:1
 returns : tie.Need-returns
 returns c = search (from-behind, from-full)
 
--- src/lib.rt:194:1
 same-length-2 : tie.Need-same-length-2
 same-length-2 c = search needs
 
--- src/lib.rt:194:1
 returns-2 : tie.Need-returns-2
 returns-2 c = search (from-behind, from-full)
 

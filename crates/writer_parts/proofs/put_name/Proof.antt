@@ -10,47 +10,36 @@ use Rattle.primitives.proofs.name_padding.Reads as name-padding-reads
 use Rattle.writer_parts.proofs.put_piece.Reads as put-piece-reads
 use Rattle.writer_parts.proofs.put_zeros.Reads as put-zeros-reads
 
--- src/lib.rt:175:9
 put-piece-requires : tie.Need-put-piece-requires
 put-piece-requires c κs = search needs
 
--- src/lib.rt:177:25
 enum-told : tie.Need-enum-told
 enum-told c = search needs
 
--- src/lib.rt:178:24
 enum-known-named : tie.Need-enum-known-named
 enum-known-named c = search needs
 
--- src/lib.rt:178:78
 add-name-padding : tie.Need-add-name-padding
 add-name-padding c = search needs
 
--- src/lib.rt:178:56
 name-padding-requires : tie.Need-name-padding-requires
 name-padding-requires c κs = search needs
 
--- src/lib.rt:178:52
 add-put-zeros : tie.Need-add-put-zeros
 add-put-zeros c = search needs
 
--- src/lib.rt:178:32
 put-zeros-requires : tie.Need-put-zeros-requires
 put-zeros-requires c κs = search needs
 
--- src/lib.rt:171:1
 same-length : tie.Need-same-length
 same-length c = search needs
 
--- src/lib.rt:171:1
 returns : tie.Need-returns
 returns c = search (name-behind, name-full)
 
--- src/lib.rt:171:1
 same-length-2 : tie.Need-same-length-2
 same-length-2 c = search needs
 
--- src/lib.rt:171:1
 returns-2 : tie.Need-returns-2
 returns-2 c = search (name-behind, name-full)
 

@@ -7,27 +7,21 @@ use Rattle.writer_parts.proofs.put_number.Lts as lts
 use Rattle.primitives.proofs.write_uint.Reads as write-uint-reads
 use Rattle.writer_parts.proofs.room.Reads as room-reads
 
--- src/lib.rt:72:8
 room-requires : tie.Need-room-requires
 room-requires c κs = search needs
 
--- src/lib.rt:73:9
 returns : tie.Need-returns
 returns c = search number-full
 
--- src/lib.rt:75:5
 write-uint-requires : tie.Need-write-uint-requires
 write-uint-requires c κs = search needs
 
--- src/lib.rt:76:20
 add-t5 : tie.Need-add-t5
 add-t5 c = search needs
 
--- src/lib.rt:68:1
 same-length : tie.Need-same-length
 same-length c = search needs
 
--- src/lib.rt:68:1
 returns-2 : tie.Need-returns-2
 returns-2 c = search number-stored
 

@@ -10,43 +10,33 @@ use Rattle.primitives.proofs.skipped_bytes.Reads as skipped-bytes-reads
 use Rattle.writer_parts.proofs.put_number.Reads as put-number-reads
 use Rattle.writer_parts.proofs.put_zeros.Reads as put-zeros-reads
 
--- src/lib.rt:186:35
 offset-bytes-for-size-requires : tie.Need-offset-bytes-for-size-requires
 offset-bytes-for-size-requires c κs = search needs
 
--- src/lib.rt:186:9
 put-number-requires : tie.Need-put-number-requires
 put-number-requires c κs = search needs
 
--- src/lib.rt:188:25
 enum-told : tie.Need-enum-told
 enum-told c = search needs
 
--- src/lib.rt:189:24
 enum-known-put : tie.Need-enum-known-put
 enum-known-put c = search needs
 
--- src/lib.rt:189:52
 skipped-bytes-requires : tie.Need-skipped-bytes-requires
 skipped-bytes-requires c κs = search needs
 
--- src/lib.rt:189:32
 put-zeros-requires : tie.Need-put-zeros-requires
 put-zeros-requires c κs = search needs
 
--- src/lib.rt:183:1
 same-length : tie.Need-same-length
 same-length c = search needs
 
--- src/lib.rt:183:1
 returns : tie.Need-returns
 returns c = search (number-behind, number-first)
 
--- src/lib.rt:183:1
 same-length-2 : tie.Need-same-length-2
 same-length-2 c = search needs
 
--- src/lib.rt:183:1
 returns-2 : tie.Need-returns-2
 returns-2 c = search (number-behind, number-first)
 

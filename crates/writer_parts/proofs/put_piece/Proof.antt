@@ -7,39 +7,30 @@ use Rattle.writer_parts.proofs.put_piece.Lts as lts
 use Rattle.primitives.proofs.copy_bytes.Reads as copy-bytes-reads
 use Rattle.writer_parts.proofs.room.Reads as room-reads
 
--- src/lib.rt:84:9
 returns : tie.Need-returns
 returns c = search piece-none
 
--- src/lib.rt:86:8
 room-requires : tie.Need-room-requires
 room-requires c κs = search needs
 
--- src/lib.rt:87:9
 returns-2 : tie.Need-returns-2
 returns-2 c = search piece-outside
 
--- src/lib.rt:89:8
 room-requires-2 : tie.Need-room-requires-2
 room-requires-2 c κs = search needs
 
--- src/lib.rt:90:9
 returns-3 : tie.Need-returns-3
 returns-3 c = search piece-full
 
--- src/lib.rt:92:5
 copy-bytes-requires : tie.Need-copy-bytes-requires
 copy-bytes-requires c κs = search needs
 
--- src/lib.rt:93:20
 add-t7 : tie.Need-add-t7
 add-t7 c = search needs
 
--- src/lib.rt:80:1
 same-length : tie.Need-same-length
 same-length c = search needs
 
--- src/lib.rt:80:1
 returns-4 : tie.Need-returns-4
 returns-4 c = search piece-stored
 

@@ -9,39 +9,30 @@ use Rattle.primitives.proofs.reserved_bytes.Reads as reserved-bytes-reads
 use Rattle.writer_parts.proofs.put_number.Reads as put-number-reads
 use Rattle.writer_parts.proofs.put_zeros.Reads as put-zeros-reads
 
--- src/lib.rt:218:9
 put-number-requires : tie.Need-put-number-requires
 put-number-requires c κs = search needs
 
--- src/lib.rt:220:25
 enum-told : tie.Need-enum-told
 enum-told c = search needs
 
--- src/lib.rt:221:24
 enum-known-put : tie.Need-enum-known-put
 enum-known-put c = search needs
 
--- src/lib.rt:221:52
 reserved-bytes-requires : tie.Need-reserved-bytes-requires
 reserved-bytes-requires c κs = search needs
 
--- src/lib.rt:221:32
 put-zeros-requires : tie.Need-put-zeros-requires
 put-zeros-requires c κs = search needs
 
--- src/lib.rt:215:1
 same-length : tie.Need-same-length
 same-length c = search needs
 
--- src/lib.rt:215:1
 returns : tie.Need-returns
 returns c = search (number-behind, number-first)
 
--- src/lib.rt:215:1
 same-length-2 : tie.Need-same-length-2
 same-length-2 c = search needs
 
--- src/lib.rt:215:1
 returns-2 : tie.Need-returns-2
 returns-2 c = search (number-behind, number-first)
 

@@ -8,39 +8,30 @@ use Rattle.primitives.proofs.padding_to_8.Reads as padding-to-8-reads
 use Rattle.writer_parts.proofs.put_piece.Reads as put-piece-reads
 use Rattle.writer_parts.proofs.put_zeros.Reads as put-zeros-reads
 
--- src/lib.rt:347:9
 put-piece-requires : tie.Need-put-piece-requires
 put-piece-requires c κs = search needs
 
--- src/lib.rt:349:25
 enum-told : tie.Need-enum-told
 enum-told c = search needs
 
--- src/lib.rt:350:24
 enum-known-put : tie.Need-enum-known-put
 enum-known-put c = search needs
 
--- src/lib.rt:350:52
 padding-to-8-requires : tie.Need-padding-to-8-requires
 padding-to-8-requires c κs = search needs
 
--- src/lib.rt:350:32
 put-zeros-requires : tie.Need-put-zeros-requires
 put-zeros-requires c κs = search needs
 
--- src/lib.rt:343:1
 same-length : tie.Need-same-length
 same-length c = search needs
 
--- src/lib.rt:343:1
 returns : tie.Need-returns
 returns c = search (piece-behind, piece-first)
 
--- src/lib.rt:343:1
 same-length-2 : tie.Need-same-length-2
 same-length-2 c = search needs
 
--- src/lib.rt:343:1
 returns-2 : tie.Need-returns-2
 returns-2 c = search (piece-behind, piece-first)
 

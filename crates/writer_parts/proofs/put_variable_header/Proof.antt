@@ -7,51 +7,39 @@ use Rattle.writer_parts.proofs.put_variable_header.Lts as lts
 use Rattle.primitives.proofs.nibbles_of.Reads as nibbles-of-reads
 use Rattle.writer_parts.proofs.put_header.Reads as put-header-reads
 
--- src/lib.rt:151:9
 put-header-requires : tie.Need-put-header-requires
 put-header-requires c κs = search needs
 
--- src/lib.rt:151:9
 same-length : tie.Need-same-length
 same-length c = search needs
 
--- src/lib.rt:151:9
 returns : tie.Need-returns
 returns c = search (sequence-put, string-put, no-padding, past-padding, no-charset, past-charset)
 
--- src/lib.rt:160:17
 nibbles-of-requires : tie.Need-nibbles-of-requires
 nibbles-of-requires c κs = search needs
 
--- src/lib.rt:161:17
 cast-put-header : tie.Need-cast-put-header
 cast-put-header c = search needs
 
--- src/lib.rt:155:22
 put-header-requires-2 : tie.Need-put-header-requires-2
 put-header-requires-2 c κs = search needs
 
--- src/lib.rt:147:1
 same-length-2 : tie.Need-same-length-2
 same-length-2 c = search needs
 
--- src/lib.rt:147:1
 returns-2 : tie.Need-returns-2
 returns-2 c = search (sequence-put, string-put, no-padding, past-padding, no-charset, past-charset)
 
--- src/lib.rt:147:1
 returns-3 : tie.Need-returns-3
 returns-3 c = search (sequence-put, string-put, no-padding, past-padding, no-charset, past-charset)
 
--- src/lib.rt:147:1
 returns-4 : tie.Need-returns-4
 returns-4 c = search (sequence-put, string-put, no-padding, past-padding, no-charset, past-charset)
 
--- src/lib.rt:147:1
 returns-5 : tie.Need-returns-5
 returns-5 c = search (sequence-put, string-put, no-padding, past-padding, no-charset, past-charset)
 
--- src/lib.rt:147:1
 returns-6 : tie.Need-returns-6
 returns-6 c = search (sequence-put, string-put, no-padding, past-padding, no-charset, past-charset)
 

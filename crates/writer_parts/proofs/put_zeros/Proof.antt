@@ -18,47 +18,36 @@ Inv-loop out₀ at n i₀ out i = (i ≤ n) × (out ≡ sets out₀ at (zeros i)
 abbrev μ-loop : tie.MeasureT-loop
 μ-loop out₀ at n i₀ out i = n - i
 
--- src/lib.rt:56:8
 room-requires : tie.Need-room-requires Inv-loop μ-loop
 room-requires c κs = search needs
 
--- src/lib.rt:57:9
 returns : tie.Need-returns Inv-loop μ-loop
 returns c = search zeros-full
 
--- src/lib.rt:60:5
 loop-holds : tie.Need-loop-holds Inv-loop μ-loop
 loop-holds c = (omega arith, zeros-begun _ _ _ refl)
 
--- src/lib.rt:61:13
 add-out : tie.Need-add-out Inv-loop μ-loop
 add-out c = search needs
 
--- src/lib.rt:61:9
 slice-write-out : tie.Need-slice-write-out Inv-loop μ-loop
 slice-write-out c = omega (arith, ap length ((c .before .loop) .inv .1), length-sets ((c .before .before .before .before .before) .args .out .now) ((c .before .before .before .before .before) .args .at) (zeros ((c .before .loop) .i)))
 
--- src/lib.rt:62:9
 add-i : tie.Need-add-i Inv-loop μ-loop
 add-i c = search needs
 
--- src/lib.rt:60:5
 loop-less : tie.Need-loop-less Inv-loop μ-loop
 loop-less c = search needs
 
--- src/lib.rt:60:5
 loop-again : tie.Need-loop-again Inv-loop μ-loop
 loop-again c = (omega arith, zeros-next _ _ _ ((c .before .loop) .inv .1))
 
--- src/lib.rt:64:20
 add-t5 : tie.Need-add-t5 Inv-loop μ-loop
 add-t5 c = search needs
 
--- src/lib.rt:53:1
 same-length : tie.Need-same-length Inv-loop μ-loop
 same-length c = ap length ((c .before .loop) .inv .1) ∙ simp length-sets
 
--- src/lib.rt:53:1
 returns-2 : tie.Need-returns-2 Inv-loop μ-loop
 returns-2 c = search zeros-stored
 
