@@ -14,10 +14,11 @@ use Rattle.format.specs.Message.{message, memberBytes, nameBytes, offsetWidth, 
 use Rattle.format.specs.Table.{Found, found, bad, Walk, andThen, membersAt}
 use Rattle.format.proofs.Booleans.{and-both}
 use Rattle.format.proofs.Storable.{Facts, all-facts}
-use Rattle.rows.specs.Entries.{memberAt, MemberInside, memberNameLength, fromMember}
+use Rattle.rows.specs.Entries.{memberAt, MemberInside, MemberIfKnown, memberNameLength, fromMember}
 use Rattle.rows.specs.declared.Member.{Member}
 use Rattle.rows.specs.declared.Member.the-variants.{Named, Unnamed}
 use Rattle.rows.proofs.Decode.{membersAt-entry, named-inside}
+use Rattle.rows.proofs.Known.{claim-of-members}
 use Rattle.writer_parts.specs.Places.{Places, PlacesFrom, Inside, Stands}
 use Rattle.writer_parts.specs.declared.Placed.{Placed}
 use Rattle.writer_parts.specs.declared.Placed.the-variants.{Behind, Full}
@@ -152,6 +153,13 @@ module _ (e s a o : ℕ) (b out : List ℕ) {y : Placed} {out₁ : List ℕ} (h 
         go bad q = unfold PutsFoundMembers andThen in tt
     type-put bad k l rest u out′ v = unfold PutsFoundMembers in tt
 
+-- a member whose row is read again: nothing is said where the row is unknown
+known-members : (rd : Walk Datatype) (table pool : List ℕ) (e s a k r p : ℕ) (x : Put) (out out′ : List ℕ) {m : Member} → 0 < k → MemberIfKnown (memberAt table pool r p) m
+    → (m ≡ memberAt table pool r p → PutsMembers e s a (membersAt rd table pool k r p) x out out′) → PutsMembers e s a (membersAt rd table pool k r p) x out out′
+known-members rd table pool e s a (suc k) r p x out out′ {m = m} h i c =
+    claim-of-members table pool r p (λ y. PutsMembers e s a y x out out′) (record { puts = unfold PutsFoundMembers in tt }) rd k m i (λ q. rw (membersAt-entry table pool k r p rd, ← q) at (c q))
+known-members rd table pool e s a zero r p x out out′ h i c = absurd (omega arith)
+
 -- ---- the loop
 
 pub record MembersLeft (rd : Walk Datatype) (table pool : List ℕ) (e s count row place at : ℕ) (out₀ : List ℕ) (k r p a : ℕ) (out : List ℕ) : Type 0 where
@@ -168,24 +176,27 @@ module _ {rd : Walk Datatype} {table pool : List ℕ} {e s count row place at : 
         let z : k ≡ 0 = omega arith in
         i .rest _ out (rw z (record { puts = unfold PutsFoundMembers membersAt memberBytes in λ g c. stands [] r p a none-placed refl }))
 
-    module _ (h : 0 < k) {m : Member} (q : m ≡ memberAt table pool r p) where
+    module _ (h : 0 < k) {m : Member} (j : MemberIfKnown (memberAt table pool r p) m) where
+      known : (x : Put) (out′ : List ℕ) → (m ≡ memberAt table pool r p → PutsMembers e s a (membersAt rd table pool k r p) x out out′) → PutsMembers e s at (membersAt rd table pool count row place) x out₀ out′
+      known x out′ c = i .rest x out′ (known-members rd table pool e s a k r p x out out′ h j c)
+
       pub members-unnamed : m ≡ Unnamed → PutsMembers e s at (membersAt rd table pool count row place) Lost out₀ out
-      members-unnamed f = i .rest Lost out (rw (members-none rd table pool r p k h q f) (record { puts = unfold PutsFoundMembers in tt }))
+      members-unnamed f = known Lost out (λ q. rw (members-none rd table pool r p k h q f) (record { puts = unfold PutsFoundMembers in tt }))
 
       module _ {o n : ℕ} (f : m ≡ Named o n) {y : Placed} {out₁ : List ℕ} (g : PlacesFrom pool p n (headBytes e s (take n (drop p pool)) o) a y out out₁) where
         pub members-full : MemberInside m (length table) (length pool) r p (memberNameLength m) → y ≡ Full → PutsMembers e s at (membersAt rd table pool count row place) Lost out₀ out₁
         members-full d v =
             let b = named-inside (length table) (length pool) r p f d in
-            i .rest Lost out₁ (rw (members-as rd table pool r p k h q f) (record { puts = head-lost e s a o (take n (drop p pool)) out (g .places (omega (arith, b .1))) v (rd (r + 1) (p + n)) (membersAt rd table pool (k - 1)) out₁ }))
+            known Lost out₁ (λ q. rw (members-as rd table pool r p k h q f) (record { puts = head-lost e s a o (take n (drop p pool)) out (g .places (omega (arith, b .1))) v (rd (r + 1) (p + n)) (membersAt rd table pool (k - 1)) out₁ }))
 
-        module _ {d : ℕ} (v : y ≡ Behind d) {z : Put} {out₂ : List ℕ} (j : PutsType e d (rd (r + 1) (p + n)) z out₁ out₂) where
+        module _ {d : ℕ} (v : y ≡ Behind d) {z : Put} {out₂ : List ℕ} (t : PutsType e d (rd (r + 1) (p + n)) z out₁ out₂) where
           pub members-lost : z ≡ Lost → PutsMembers e s at (membersAt rd table pool count row place) Lost out₀ out₂
-          members-lost l = i .rest Lost out₂ (rw (members-as rd table pool r p k h q f) (record { puts = type-lost e s a o (take n (drop p pool)) out (g .places (g .inside _ v)) v (rd (r + 1) (p + n)) j l (membersAt rd table pool (k - 1)) out₂ }))
+          members-lost l = known Lost out₂ (λ q. rw (members-as rd table pool r p k h q f) (record { puts = type-lost e s a o (take n (drop p pool)) out (g .places (g .inside _ v)) v (rd (r + 1) (p + n)) t l (membersAt rd table pool (k - 1)) out₂ }))
 
           pub members-next : {w : Written} → z ≡ At w → length out₁ ≡ length out → length out₂ ≡ length out₁
               → MembersLeft rd table pool e s count row place at out₀ (k - 1) (w .row) (w .place) (w .at) out₂
           members-next l b c =
               record {
                 long = c ∙ b ∙ i .long;
-                rest = λ x o′ u. i .rest x o′ (rw (members-as rd table pool r p k h q f) (record { puts = type-put e s a o (take n (drop p pool)) out (g .places (g .inside _ v)) v (rd (r + 1) (p + n)) j l (membersAt rd table pool (k - 1)) x o′ u }));
+                rest = λ x o′ u. known x o′ (λ q. rw (members-as rd table pool r p k h q f) (record { puts = type-put e s a o (take n (drop p pool)) out (g .places (g .inside _ v)) v (rd (r + 1) (p + n)) t l (membersAt rd table pool (k - 1)) x o′ u }));
               }

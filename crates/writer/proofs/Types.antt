@@ -16,10 +16,11 @@ use Rattle.format.specs.Table.{Found, found, bad, Walk, andThen, typeAt, member
 use Rattle.format.proofs.Booleans.{and-both}
 use Rattle.format.proofs.Bytes.{bytes-take, bytes-drop, dimension-bytes-back, length-dimensionsFrom}
 use Rattle.format.proofs.Storable.{Facts, all-facts}
-use Rattle.rows.specs.Entries.{entryAt, EntryInside, fromEntry, leafType}
+use Rattle.rows.specs.Entries.{entryAt, EntryInside, EntryIfKnown, fromEntry, leafType}
 use Rattle.rows.specs.declared.Entry.{Entry}
 use Rattle.rows.specs.declared.Entry.the-variants.{Leaf, Compound, Enumeration, VariableLength, Array, Unknown}
 use Rattle.rows.proofs.Decode.{typeAt-entry, array-inside}
+use Rattle.rows.proofs.Known.{claim-of-type}
 use Rattle.writer_parts.specs.Places.{Places, PlacesFrom, Inside, Stands}
 use Rattle.writer_parts.specs.Leaf.{PutsLeaf}
 use Rattle.writer_parts.specs.Enum.{PutsEnumOf, PutsEnum}
@@ -29,7 +30,7 @@ use Rattle.writer_parts.specs.declared.Put.{Put}
 use Rattle.writer_parts.specs.declared.Put.the-variants.{At, Lost}
 use Rattle.writer_parts.specs.declared.Written.{Written}
 use Rattle.writer_parts.proofs.Placing.{stands, lost, stands-behind, lost-behind, row-known, placed, unplaced, where-fits}
-use Rattle.writer_parts.proofs.Leaves.{leaf-codes, leaf-message}
+use Rattle.writer_parts.proofs.Leaves.{leaf-class, leaf-codes, leaf-message}
 use Rattle.writer_parts.proofs.Enums.{enum-count}
 use Rattle.table.proofs.Checking.{all-bytes}
 use Rattle.table.specs.Survey.{surveyOf}
@@ -95,9 +96,18 @@ module _ (levels e at : ℕ) (table pool : List ℕ) (r p : ℕ) (out : List ℕ
   pub type-shallow : levels ≡ 0 → PutsType e at (typeAt levels table pool r p) Lost out out
   type-shallow h = rw h (record { puts = unfold PutsFound typeAt in tt })
 
-  module _ (h : levels ≡ 0 → ⊥) {y : Entry} (q : y ≡ entryAt table pool r p) where
-    by-entry : {z : Entry} → y ≡ z → typeAt levels table pool r p ≡ fromEntry (typeAt (levels - 1) table pool) table pool r p z
-    by-entry {z = z} i = go levels h
+  module _ (h : levels ≡ 0 → ⊥) {y : Entry} (known : EntryIfKnown (entryAt table pool r p) y) where
+    -- nothing is said where the row that is read again is unknown; elsewhere its entry is `y`
+    where-known : {x : Put} {out₁ : List ℕ} → (y ≡ entryAt table pool r p → PutsType e at (typeAt levels table pool r p) x out out₁) → PutsType e at (typeAt levels table pool r p) x out out₁
+    where-known {x = x} {out₁ = out₁} c = go levels h c
+      where
+        go : (l : ℕ) → (l ≡ 0 → ⊥) → (y ≡ entryAt table pool r p → PutsType e at (typeAt l table pool r p) x out out₁) → PutsType e at (typeAt l table pool r p) x out out₁
+        go zero n c = absurd (n refl)
+        go (suc k) n c =
+            claim-of-type table pool r p (λ t. PutsType e at t x out out₁) (record { puts = unfold PutsFound in tt }) k y known (λ q. rw (typeAt-entry k table pool r p, ← q) at (c q))
+
+    by-entry : y ≡ entryAt table pool r p → {z : Entry} → y ≡ z → typeAt levels table pool r p ≡ fromEntry (typeAt (levels - 1) table pool) table pool r p z
+    by-entry q {z = z} i = go levels h
       where
         go : (l : ℕ) → (l ≡ 0 → ⊥) → typeAt l table pool r p ≡ fromEntry (typeAt (l - 1) table pool) table pool r p z
         go zero n = absurd (n refl)
@@ -106,12 +116,13 @@ module _ (levels e at : ℕ) (table pool : List ℕ) (r p : ℕ) (out : List ℕ
             typeAt-entry k table pool r p ∙ ap (fromEntry (typeAt k table pool) table pool r p) (sym q ∙ i) ∙ rw j
 
     pub type-unknown : y ≡ Unknown → PutsType e at (typeAt levels table pool r p) Lost out out
-    type-unknown i = rw (by-entry i) (record { puts = unfold PutsFound fromEntry in tt })
+    type-unknown i = where-known λ q. rw (by-entry q i) (record { puts = unfold PutsFound fromEntry in tt })
 
-    pub type-leaf : {c n l x : ℕ} {z : Put} {out′ : List ℕ} → y ≡ Leaf c n l x → PutsLeaf table pool r p c n l x at z out out′ → PutsType e at (typeAt levels table pool r p) z out out′
+    pub type-leaf : {c n l x : ℕ} {z : Put} {out′ : List ℕ} → y ≡ Leaf c n l x → (c ≤ 7 → PutsLeaf table pool r p c n l x at z out out′) → PutsType e at (typeAt levels table pool r p) z out out′
     type-leaf {c = c} i k =
-        rw (by-entry i)
-        (record { puts = unfold PutsFound fromEntry in λ s d. rw (leaf-message table pool r p q i e s, ← add-one r) (k .puts (leaf-codes table pool r p q i e s)) })
+        where-known λ q.
+        rw (by-entry q i)
+        (record { puts = unfold PutsFound fromEntry in λ s d. rw (leaf-message table pool r p q i e s, ← add-one r) (k (leaf-class table pool r p q i) .puts (leaf-codes table pool r p q i e s)) })
 
     -- ---- a compound
 
@@ -130,7 +141,7 @@ module _ (levels e at : ℕ) (table pool : List ℕ) (r p : ℕ) (out : List ℕ
 
       as-compound : {x : Put} {out₂ : List ℕ} → PutsFound e at (andThen (membersAt (typeAt (levels - 1) table pool) table pool k (r + 1) p) (λ ms r′ p′. found (compound n ms) r′ p′)) x out out₂
           → PutsType e at (typeAt levels table pool r p) x out out₂
-      as-compound f = rw (by-entry i) (unfold fromEntry in rw (← add-one r) (record { puts = f }))
+      as-compound f = where-known λ q. rw (by-entry q i) (unfold fromEntry in rw (← add-one r) (record { puts = f }))
 
       pub type-compound-full : w ≡ Full → PutsType e at (typeAt levels table pool r p) Lost out out₁
       type-compound-full f =
@@ -161,7 +172,7 @@ module _ (levels e at : ℕ) (table pool : List ℕ) (r p : ℕ) (out : List ℕ
 
       as-variable : {x : Put} {out₂ : List ℕ} → PutsFound e at (andThen (typeAt (levels - 1) table pool (r + 1) p) (λ t r′ p′. found (variableLength i a c t) r′ p′)) x out out₂
           → PutsType e at (typeAt levels table pool r p) x out out₂
-      as-variable f = rw (by-entry j) (unfold fromEntry in rw (← add-one r) (record { puts = f }))
+      as-variable f = where-known λ q. rw (by-entry q j) (unfold fromEntry in rw (← add-one r) (record { puts = f }))
 
       pub type-variable-full : w ≡ Full → PutsType e at (typeAt levels table pool r p) Lost out out₁
       type-variable-full f =
@@ -194,22 +205,23 @@ module _ (levels e at : ℕ) (table pool : List ℕ) (r p : ℕ) (out : List ℕ
           rw (← m, array-body e k p pool small (b .1), ← append-assoc) (s t r′ p′ refl (g (rw l at (v .0)) .places (omega (arith, b .1))) (v .1) (array-carried ds t e d))
       array-is bad f x out₂ s = tt
 
-      array-found : typeAt levels table pool r p ≡ andThen (typeAt (levels - 1) table pool (r + 1) (p + k * 4)) (λ t r′ p′. found (array (dimensionsFrom k (take (k * 4) (drop p pool))) t) r′ p′)
-      array-found = by-entry i ∙ (unfold fromEntry in rw (← add-one r))
+      array-found : y ≡ entryAt table pool r p → typeAt levels table pool r p ≡ andThen (typeAt (levels - 1) table pool (r + 1) (p + k * 4)) (λ t r′ p′. found (array (dimensionsFrom k (take (k * 4) (drop p pool))) t) r′ p′)
+      array-found q = by-entry q i ∙ (unfold fromEntry in rw (← add-one r))
 
       as-array : {x : Put} {out₂ : List ℕ}
-          → PutsFound e at (andThen (typeAt (levels - 1) table pool (r + 1) (p + k * 4)) (λ t r′ p′. found (array (dimensionsFrom k (take (k * 4) (drop p pool))) t) r′ p′)) x out out₂
+          → ((typeAt levels table pool r p ≡ andThen (typeAt (levels - 1) table pool (r + 1) (p + k * 4)) (λ t r′ p′. found (array (dimensionsFrom k (take (k * 4) (drop p pool))) t) r′ p′))
+          → PutsFound e at (andThen (typeAt (levels - 1) table pool (r + 1) (p + k * 4)) (λ t r′ p′. found (array (dimensionsFrom k (take (k * 4) (drop p pool))) t) r′ p′)) x out out₂)
           → PutsType e at (typeAt levels table pool r p) x out out₂
-      as-array f = rw array-found (record { puts = f })
+      as-array f = where-known λ q. rw (array-found q) (record { puts = f (array-found q) })
 
       pub type-array-full : w ≡ Full → PutsType e at (typeAt levels table pool r p) Lost out out₁
-      type-array-full f = as-array (array-is _ array-found Lost out₁ (λ t r′ p′ o h s d. lost-behind (arrayHead e size k p pool) (message e t) r′ p′ at out h f))
+      type-array-full f = as-array (λ j. array-is _ j Lost out₁ (λ t r′ p′ o h s d. lost-behind (arrayHead e size k p pool) (message e t) r′ p′ at out h f))
 
       pub type-array : {b : ℕ} {x : Put} {out₂ : List ℕ} → w ≡ Behind b → PutsType e b (typeAt (levels - 1) table pool (r + 1) (p + k * 4)) x out₁ out₂
           → PutsType e at (typeAt levels table pool r p) x out out₂
       type-array {b = b} {x = x} {out₂ = out₂} f m =
           as-array
-          (array-is _ array-found x out₂ (λ t r′ p′ o h s d.
+          (λ j. array-is _ j x out₂ (λ t r′ p′ o h s d.
           let n : PutsType e b (found t r′ p′) x out₁ out₂ = rw o at m in
           stands-behind (arrayHead e size k p pool) (message e t) r′ p′ at out h f (found-puts n s d)))
 
@@ -242,7 +254,7 @@ module _ (levels e at : ℕ) (table pool : List ℕ) (r p : ℕ) (out : List ℕ
       as-enumeration : {x : Put} {out₂ : List ℕ}
           → PutsFound e at (andThen (typeAt (levels - 1) table pool (r + 1) p) (λ t r₁ p₁. andThen (enumNamesAt table pool k r₁ p₁) (λ ns r₂ p₂. andThen (enumValuesAt pool ns r₂ p₂) (λ ms r₃ p₃. found (enumeration n t ms) r₃ p₃)))) x out out₂
           → PutsType e at (typeAt levels table pool r p) x out out₂
-      as-enumeration f = rw (by-entry i) (unfold fromEntry in rw (← add-one r) (record { puts = f }))
+      as-enumeration f = where-known λ q. rw (by-entry q i) (unfold fromEntry in rw (← add-one r) (record { puts = f }))
 
       pub type-enumeration-full : w ≡ Full → PutsType e at (typeAt levels table pool r p) Lost out out₁
       type-enumeration-full f =

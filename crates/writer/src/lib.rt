@@ -4,8 +4,8 @@ use measure::measure_type;
 use refusal::Refusal;
 use rows::Entry;
 use rows::Member;
-use rows::entry_at;
-use rows::member_at;
+use rows::known_entry_at;
+use rows::known_member_at;
 use table::Checked;
 use table::Surveyed;
 use table::check;
@@ -43,7 +43,7 @@ fn size_at(table: &[u32], pool: &[u8], row: usize, place: usize, levels: usize) 
     }
 }
 
-// The members of a compound of a size, into `out` at a place.
+// The members of a compound of a size, into `out` at a place. Here and in `put_type` a row is not tested again: measuring tested it.
 fn put_members(
     table: &[u32],
     pool: &[u8],
@@ -64,7 +64,7 @@ fn put_members(
     let mut a = at;
     let mut left = count;
     while left > 0 {
-        let member = member_at(table, pool, r, p);
+        let member = known_member_at(table, pool, r, p);
         match member {
             Member::Unnamed => {
                 return Put::Lost;
@@ -120,7 +120,7 @@ fn put_type(
         return Put::Lost;
     }
     let inner = levels - 1;
-    let entry = entry_at(table, pool, row, place);
+    let entry = known_entry_at(table, pool, row, place);
     match entry {
         Entry::Unknown => Put::Lost,
         Entry::Leaf(class, size, length, code) => put_leaf(

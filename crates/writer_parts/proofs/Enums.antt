@@ -13,10 +13,11 @@ use borrow.Author.Tests.{leb-true}
 use Rattle.format.specs.Datatype.{EnumMember, enumValues}
 use Rattle.format.specs.Message.{nameBytes, enumNameBytes}
 use Rattle.format.specs.Table.{Found, found, bad, andThen, enumNamesAt, enumValuesAt, nextPiece}
-use Rattle.rows.specs.Entries.{enumMemberAt, MemberInside, enumMemberNameLength, fromEnumMember}
+use Rattle.rows.specs.Entries.{enumMemberAt, MemberInside, MemberIfKnown, enumMemberNameLength, fromEnumMember}
 use Rattle.rows.specs.declared.Member.{Member}
 use Rattle.rows.specs.declared.Member.the-variants.{Named, Unnamed}
 use Rattle.rows.proofs.Decode.{enumNamesAt-entry, enumNamed-inside}
+use Rattle.rows.proofs.Known.{claim-of-enumNames}
 use Rattle.writer_parts.specs.Enum.{PutsEnum, PutsEnumOf}
 use Rattle.writer_parts.specs.Places.{Places, PlacesFrom, Inside, Stands}
 use Rattle.writer_parts.specs.declared.Placed.{Placed}
@@ -112,6 +113,13 @@ module _ (table pool : List ℕ) (r p : ℕ) where
   names-none (suc k) h q e = enumNamesAt-entry table pool k r p ∙ ap (fromEnumMember (enumNamesAt table pool k) pool r p) (sym q ∙ e)
   names-none zero h q e = absurd (omega arith)
 
+-- a name whose row is read again: nothing is said where the row is unknown
+known-names : (e : ℕ) (table pool : List ℕ) (v a k r p : ℕ) (x : Put) (out out′ : List ℕ) {m : Member} → 0 < k → MemberIfKnown (enumMemberAt table pool r p) m
+    → (m ≡ enumMemberAt table pool r p → Rest e pool v a (enumNamesAt table pool k r p) x out out′) → Rest e pool v a (enumNamesAt table pool k r p) x out out′
+known-names e table pool v a (suc k) r p x out out′ {m = m} h i c =
+    claim-of-enumNames table pool r p (λ y. Rest e pool v a y x out out′) (unfold Rest in tt) k m i (λ q. rw (enumNamesAt-entry table pool k r p, ← q) at (c q))
+known-names e table pool v a zero r p x out out′ h i c = absurd (omega arith)
+
 module _ (e : ℕ) (pool : List ℕ) (v a p n w : ℕ) (out : List ℕ) {y : Placed} {out₁ : List ℕ} (h : PlacesFrom pool p n (nameBytes e (take n (drop p pool))) a y out out₁) where
   rest-next : (z : Found (List (List ℕ × ℕ))) {b : ℕ} → y ≡ Behind b → (x : Put) (out′ : List ℕ) → Rest e pool (v + w) b z x out₁ out′
       → Rest e pool v a (andThen z (λ ns r′ p′. found ((take n (drop p pool), w) ∷ ns) r′ p′)) x out out′
@@ -145,18 +153,21 @@ module _ {e : ℕ} {table pool : List ℕ} {count row place at : ℕ} {out₀ : 
   enum-begun v z = rw z (record { long = refl; some = omega arith; near = omega arith; rest = λ x o h. record { puts = from-rest e pool at x out₀ o (enumNamesAt table pool count row place) h } })
 
   module _ {k r p a v : ℕ} {out : List ℕ} (i : EnumLeft e table pool count row place at out₀ k r p a v out) where
-    module _ (h : 0 < k) {m : Member} (q : m ≡ enumMemberAt table pool r p) where
+    module _ (h : 0 < k) {m : Member} (j : MemberIfKnown (enumMemberAt table pool r p) m) where
+      known : (x : Put) (out′ : List ℕ) → (m ≡ enumMemberAt table pool r p → Rest e pool v a (enumNamesAt table pool k r p) x out out′) → PutsEnum e at table pool count row place x out₀ out′
+      known x out′ c = i .rest x out′ (known-names e table pool v a k r p x out out′ h j c)
+
       pub enum-unnamed : m ≡ Unnamed → PutsEnum e at table pool count row place Lost out₀ out
-      enum-unnamed f = i .rest Lost out (rw (names-none table pool r p k h q f) (unfold Rest in tt))
+      enum-unnamed f = known Lost out (λ q. rw (names-none table pool r p k h q f) (unfold Rest in tt))
 
       module _ {n w : ℕ} (f : m ≡ Named n w) {y : Placed} {out₁ : List ℕ} (g : PlacesFrom pool p n (nameBytes e (take n (drop p pool))) a y out out₁) where
         pub enum-full : MemberInside m (length table) (length pool) r p (enumMemberNameLength m) → y ≡ Full → PutsEnum e at table pool count row place Lost out₀ out₁
         enum-full d s =
             let b = enumNamed-inside (length table) (length pool) r p f d in
-            i .rest Lost out₁ (rw (names-as table pool r p k h q f) (rest-full e pool v a p n w out g (enumNamesAt table pool (k - 1) (r + 1) (p + n)) (omega (arith, b .1)) s out₁))
+            known Lost out₁ (λ q. rw (names-as table pool r p k h q f) (rest-full e pool v a p n w out g (enumNamesAt table pool (k - 1) (r + 1) (p + n)) (omega (arith, b .1)) s out₁))
 
         pub enum-past : length pool - v < w → PutsEnum e at table pool count row place Lost out₀ out₁
-        enum-past s = i .rest Lost out₁ (rw (names-as table pool r p k h q f) (rest-past e pool v a w (take n (drop p pool)) (enumNamesAt table pool (k - 1) (r + 1) (p + n)) s Lost out out₁))
+        enum-past s = known Lost out₁ (λ q. rw (names-as table pool r p k h q f) (rest-past e pool v a w (take n (drop p pool)) (enumNamesAt table pool (k - 1) (r + 1) (p + n)) s Lost out out₁))
 
         pub enum-next : {b : ℕ} → y ≡ Behind b → w ≤ length pool - v → length out₁ ≡ length out → EnumLeft e table pool count row place at out₀ (k - 1) (r + 1) (p + n) b (v + w) out₁
         enum-next s l t =
@@ -164,7 +175,7 @@ module _ {e : ℕ} {table pool : List ℕ} {count row place at : ℕ} {out₀ : 
               long = t ∙ i .long;
               some = let u = i .some in omega arith;
               near = omega (arith, i .near, g .inside _ s);
-              rest = λ x o d. i .rest x o (rw (names-as table pool r p k h q f) (rest-next e pool v a p n w out g (enumNamesAt table pool (k - 1) (r + 1) (p + n)) s x o d));
+              rest = λ x o d. known x o (λ q. rw (names-as table pool r p k h q f) (rest-next e pool v a p n w out g (enumNamesAt table pool (k - 1) (r + 1) (p + n)) s x o d));
             }
 
     -- behind the last name

@@ -12,7 +12,7 @@ use primitives::reserved_bytes;
 use primitives::skipped_bytes;
 use primitives::write_uint;
 use rows::Member;
-use rows::enum_member_at;
+use rows::known_enum_member_at;
 ghost use mathlib.Core.Path.{_≡_};
 ghost use mathlib.Core.Bool.{true};
 ghost use mathlib.Core.List.{_++_};
@@ -440,9 +440,12 @@ pub fn put_leaf(
     out: &mut [u8],
     at: usize,
 ) -> Put
-    requires { ⌜ (row * 16 + 16 ≤ length (now table)) × ((class ≤ 7) × Inside (now pool) place n) ⌝ }
-    ensures { λ r. ⌜ PutsLeaf (now (table .entry)) (now (pool .entry)) row place class size n code at r (now (out .entry)) (now (out .exit)) ⌝ }
+    requires { ⌜ (row * 16 + 16 ≤ length (now table)) × Inside (now pool) place n ⌝ }
+    ensures { λ r. ⌜ (class ≤ 7 → PutsLeaf (now (table .entry)) (now (pool .entry)) row place class size n code at r (now (out .entry)) (now (out .exit))) ⌝ }
 {
+    if class > 7 {
+        return Put::Lost;
+    }
     let flags = leaf_flags(class, code, table[row * 16 + 6], n);
     let headed = put_header(out, at, class as u8, 1, flags, leaf_bits(class, size), size);
     match headed {
@@ -480,7 +483,7 @@ pub fn put_enum_members(
     let mut values: usize = 0;
     let mut left = count;
     while left > 0 {
-        let member = enum_member_at(table, pool, r, p);
+        let member = known_enum_member_at(table, pool, r, p);
         match member {
             Member::Unnamed => {
                 return Put::Lost;

@@ -4,7 +4,6 @@ use borrow.Author.Needs.{needs}
 use lib.ListN.{getD}
 use Rattle.format.specs.Table.{typeAt}
 use Rattle.rows.proofs.Decode.{named-inside, leaf-inside, compound-inside, enumeration-inside, variableLength-inside, array-inside}
-use Rattle.writer_parts.proofs.Leaves.{leaf-class}
 use Rattle.writer.proofs.Compounds.{MembersLeft, members-begun, members-ended, members-unnamed, members-full, members-lost, members-next}
 use Rattle.writer.proofs.Types.{type-shallow, type-unknown, type-leaf, type-compound-full, type-compound, type-enumeration-full, type-enumeration-lost, type-enumeration, type-variable-full, type-variable, type-array-full, type-array}
 use Prim.Native.Nat.{ℕ, _<_}
@@ -16,8 +15,8 @@ use Rattle.writer.proofs.+put_members+put_type.Lts-put_members as put-m
 use Rattle.writer.proofs.put_type.Reads as put-type
 use Rattle.writer.proofs.put_type.Kinds as put-type-kinds
 use Rattle.writer.proofs.+put_members+put_type.Lts-put_type as put-type-lts
-use Rattle.rows.proofs.entry_at.Reads as entry-at-reads
-use Rattle.rows.proofs.member_at.Reads as member-at-reads
+use Rattle.rows.proofs.known_entry_at.Reads as known-entry-at-reads
+use Rattle.rows.proofs.known_member_at.Reads as known-member-at-reads
 use Rattle.writer.proofs.size_at.Reads as size-at-reads
 use Rattle.writer_parts.proofs.put_array_head.Reads as put-array-head-reads
 use Rattle.writer_parts.proofs.put_enum_members.Reads as put-enum-members-reads
@@ -58,16 +57,16 @@ put-members-μ-loop table pool row place count size levels edition out₀ at r�
     left
 
 abbrev put-members-calls : ℕ → put-members-lts.Claims
-put-members-calls t = (member-at-reads.Asked, member-at-reads.Learnt, put-member-head-reads.Asked, put-member-head-reads.Learnt, put-type-below t, put-type.Post)
+put-members-calls t = (known-member-at-reads.Asked, known-member-at-reads.Learnt, put-member-head-reads.Asked, put-member-head-reads.Learnt, put-type-below t, put-type.Post)
 
 abbrev put-type-calls : ℕ → put-type-lts.Claims
-put-type-calls t = (entry-at-reads.Asked, entry-at-reads.Learnt, put-leaf-reads.Asked, put-leaf-reads.Learnt, put-group-header-reads.Asked, put-group-header-reads.Learnt, put-members-below t, put-members.Post, put-type-below t, put-type.Post, put-enum-members-reads.Asked, put-enum-members-reads.Learnt, put-variable-header-reads.Asked, put-variable-header-reads.Learnt, size-at-reads.Asked, size-at-reads.Learnt, put-array-head-reads.Asked, put-array-head-reads.Learnt)
+put-type-calls t = (known-entry-at-reads.Asked, known-entry-at-reads.Learnt, put-leaf-reads.Asked, put-leaf-reads.Learnt, put-group-header-reads.Asked, put-group-header-reads.Learnt, put-members-below t, put-members.Post, put-type-below t, put-type.Post, put-enum-members-reads.Asked, put-enum-members-reads.Learnt, put-variable-header-reads.Asked, put-variable-header-reads.Learnt, size-at-reads.Asked, size-at-reads.Learnt, put-array-head-reads.Asked, put-array-head-reads.Learnt)
 
 put-members-loop-holds : (t : ℕ) → put-members-lts.Need-loop-holds (put-members-calls t) (put-members-at t) put-members.Post put-members-Inv-loop put-members-μ-loop
 put-members-loop-holds t c = search members-begun
 
-put-members-member-at-requires : (t : ℕ) → put-members-lts.Need-member-at-requires (put-members-calls t) (put-members-at t) put-members.Post put-members-Inv-loop put-members-μ-loop
-put-members-member-at-requires t c κs = search needs
+put-members-known-member-at-requires : (t : ℕ) → put-members-lts.Need-known-member-at-requires (put-members-calls t) (put-members-at t) put-members.Post put-members-Inv-loop put-members-μ-loop
+put-members-known-member-at-requires t c κs = search needs
 
 put-members-enum-told : (t : ℕ) → put-members-lts.Need-enum-told (put-members-calls t) (put-members-at t) put-members.Post put-members-Inv-loop put-members-μ-loop
 put-members-enum-told t c = search needs
@@ -100,10 +99,10 @@ put-members-cast-from : (t : ℕ) → put-members-lts.Need-cast-from (put-member
 put-members-cast-from t c = search needs
 
 put-members-add-from : (t : ℕ) → put-members-lts.Need-add-from (put-members-calls t) (put-members-at t) put-members.Post put-members-Inv-loop put-members-μ-loop
-put-members-add-from t c = omega (arith, named-inside _ _ _ _ ((c .before .before .before .before .before .before .before .before .member) .given .1) ((c .before .before .before .before .before .before .before .before .before .before .member-at) .ensures .1))
+put-members-add-from t c = omega (arith, named-inside _ _ _ _ ((c .before .before .before .before .before .before .before .before .member) .given .1) ((c .before .before .before .before .before .before .before .before .before .before .known-member-at) .ensures .1))
 
 put-members-add-put-type : (t : ℕ) → put-members-lts.Need-add-put-type (put-members-calls t) (put-members-at t) put-members.Post put-members-Inv-loop put-members-μ-loop
-put-members-add-put-type t c = omega (arith, named-inside _ _ _ _ ((c .before .before .before .before .before .before .before .before .member) .given .1) ((c .before .before .before .before .before .before .before .before .before .before .member-at) .ensures .1))
+put-members-add-put-type t c = omega (arith, named-inside _ _ _ _ ((c .before .before .before .before .before .before .before .before .member) .given .1) ((c .before .before .before .before .before .before .before .before .before .before .known-member-at) .ensures .1))
 
 put-members-put-type-requires : (t : ℕ) → put-members-lts.Need-put-type-requires (put-members-calls t) (put-members-at t) put-members.Post put-members-Inv-loop put-members-μ-loop
 put-members-put-type-requires t c κs = search needs
@@ -141,8 +140,8 @@ put-type-returns t c = search type-shallow
 put-type-sub-inner : (t : ℕ) → put-type-lts.Need-sub-inner (put-type-calls t) (put-type-at t) put-type.Post
 put-type-sub-inner t c = search needs
 
-put-type-entry-at-requires : (t : ℕ) → put-type-lts.Need-entry-at-requires (put-type-calls t) (put-type-at t) put-type.Post
-put-type-entry-at-requires t c κs = search needs
+put-type-known-entry-at-requires : (t : ℕ) → put-type-lts.Need-known-entry-at-requires (put-type-calls t) (put-type-at t) put-type.Post
+put-type-known-entry-at-requires t c κs = search needs
 
 put-type-enum-told : (t : ℕ) → put-type-lts.Need-enum-told (put-type-calls t) (put-type-at t) put-type.Post
 put-type-enum-told t c = search needs
@@ -151,7 +150,7 @@ put-type-enum-known-entry : (t : ℕ) → put-type-lts.Need-enum-known-entry (pu
 put-type-enum-known-entry t c = search needs
 
 put-type-put-leaf-requires : (t : ℕ) → put-type-lts.Need-put-leaf-requires (put-type-calls t) (put-type-at t) put-type.Post
-put-type-put-leaf-requires t c κs = (leaf-inside _ _ _ _ ((c .before .before .before .before .entry-at) .ensures .1) ((c .before .before .entry) .given .1) .0, (leaf-class _ _ _ _ ((c .before .before .before .before .entry-at) .ensures .0) ((c .before .before .entry) .given .1), leaf-inside _ _ _ _ ((c .before .before .before .before .entry-at) .ensures .1) ((c .before .before .entry) .given .1) .1))
+put-type-put-leaf-requires t c κs = leaf-inside _ _ _ _ ((c .before .before .before .before .known-entry-at) .ensures .1) ((c .before .before .entry) .given .1)
 
 put-type-enum-known-entry-2 : (t : ℕ) → put-type-lts.Need-enum-known-entry-2 (put-type-calls t) (put-type-at t) put-type.Post
 put-type-enum-known-entry-2 t c = search needs
@@ -166,7 +165,7 @@ put-type-enum-known-headed : (t : ℕ) → put-type-lts.Need-enum-known-headed (
 put-type-enum-known-headed t c = search needs
 
 put-type-add-put-members : (t : ℕ) → put-type-lts.Need-add-put-members (put-type-calls t) (put-type-at t) put-type.Post
-put-type-add-put-members t c = omega (arith, compound-inside _ _ _ _ ((c .before .before .before .before .before .before .before .before .before .before .entry-at) .ensures .1) ((c .before .before .before .before .before .before .before .before .entry2) .given .1))
+put-type-add-put-members t c = omega (arith, compound-inside _ _ _ _ ((c .before .before .before .before .before .before .before .before .before .before .known-entry-at) .ensures .1) ((c .before .before .before .before .before .before .before .before .entry2) .given .1))
 
 put-type-put-members-requires : (t : ℕ) → put-type-lts.Need-put-members-requires (put-type-calls t) (put-type-at t) put-type.Post
 put-type-put-members-requires t c κs = search needs
@@ -184,7 +183,7 @@ put-type-enum-known-headed-2 : (t : ℕ) → put-type-lts.Need-enum-known-headed
 put-type-enum-known-headed-2 t c = search needs
 
 put-type-add-put-type : (t : ℕ) → put-type-lts.Need-add-put-type (put-type-calls t) (put-type-at t) put-type.Post
-put-type-add-put-type t c = omega (arith, enumeration-inside _ _ _ _ ((c .before .before .before .before .before .before .before .before .before .before .entry-at) .ensures .1) ((c .before .before .before .before .before .before .before .before .entry3) .given .1))
+put-type-add-put-type t c = omega (arith, enumeration-inside _ _ _ _ ((c .before .before .before .before .before .before .before .before .before .before .known-entry-at) .ensures .1) ((c .before .before .before .before .before .before .before .before .entry3) .given .1))
 
 put-type-put-type-requires : (t : ℕ) → put-type-lts.Need-put-type-requires (put-type-calls t) (put-type-at t) put-type.Post
 put-type-put-type-requires t c κs = search needs
@@ -211,7 +210,7 @@ put-type-enum-known-headed-3 : (t : ℕ) → put-type-lts.Need-enum-known-headed
 put-type-enum-known-headed-3 t c = search needs
 
 put-type-add-put-type-2 : (t : ℕ) → put-type-lts.Need-add-put-type-2 (put-type-calls t) (put-type-at t) put-type.Post
-put-type-add-put-type-2 t c = omega (arith, variableLength-inside _ _ _ _ ((c .before .before .before .before .before .before .before .before .before .before .entry-at) .ensures .1) ((c .before .before .before .before .before .before .before .before .entry4) .given .1))
+put-type-add-put-type-2 t c = omega (arith, variableLength-inside _ _ _ _ ((c .before .before .before .before .before .before .before .before .before .before .known-entry-at) .ensures .1) ((c .before .before .before .before .before .before .before .before .entry4) .given .1))
 
 put-type-put-type-requires-2 : (t : ℕ) → put-type-lts.Need-put-type-requires-2 (put-type-calls t) (put-type-at t) put-type.Post
 put-type-put-type-requires-2 t c κs = search needs
@@ -238,10 +237,10 @@ put-type-mul-from : (t : ℕ) → put-type-lts.Need-mul-from (put-type-calls t) 
 put-type-mul-from t c = search needs
 
 put-type-add-from : (t : ℕ) → put-type-lts.Need-add-from (put-type-calls t) (put-type-at t) put-type.Post
-put-type-add-from t c = omega (arith, array-inside _ _ _ _ ((c .before .before .before .before .before .before .before .before .before .before .before .entry-at) .ensures .1) ((c .before .before .before .before .before .before .before .before .before .entry5) .given .1))
+put-type-add-from t c = omega (arith, array-inside _ _ _ _ ((c .before .before .before .before .before .before .before .before .before .before .before .known-entry-at) .ensures .1) ((c .before .before .before .before .before .before .before .before .before .entry5) .given .1))
 
 put-type-add-put-type-3 : (t : ℕ) → put-type-lts.Need-add-put-type-3 (put-type-calls t) (put-type-at t) put-type.Post
-put-type-add-put-type-3 t c = omega (arith, array-inside _ _ _ _ ((c .before .before .before .before .before .before .before .before .before .before .before .entry-at) .ensures .1) ((c .before .before .before .before .before .before .before .before .before .entry5) .given .1))
+put-type-add-put-type-3 t c = omega (arith, array-inside _ _ _ _ ((c .before .before .before .before .before .before .before .before .before .before .before .known-entry-at) .ensures .1) ((c .before .before .before .before .before .before .before .before .before .entry5) .given .1))
 
 put-type-put-type-requires-3 : (t : ℕ) → put-type-lts.Need-put-type-requires-3 (put-type-calls t) (put-type-at t) put-type.Post
 put-type-put-type-requires-3 t c κs = search needs
@@ -283,7 +282,7 @@ put-type-same-length-6 : (t : ℕ) → put-type-lts.Need-same-length-6 (put-type
 put-type-same-length-6 t c = search needs
 
 put-type-returns-8 : (t : ℕ) → put-type-lts.Need-returns-8 (put-type-calls t) (put-type-at t) put-type.Post
-put-type-returns-8 t c = type-enumeration _ _ _ _ _ _ _ _ ((c .before .before .before .before .before .before .before .before .before .before .before .before .before .before .before .before .before .before .before .before .before .before .if1) .left) ((c .before .before .before .before .before .before .before .before .before .before .before .before .before .before .before .before .before .before .before .before .before .entry-at) .ensures .0) ((c .before .before .before .before .before .before .before .before .before .before .before .before .before .before .before .before .before .before .before .entry3) .given .1) ((c .before .before .before .before .before .before .before .before .before .before .before .before .before .before .before .before .put-group-header2) .ensures) ((c .before .before .before .before .before .before .before .before .before .before .before .before .headed2) .given .1) ((c .before .before .before .before .before .before .before .before .before .put-type) .ensures) ((c .before .before .before .before .before .put) .given .1) ((c .before .before .put-enum-members) .ensures)
+put-type-returns-8 t c = type-enumeration _ _ _ _ _ _ _ _ ((c .before .before .before .before .before .before .before .before .before .before .before .before .before .before .before .before .before .before .before .before .before .before .if1) .left) ((c .before .before .before .before .before .before .before .before .before .before .before .before .before .before .before .before .before .before .before .before .before .known-entry-at) .ensures .0) ((c .before .before .before .before .before .before .before .before .before .before .before .before .before .before .before .before .before .before .before .entry3) .given .1) ((c .before .before .before .before .before .before .before .before .before .before .before .before .before .before .before .before .put-group-header2) .ensures) ((c .before .before .before .before .before .before .before .before .before .before .before .before .headed2) .given .1) ((c .before .before .before .before .before .before .before .before .before .put-type) .ensures) ((c .before .before .before .before .before .put) .given .1) ((c .before .before .put-enum-members) .ensures)
 
 put-type-same-length-7 : (t : ℕ) → put-type-lts.Need-same-length-7 (put-type-calls t) (put-type-at t) put-type.Post
 put-type-same-length-7 t c = search needs
@@ -315,8 +314,8 @@ put-type-returns-12 t c =
 
 pub +put-members+put-type-spec : {M : Type 1} → statement M
 +put-members+put-type-spec = close μ-put-members μ-put-type (λ t. put-members-lts.spec (
-  member-at-reads.Asked,
-  member-at-reads.Learnt,
+  known-member-at-reads.Asked,
+  known-member-at-reads.Learnt,
   put-member-head-reads.Asked,
   put-member-head-reads.Learnt,
   put-type-below t,
@@ -327,7 +326,7 @@ pub +put-members+put-type-spec : {M : Type 1} → statement M
     put-members-Inv-loop
     put-members-μ-loop
     (put-members-loop-holds t)
-    (put-members-member-at-requires t)
+    (put-members-known-member-at-requires t)
     (put-members-enum-told t)
     (put-members-same-length t)
     (put-members-returns t)
@@ -351,8 +350,8 @@ pub +put-members+put-type-spec : {M : Type 1} → statement M
     (put-members-same-length-4 t)
     (put-members-returns-4 t))
     λ t. put-type-lts.spec (
-      entry-at-reads.Asked,
-      entry-at-reads.Learnt,
+      known-entry-at-reads.Asked,
+      known-entry-at-reads.Learnt,
       put-leaf-reads.Asked,
       put-leaf-reads.Learnt,
       put-group-header-reads.Asked,
@@ -374,7 +373,7 @@ pub +put-members+put-type-spec : {M : Type 1} → statement M
     put-type.Post
     (put-type-returns t)
     (put-type-sub-inner t)
-    (put-type-entry-at-requires t)
+    (put-type-known-entry-at-requires t)
     (put-type-enum-told t)
     (put-type-enum-known-entry t)
     (put-type-put-leaf-requires t)

@@ -6,7 +6,7 @@ use Rattle.writer_parts.proofs.put_enum_members.Statement.{statement}
 use Rattle.writer_parts.proofs.put_enum_members.Tie as tie
 use Rattle.writer_parts.proofs.put_enum_members.Reads as reads
 use Rattle.writer_parts.proofs.put_enum_members.Lts as lts
-use Rattle.rows.proofs.enum_member_at.Reads as enum-member-at-reads
+use Rattle.rows.proofs.known_enum_member_at.Reads as known-enum-member-at-reads
 use Rattle.writer_parts.proofs.put_name.Reads as put-name-reads
 use Rattle.writer_parts.proofs.put_piece.Reads as put-piece-reads
 
@@ -20,8 +20,8 @@ abbrev μ-loop : tie.MeasureT-loop
 loop-holds : tie.Need-loop-holds Inv-loop μ-loop
 loop-holds c = search (needs, enum-begun)
 
-enum-member-at-requires : tie.Need-enum-member-at-requires Inv-loop μ-loop
-enum-member-at-requires c κs = search needs
+known-enum-member-at-requires : tie.Need-known-enum-member-at-requires Inv-loop μ-loop
+known-enum-member-at-requires c κs = search needs
 
 enum-told : tie.Need-enum-told Inv-loop μ-loop
 enum-told c = search needs
@@ -63,13 +63,13 @@ returns-3 : tie.Need-returns-3 Inv-loop μ-loop
 returns-3 c = search enum-past
 
 add-r : tie.Need-add-r Inv-loop μ-loop
-add-r c = omega (arith, enumNamed-inside _ _ _ _ ((c .before .before .before .before .before .before .before .before .before .member) .given .1) ((c .before .before .before .before .before .before .before .before .before .before .before .enum-member-at) .ensures .1))
+add-r c = omega (arith, enumNamed-inside _ _ _ _ ((c .before .before .before .before .before .before .before .before .before .member) .given .1) ((c .before .before .before .before .before .before .before .before .before .before .before .known-enum-member-at) .ensures .1))
 
 cast-p : tie.Need-cast-p Inv-loop μ-loop
 cast-p c = search needs
 
 add-p : tie.Need-add-p Inv-loop μ-loop
-add-p c = omega (arith, enumNamed-inside _ _ _ _ ((c .before .before .before .before .before .before .before .before .before .member) .given .1) ((c .before .before .before .before .before .before .before .before .before .before .before .enum-member-at) .ensures .1))
+add-p c = omega (arith, enumNamed-inside _ _ _ _ ((c .before .before .before .before .before .before .before .before .before .member) .given .1) ((c .before .before .before .before .before .before .before .before .before .before .before .known-enum-member-at) .ensures .1))
 
 add-values : tie.Need-add-values Inv-loop μ-loop
 add-values c = search needs
@@ -114,7 +114,7 @@ put-enum-members-spec =
     Inv-loop
     μ-loop
     loop-holds
-    enum-member-at-requires
+    known-enum-member-at-requires
     enum-told
     same-length
     returns

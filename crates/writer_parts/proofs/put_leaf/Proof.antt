@@ -1,13 +1,11 @@
+use native.Mathlib.Omega.{arith}
 use Rattle.writer_parts.proofs.Leaves.{leaf-headless, leaf-cut, leaf-put}
 use borrow.Author.Needs.{needs}
 use Rattle.writer_parts.proofs.put_leaf.Statement.{statement}
 use Rattle.writer_parts.proofs.put_leaf.Tie as tie
-use Rattle.writer_parts.proofs.put_leaf.Reads as reads
-use Rattle.writer_parts.proofs.put_leaf.Lts as lts
-use Rattle.writer_parts.proofs.leaf_bits.Reads as leaf-bits-reads
-use Rattle.writer_parts.proofs.leaf_flags.Reads as leaf-flags-reads
-use Rattle.writer_parts.proofs.put_header.Reads as put-header-reads
-use Rattle.writer_parts.proofs.put_leaf_rest.Reads as put-leaf-rest-reads
+
+returns : tie.Need-returns
+returns c = λ h. absurd (omega arith)
 
 mul-leaf-flags : tie.Need-mul-leaf-flags
 mul-leaf-flags c = search needs
@@ -48,34 +46,35 @@ enum-told-2 c = search needs
 enum-known-put : tie.Need-enum-known-put
 enum-known-put c = search needs
 
-add-t29 : tie.Need-add-t29
-add-t29 c = search needs
+add-t30 : tie.Need-add-t30
+add-t30 c = search needs
 
-add-t31 : tie.Need-add-t31
-add-t31 c = search needs
+add-t32 : tie.Need-add-t32
+add-t32 c = search needs
 
 same-length : tie.Need-same-length
 same-length c = search needs
 
-returns : tie.Need-returns
-returns c = search leaf-headless
+returns-2 : tie.Need-returns-2
+returns-2 c = search leaf-headless
 
 same-length-2 : tie.Need-same-length-2
 same-length-2 c = search needs
 
-returns-2 : tie.Need-returns-2
-returns-2 c = search leaf-cut
+returns-3 : tie.Need-returns-3
+returns-3 c = search leaf-cut
 
 same-length-3 : tie.Need-same-length-3
 same-length-3 c = search needs
 
-returns-3 : tie.Need-returns-3
-returns-3 c = search leaf-put
+returns-4 : tie.Need-returns-4
+returns-4 c = search leaf-put
 
 pub put-leaf-spec : {M : Type 1} → statement M
 put-leaf-spec =
     tie.close
     (tie.spec
+    returns
     mul-leaf-flags
     add-leaf-flags
     mul-leaf-flags-2
@@ -89,11 +88,11 @@ put-leaf-spec =
     put-leaf-rest-requires
     enum-told-2
     enum-known-put
-    add-t29
-    add-t31
+    add-t30
+    add-t32
     same-length
-    returns
-    same-length-2
     returns-2
+    same-length-2
+    returns-3
     same-length-3
-    returns-3)
+    returns-4)
