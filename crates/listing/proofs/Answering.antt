@@ -13,7 +13,7 @@ use Rattle.refusal.specs.declared.Refusal.{Refusal}
 use Rattle.refusal.specs.declared.Refusal.the-variants.{BadTable, NoRoom}
 use Rattle.format.specs.Bytes.{allZero}
 use Rattle.format.specs.Datatype.{Datatype}
-use Rattle.format.specs.Outcome.{Outcome, gives, refuses, whenGiven, unless, outputAfter, needed}
+use Rattle.format.specs.Outcome.{Outcome, gives, refuses, whenGiven, unless, outputAfter, needed, outcomeNumber, outcomeValues}
 use Rattle.format.specs.Table.{Found, found, bad, typeAt, wholeType, typeOf}
 use Rattle.table.specs.Survey.{Checks}
 use Rattle.table.specs.declared.Survey.{Survey}
@@ -21,7 +21,7 @@ use Rattle.table.specs.declared.Checked.{Checked}
 use Rattle.table.specs.declared.Checked.the-variants.{Good, Bad}
 use Rattle.listing.specs.Text.{heading, lines, fieldsText, fitting, fieldsListing, refusalText, refusalListing}
 use Rattle.listing.specs.Puts.{Puts, nameIn, PutsType}
-use Rattle.listing.specs.Answers.{answerOf, Answers, PutsFields, ListsType}
+use Rattle.listing.specs.Answers.{listingNumber, listingValues, answerOf, Answers, PutsFields, ListsType}
 use Rattle.listing.specs.declared.Name.the-variants.{Nameless}
 use Rattle.listing.specs.declared.Listing.{Listing}
 use Rattle.listing.specs.declared.Listing.the-variants.{Listed, Refused}
@@ -31,12 +31,24 @@ use Rattle.listing.proofs.Pieces.{then-put}
 
 module _ {o : Outcome (List ℕ)} {out : List ℕ} where
   refused : {e : Refusal} → o ≡ refuses e → Answers o (Refused e) out out
-  unfolding answerOf outputAfter
-  refused h = record { answer = sym (ap answerOf h); out-is = sym (ap (outputAfter out) h) }
+  unfolding answerOf listingNumber listingValues outcomeNumber outcomeValues outputAfter
+  refused h =
+      record {
+        answer = sym (ap answerOf h);
+        number = sym (ap outcomeNumber h);
+        values = sym (ap (outcomeValues length) h);
+        out-is = sym (ap (outputAfter out) h);
+      }
 
   given : {s out′ : List ℕ} {n : ℕ} → o ≡ gives s → n ≡ length s → out′ ≡ s ++ drop (length s) out → Answers o (Listed n) out out′
-  unfolding answerOf outputAfter
-  given h e w = record { answer = ap Listed e ∙ sym (ap answerOf h); out-is = w ∙ sym (ap (outputAfter out) h) }
+  unfolding answerOf listingNumber listingValues outcomeNumber outcomeValues outputAfter
+  given h e w =
+      record {
+        answer = ap Listed e ∙ sym (ap answerOf h);
+        number = sym (ap outcomeNumber h);
+        values = ap (λ (n : ℕ). n ∷ []) e ∙ sym (ap (outcomeValues length) h);
+        out-is = w ∙ sym (ap (outputAfter out) h);
+      }
 
 -- ---- a text, measured without room
 

@@ -6,7 +6,7 @@ use lib.ListN.{length}
 use Rattle.refusal.specs.Refusal.{numberOf, valuesOf}
 use Rattle.refusal.specs.declared.Refusal.{Refusal}
 use Rattle.format.specs.Datatype.{Datatype}
-use Rattle.format.specs.Outcome.{Outcome, gives, refuses, outputAfter}
+use Rattle.format.specs.Outcome.{Outcome, gives, refuses, outputAfter, outcomeNumber, outcomeValues}
 use Rattle.format.specs.Table.{Found, found, typeOf}
 use Rattle.listing.specs.Text.{fieldsText, fitting, fieldsListing, refusalListing}
 use Rattle.listing.specs.Puts.{Puts}
@@ -30,6 +30,8 @@ answerOf (refuses e) = Refused e
 -- an answer, and every byte of `out`, by the definition's outcome
 pub record Answers (o : Outcome (List ℕ)) (r : Listing) (out out′ : List ℕ) : Type 0 where
   pub answer : r ≡ answerOf o
+  pub number : listingNumber r ≡ outcomeNumber o
+  pub values : listingValues r ≡ outcomeValues length o
   pub out-is : out′ ≡ outputAfter out o
 
 -- of the type that is found
