@@ -1,15 +1,15 @@
 -- Laws of numbers as bytes, of names and of padding.
 use Prim.Native.Nat.{ℕ, zero, suc, _+_, _-_, _*_, _/_, _%_, _^_, _<_, _≤_}
 use mathlib.Core.Path.{_≡_, refl, ap, sym, _∙_}
-use mathlib.Core.Bool.{Bool, true}
 use mathlib.Core.List.{List, [], _∷_, _++_, append-assoc}
-use mathlib.Core.Option.{Option, none, some}
+use mathlib.Core.Option.{some}
 use native.Mathlib.Omega.{arith}
 use native.Mathlib.Nat.{zero-add, mod-eq-of-lt, div-eq-of-lt, add-mul-mod-self-left, add-mul-div-left, pow-suc}
-use lib.ListN.{length, take, drop, length-replicate, length-append, length-take, length-drop, take-append-drop}
-use lib.Seq.{take-at, drop-at}
+use lib.ListN.{length, getD, take, drop, length-replicate, length-append, length-take, length-drop, take-append-drop}
+use lib.Seq.{take-at, drop-at, take-take}
 use Rattle.format.specs.Bytes.{littleEndian, numberFrom, AllBytes, zeros, padded, firstNul, oneMore, totalWidth, packNumbers, unpackNumbers, dimensionBytes, dimensionsFrom}
 use Rattle.format.proofs.Facts.{Fit, NoNul, AllBelow}
+use Rattle.format.proofs.Lists.{drop-take}
 
 -- a number that fits its width is what its bytes stand for
 pub number-back : (k n : ℕ) → n < 256 ^ k → numberFrom (littleEndian k n) ≡ n
@@ -39,6 +39,12 @@ pub bytes-zeros : (n : ℕ) → AllBytes (zeros n)
 unfolding zeros AllBytes
 bytes-zeros zero = tt
 bytes-zeros (suc n) = (omega arith, bytes-zeros n)
+
+-- a list whose every element is a byte
+pub all-bytes : (l : List ℕ) → ((i : ℕ) → getD l i 0 < 256) → AllBytes l
+unfolding AllBytes
+all-bytes [] h = tt
+all-bytes (b ∷ l) h = (h 0, all-bytes l (λ i. h (suc i)))
 
 pub bytes-append : (s t : List ℕ) → AllBytes s → AllBytes t → AllBytes (s ++ t)
 unfolding AllBytes
@@ -156,6 +162,12 @@ dimension-bytes-back (suc k) s e h =
       dimension-bytes-back k (drop 4 s) (length-drop 4 s ∙ omega arith) (bytes-drop 4 s h),
     )
     (take-append-drop 4 s)
+
+-- k dimensions want 4 * k bytes
+pub dimensions-front : (k n : ℕ) (s : List ℕ) → 4 * k ≤ n → dimensionsFrom k (take n s) ≡ dimensionsFrom k s
+unfolding dimensionsFrom
+dimensions-front zero n s h = refl
+dimensions-front (suc k) n s h = rw (take-take 4 n s (omega arith), drop-take 4 (n - 4) n s (omega arith), dimensions-front k (n - 4) (drop 4 s) (omega arith))
 
 pub length-dimensionsFrom : (k : ℕ) (s : List ℕ) → length (dimensionsFrom k s) ≡ k
 unfolding dimensionsFrom

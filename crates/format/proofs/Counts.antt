@@ -1,13 +1,12 @@
 -- What is read has taken just its rows and pool bytes, and has no more levels than were left, whatever the bytes.
-use Prim.Native.Nat.{ℕ, zero, suc, _+_, _-_, _*_, _<_, _≤_, max}
+use Prim.Native.Nat.{ℕ, zero, suc, _+_, _-_, _*_, _≤_}
 use mathlib.Core.Path.{_≡_, refl, ap}
 use mathlib.Core.Bool.{Bool, true, false}
 use mathlib.Core.List.{List, [], _∷_, _++_}
 use native.Mathlib.Omega.{arith}
-use lib.ListN.{length, getD, length-append, length-take, take}
+use lib.ListN.{length, getD, length-append, length-take}
 use Rattle.format.specs.declared.Header.{Header}
-use Rattle.format.specs.Bytes.{AllBytes, dimensionBytes}
-use Rattle.format.specs.Datatype.{Datatype, EnumMember, enumNames, enumValues, Members, noMembers, depth, memberDepth, poolBytes, memberPool, rowCount, memberRowCount}
+use Rattle.format.specs.Datatype.{Datatype, enumNames, enumValues, noMembers, depth, memberDepth, poolBytes, memberPool, rowCount, memberRowCount}
 use Rattle.format.specs.Reading.{Answer, Reader, inner, readName, readMembers, readNames, readValues, readVariable, readArray, readProperties, sized, readType}
 use Rattle.format.specs.Table.{Kind, isFixedPoint, isFloatingPoint, isTime, isString, isBitField, isOpaque, isCompound, isReference, isEnumeration, isVariableLength, isArray, isUnknown}
 use Rattle.format.proofs.Bytes.{length-dimensions, length-dimensionsFrom}

@@ -1,19 +1,19 @@
 -- Demand 3, first half, in document 01's words: what is written reads back.
-use Prim.Native.Nat.{ℕ, zero, suc, _+_, _-_, _*_, _/_, _<_, _≤_, min}
-use mathlib.Core.Path.{_≡_, refl, ap, sym, _∙_}
+use Prim.Native.Nat.{ℕ, _+_, _-_, _*_, _/_, _<_, _≤_, min}
+use mathlib.Core.Path.{_≡_, refl, ap, _∙_}
 use mathlib.Core.Bool.{Bool, true, false, cond}
-use mathlib.Core.List.{List, [], _∷_, _++_, append-nil}
+use mathlib.Core.List.{List, [], _∷_, _++_}
 use mathlib.Core.Option.{Option, none, some}
 use native.Mathlib.Omega.{arith}
 use native.Mathlib.Nat.{zero-add}
-use lib.ListN.{length, length-append}
+use lib.ListN.{length}
 use lib.Dec.{leb}
 use borrow.Author.Tests.{le-leb}
 use Rattle.refusal.specs.declared.Refusal.the-variants.{TooNew}
 use Rattle.format.specs.Datatype.{Datatype, fixedPoint, floatingPoint, time, string, bitField, opaque, compound, reference, enumeration, variableLength, array, Members, noMembers, member, depth, poolBytes, rowCount}
 use Rattle.format.specs.Message.{message, versions, memberVersions, storable, carried, firstAbove}
-use Rattle.format.specs.Outcome.{Outcome, gives, refuses}
-use Rattle.format.specs.Reading.{Answer, got, refused, Read, readOutcome, readingInto, reading, readsBack, tableAfter, poolAfter}
+use Rattle.format.specs.Outcome.{gives}
+use Rattle.format.specs.Reading.{Answer, got, refused, readOutcome, readingInto, reading, readsBack, tableAfter, poolAfter}
 use Rattle.format.specs.Table.{WithinLimits, maxRows, maxPool, tableOf, poolOf}
 use Rattle.format.proofs.RoundTrip.{reads}
 use Rattle.format.proofs.Steps.{held}

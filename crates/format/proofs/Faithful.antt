@@ -1,27 +1,25 @@
 -- What is read is sound, whatever the bytes: no type of size 0 in it, valid names, known codes, and pool bytes that are bytes.
-use Prim.Native.Nat.{ℕ, zero, suc, _+_, _-_, _*_, _/_, _^_, _<_, _≤_, min}
-use mathlib.Core.Path.{_≡_, refl, ap, _∙_}
-use mathlib.Core.Bool.{Bool, true, false, _&&_}
+use Prim.Native.Nat.{ℕ, zero, suc, _+_, _-_, _*_, _/_, _<_, _≤_, min}
+use mathlib.Core.Path.{_≡_, refl}
+use mathlib.Core.Bool.{Bool, true, false}
 use mathlib.Core.List.{List, [], _∷_, _++_}
-use mathlib.Core.Option.{Option, none, some}
+use mathlib.Core.Option.{none}
 use native.Mathlib.Omega.{arith}
-use lib.ListN.{length, getD, take, drop, length-take, length-drop}
-use lib.Seq.{take-take}
-use lib.Dec.{leb, ltb, eqb}
+use lib.ListN.{length, getD}
 use borrow.Author.Tests.{lt-ltb, leb-true, ltb-true, ne-eqb}
 use Rattle.format.specs.declared.Header.{Header}
-use Rattle.format.specs.Bytes.{AllBytes, dimensionBytes, dimensionsFrom, numberFrom}
+use Rattle.format.specs.Bytes.{AllBytes, dimensionBytes}
 use Rattle.format.specs.Bits.{lowBits, highBits, bitAt, floatOrder}
-use Rattle.format.specs.Utf8.{mended, wellFormed}
+use Rattle.format.specs.Utf8.{wellFormed}
 use Rattle.format.specs.Datatype.{Datatype, fixedPoint, floatingPoint, time, string, bitField, opaque, compound, reference, enumeration, variableLength, array, Members, noMembers, member, EnumMember, enumNames, enumValues, typeSize, depth, rowCount, poolBytes, memberPool}
-use Rattle.format.specs.Message.{validNames, validMemberNames, validEnumNames, permutationBytes, message, storable, carried}
-use Rattle.format.specs.Outcome.{Outcome, gives, refuses}
+use Rattle.format.specs.Message.{validNames, validMemberNames, validEnumNames, message, storable, carried}
+use Rattle.format.specs.Outcome.{gives}
 use Rattle.format.specs.Reading.{Answer, got, refused, Reader, inner, readName, readMembers, readNames, readValues, readVariable, readArray, readProperties, sized, readType, Read, readOutcome, readingInto, reading}
 use Rattle.format.specs.Slots.{firstZero, memberFirstZero, zeroClass, orElse}
 use Rattle.format.specs.Table.{Kind, isFixedPoint, isFloatingPoint, isTime, isString, isBitField, isOpaque, isCompound, isReference, isEnumeration, isVariableLength, isArray, isUnknown, known, knownMembers, allBelow, WithinLimits, maxRows, maxPool}
 use Rattle.format.proofs.Booleans.{and-true}
-use Rattle.format.proofs.Bits.{bit-lt, float-order-lt, low-lt}
-use Rattle.format.proofs.Bytes.{bytes-take, bytes-drop, bytes-append, bytes-dimensions, number-below}
+use Rattle.format.proofs.Bits.{bit-lt, float-order-lt}
+use Rattle.format.proofs.Bytes.{bytes-append, bytes-dimensions}
 use Rattle.format.proofs.Counts.{counts}
 use Rattle.format.proofs.Demand3.{ReadsBack, reads-back}
 use Rattle.format.proofs.Sure.{Sure, met, nothing, sure-then, sure-moved, sure-require, sure-bytes, sure-number, sure-numbers, sure-skip, sure-piece, sure-name, sure-header, sure-row}

@@ -1,7 +1,9 @@
 pub mod Booleans
 pub mod Bits
 pub mod Facts
+pub mod Lists
 pub mod Bytes
+pub mod Scaling
 pub mod Utf8
 pub mod Storable
 pub mod Steps
@@ -21,3 +23,5 @@ pub mod TableSteps
 pub mod Written
 pub mod Cases
 pub mod Bounds
+pub mod WritingBounds
+pub mod AdmissionBounds

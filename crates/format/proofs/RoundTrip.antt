@@ -1,30 +1,22 @@
 -- Demand 3, first half: what the writer writes, the reader reads.
-use Prim.Native.Nat.{ℕ, zero, suc, _+_, _-_, _*_, _/_, _%_, _^_, _<_, _≤_, max, min}
-use mathlib.Core.Path.{_≡_, refl, ap, sym, subst, _∙_}
-use mathlib.Core.Logic.{_⊎_, inl, inr}
-use mathlib.Core.Bool.{Bool, true, false, cond}
+use Prim.Native.Nat.{ℕ, zero, suc, _+_, _-_, _*_, _/_, _%_, _^_, _<_, _≤_}
+use mathlib.Core.Path.{_≡_, refl, ap}
+use mathlib.Core.Logic.{inl, inr}
 use mathlib.Core.List.{List, [], _∷_, _++_, map, append-assoc, append-nil}
-use mathlib.Core.Option.{Option, none, some}
 use native.Mathlib.Omega.{arith}
 use native.Mathlib.Nat.{zero-add, suc-add, add-assoc, mod-eq-of-lt}
 use lib.ListN.{length, getD, length-append}
 use lib.Seq.{take-at}
-use lib.Dec.{leb, ltb, eqb}
 use borrow.Author.Tests.{le-leb, lt-ltb}
-use Rattle.refusal.specs.declared.Refusal.the-variants.{TooNew}
-use Rattle.format.specs.declared.Header.{Header}
-use Rattle.format.specs.Bytes.{littleEndian, numberFrom, zeros, paddingTo8, packNumbers, totalWidth, dimensionBytes}
+use Rattle.format.specs.Bytes.{littleEndian, zeros, paddingTo8, packNumbers, totalWidth, dimensionBytes}
 use Rattle.format.specs.Bits.{fixedFlags, floatFlags, nibbles}
 use Rattle.format.specs.Datatype.{Datatype, fixedPoint, floatingPoint, time, string, bitField, opaque, compound, reference, enumeration, variableLength, array, Members, noMembers, member, EnumMember, enumNames, enumValues, typeSize, memberCount, depth, memberDepth, poolBytes, memberPool, rowCount, memberRowCount}
-use Rattle.format.specs.Message.{header, reservedBytes, permutationBytes, bitWidths, floatWidths, timeWidths, arrayBytes, enumNameBytes, namePadding, offsetWidth, skippedBytes, nameBytes, variableFlags, variableCharset, codeOf, message, memberBytes, versions, memberVersions, storable, carried, firstAbove}
-use Rattle.format.specs.Outcome.{Outcome, gives, refuses}
-use Rattle.format.specs.Reading.{Answer, got, refused, Reader, classKind, layoutVersion, countOf, then, bytes, skip, number, name, takeRow, piece, moved, inner, readHeader, readName, readMembers, readNames, readValues, readVariable, readArray, readProperties, sized, readType, Read, readOutcome, readingInto}
-use Rattle.format.specs.Table.{maxLevels}
-use Rattle.format.proofs.Bits.{order-back, signed-back, float-order-back, bit0-of, low-mod, high-div, nibbles-low, nibbles-high}
-use Rattle.format.proofs.Bytes.{number-back, length-packed, length-littleEndian, length-zeros, length-dimensions, dimensions-back}
-use Rattle.format.proofs.Facts.{Fit, NoNul, AllBelow, Storable, StorableMembers, StorableEnum, StorableVariable}
+use Rattle.format.specs.Message.{header, reservedBytes, permutationBytes, bitWidths, floatWidths, timeWidths, arrayBytes, enumNameBytes, namePadding, offsetWidth, skippedBytes, nameBytes, variableFlags, variableCharset, codeOf, message, memberBytes, versions, memberVersions}
+use Rattle.format.specs.Reading.{got, Reader, classKind, layoutVersion, countOf, then, number, name, moved, inner, readMembers, readNames, readValues, readVariable, readArray, readProperties, sized, readType}
+use Rattle.format.proofs.Bits.{order-back, signed-back, float-order-back, bit0-of, low-mod, nibbles-low, nibbles-high}
+use Rattle.format.proofs.Bytes.{length-packed, length-littleEndian, length-zeros, length-dimensions, dimensions-back}
+use Rattle.format.proofs.Facts.{Storable, StorableMembers, StorableEnum, StorableVariable}
 use Rattle.format.proofs.Steps.{held, then-held, moved-held, held-append, bytes-at, skip-at, number-at, numbers-at, row-at, piece-at, readName-at, got-path, header-at, require-at, length-header}
-use Rattle.format.proofs.Storable.{storable-fact}
 
 -- a reader takes the message of t off the bytes, and its rows and pool bytes off what is free
 abbrev pub Reads : (limit edition : ℕ) → Reader Datatype → Datatype → Type 0

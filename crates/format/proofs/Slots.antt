@@ -78,7 +78,7 @@ unfolding endOf
 end-append [] us = omega arith
 end-append (s ∷ ss) us = omega (arith, end-append ss us)
 
-moved-end : (o e : ℕ) → 0 < e → movedEnd o e ≡ o + e
+pub moved-end : (o e : ℕ) → 0 < e → movedEnd o e ≡ o + e
 unfolding movedEnd
 moved-end o zero h = omega arith
 moved-end o (suc e) h = refl
@@ -259,7 +259,7 @@ unfolding zeroClass
 some-size c zero h = let z : _≡_ {A = ℕ} 0 1 = cc in absurd (omega arith)
 some-size c (suc n) h = omega arith
 
-or-else-none : (x y : Option ℕ) → orElse x y ≡ none → (x ≡ none) × (y ≡ none)
+pub or-else-none : (x y : Option ℕ) → orElse x y ≡ none → (x ≡ none) × (y ≡ none)
 unfolding orElse
 or-else-none none y h = (refl, h)
 or-else-none (some c) y h = (h, cc)

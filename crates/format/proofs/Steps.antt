@@ -1,23 +1,20 @@
 -- What each step of the reader does with the bytes that the writer put there.
-use Prim.Native.Nat.{ℕ, zero, suc, _+_, _-_, _*_, _/_, _%_, _^_, _<_, _≤_}
-use mathlib.Core.Path.{_≡_, refl, ap, sym, _∙_}
+use Prim.Native.Nat.{ℕ, suc, _+_, _-_, _^_, _<_}
+use mathlib.Core.Path.{_≡_, refl, ap}
 use mathlib.Core.Bool.{Bool, true, false, cond}
 use mathlib.Core.List.{List, [], _∷_, _++_, append-assoc}
-use mathlib.Core.Option.{Option, none, some}
 use native.Mathlib.Omega.{arith}
 use native.Mathlib.Nat.{suc-add}
-use lib.ListN.{length, take, drop, length-append}
+use lib.ListN.{length, length-append}
 use lib.Seq.{take-at, drop-at, drop-append-add}
 use lib.Dec.{leb}
-use borrow.Author.Tests.{le-leb, lt-ltb}
+use borrow.Author.Tests.{le-leb}
 use Rattle.refusal.specs.declared.Refusal.{Refusal}
 use Rattle.refusal.specs.declared.Refusal.the-variants.{TooNew}
-use Rattle.format.specs.declared.Header.{Header}
-use Rattle.format.specs.Bytes.{littleEndian, numberFrom, zeros, firstNul, totalWidth, packNumbers}
-use Rattle.format.specs.Bits.{classAndVersion}
-use Rattle.format.specs.Utf8.{wellFormed, mended}
+use Rattle.format.specs.Bytes.{littleEndian, zeros, totalWidth, packNumbers}
+use Rattle.format.specs.Utf8.{wellFormed}
 use Rattle.format.specs.Message.{header, namePadding, nameBytes}
-use Rattle.format.specs.Reading.{Answer, got, refused, Reader, then, bytes, skip, number, numbers, nameTo, name, takeRow, piece, moved, headerOf, require, readHeader, readName}
+use Rattle.format.specs.Reading.{Answer, got, refused, then, bytes, skip, number, numbers, nameTo, name, takeRow, piece, moved, headerOf, require, readHeader, readName}
 use Rattle.format.proofs.Bits.{class-back, version-back}
 use Rattle.format.proofs.Bytes.{number-back, length-littleEndian, length-zeros, nul-behind, length-packed, packed-back}
 use Rattle.format.proofs.Facts.{Fit, NoNul}

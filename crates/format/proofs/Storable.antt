@@ -1,15 +1,14 @@
 -- The computed test for what can be stored, as facts.
-use Prim.Native.Nat.{ℕ, zero, suc, _^_, _<_, _≤_}
+use Prim.Native.Nat.{ℕ, zero, suc, _^_, _<_}
 use mathlib.Core.Path.{_≡_, refl}
 use mathlib.Core.Logic.{_⊎_, inl, inr}
-use mathlib.Core.Bool.{Bool, true, false, cond, _&&_, _||_, false≢true}
+use mathlib.Core.Bool.{Bool, true, false, cond, _&&_, false≢true}
 use mathlib.Core.List.{List, [], _∷_}
 use borrow.Author.Tests.{ltb-true, leb-true, eqb-true}
 use lib.Dec.{ltb, leb, eqb}
 use native.Mathlib.Omega.{arith}
-use lib.ListN.{length}
-use Rattle.format.specs.Datatype.{Datatype, fixedPoint, floatingPoint, time, string, bitField, opaque, compound, reference, enumeration, variableLength, array, Members, noMembers, member, EnumMember, typeSize, memberCount}
-use Rattle.format.specs.Message.{all, noNul, fit, storableEnum, storableVariable, storable, storableMembers, carried, carriedMembers, floatWidths, offsetWidth}
+use Rattle.format.specs.Datatype.{Datatype, fixedPoint, floatingPoint, time, string, bitField, opaque, compound, reference, enumeration, variableLength, array, Members, noMembers, member, EnumMember}
+use Rattle.format.specs.Message.{all, noNul, fit, storableEnum, storableVariable, storable, storableMembers, carried, carriedMembers, offsetWidth}
 use Rattle.format.specs.Table.{allBelow}
 use Rattle.format.proofs.Booleans.{and-both, or-either}
 use Rattle.format.proofs.Facts.{Fit, NoNul, AllBelow, Storable, StorableMembers, StorableEnum, StorableVariable}

@@ -1,16 +1,16 @@
 -- What holds of every answer of a reader, whatever the bytes: postconditions carried through the steps.
-use Prim.Native.Nat.{ℕ, zero, suc, _+_, _-_, _≤_}
+use Prim.Native.Nat.{ℕ, zero, suc, _+_, _-_}
 use mathlib.Core.Path.{_≡_, refl}
 use mathlib.Core.Bool.{Bool, true, false, cond}
 use mathlib.Core.List.{List}
 use mathlib.Core.Option.{Option, none, some}
 use native.Mathlib.Omega.{arith}
-use lib.ListN.{length, take, drop, length-take}
+use lib.ListN.{length, length-take}
 use lib.Dec.{leb}
 use borrow.Author.Tests.{leb-true}
 use Rattle.refusal.specs.declared.Refusal.{Refusal}
 use Rattle.format.specs.Bytes.{AllBytes, firstNul, totalWidth}
-use Rattle.format.specs.Reading.{Answer, got, refused, Reader, then, bytes, skip, number, numbers, nameTo, name, takeRow, piece, moved, headerOf, require, readHeader}
+use Rattle.format.specs.Reading.{Answer, got, refused, then, bytes, skip, number, numbers, nameTo, name, takeRow, piece, moved, require, readHeader}
 use Rattle.format.proofs.Bytes.{bytes-take, bytes-drop}
 
 abbrev pub Post : Type 0 → Type 1

@@ -28,7 +28,23 @@ refused : {A : Type 0} (c : Bool) (a : A) (d e : Refusal) → cond c (gives a) (
 refused true a d e h = let z : _≡_ {A = ℕ} 0 1 = cc in absurd (omega arith)
 refused false a d e h = cc
 
+-- what the walk over a table found
+pub record FoundAs (y : Found Datatype) (t : Datatype) : Type 0 where
+  pub row : ℕ
+  pub place : ℕ
+  pub is : y ≡ found t row place
+
 module _ (table pool : List ℕ) where
+  whole-found : (t : Datatype) (y : Found Datatype) → wholeType table pool y ≡ gives t → FoundAs y t
+  unfolding wholeType
+  whole-found t (found u r p) h = record { row = r; place = p; is = ap (λ (v : Datatype). found v r p) (given (leb r maxRows && (leb p maxPool && (allZero (drop (r * 16) table) && allZero (drop p pool)))) u t BadTable h .1) }
+  whole-found t bad h = let z : _≡_ {A = ℕ} 0 1 = cc in absurd (omega arith)
+
+  -- the type that a table and pool set out is found by the walk
+  pub type-found : (t : Datatype) → typeOf table pool ≡ gives t → FoundAs (typeAt maxLevels table pool 0 0) t
+  unfolding typeOf
+  type-found t h = whole-found t (typeAt maxLevels table pool 0 0) h
+
   whole-sound : (t : Datatype) {x : Found Datatype} → Sure (TypeStands table pool maxLevels 0 0) x → wholeType table pool x ≡ gives t → SetsOut t table pool
   unfolding wholeType
   whole-sound t fails h = let z : _≡_ {A = ℕ} 0 1 = cc in absurd (omega arith)

@@ -10,7 +10,7 @@ use lib.Dec.{leb, ltb}
 use borrow.Author.Tests.{leb-true}
 use Rattle.format.specs.Bytes.{AllBytes}
 use Rattle.format.specs.Datatype.{Datatype, opaque, compound, enumeration, variableLength, array, Members, noMembers, member, EnumMember, memberCount, depth, memberDepth, rowCount, memberRowCount, poolBytes, memberPool, enumNames, enumValues}
-use Rattle.format.specs.Table.{row, enumRows, rows, memberRows, known, knownMembers, Found, found, bad, Walk, andThen, test, wordsAt, nextRow, nextPiece, column, membersAt, enumNamesAt, enumValuesAt, Kind, isFixedPoint, isFloatingPoint, isTime, isString, isBitField, isOpaque, isCompound, isReference, isEnumeration, isVariableLength, isArray, isUnknown, kindOf, typeFrom, typeAt}
+use Rattle.format.specs.Table.{enumRows, rows, memberRows, known, knownMembers, Found, found, bad, Walk, andThen, test, wordsAt, nextRow, nextPiece, column, membersAt, enumNamesAt, enumValuesAt, Kind, isFixedPoint, isFloatingPoint, isTime, isString, isBitField, isOpaque, isCompound, isReference, isEnumeration, isVariableLength, isArray, isUnknown, kindOf, typeFrom, typeAt}
 use Rattle.format.proofs.Booleans.{and-both, and-true}
 use Rattle.format.proofs.Bytes.{bytes-take, bytes-drop, length-dimensionsFrom}
 use Rattle.format.proofs.Zeros.{dimensions-of}

@@ -27,7 +27,7 @@ abbrev pub listAt : (l : List ℕ) (at i n : ℕ) → List ℕ
 listAt l at i zero = []
 listAt l at i (suc n) = getD l (at + i) 0 ∷ listAt l at (suc i) n
 
-take-listAt : (l : List ℕ) (at i n : ℕ) → at + i + n ≤ length l → take n (drop (at + i) l) ≡ listAt l at i n
+pub take-listAt : (l : List ℕ) (at i n : ℕ) → at + i + n ≤ length l → take n (drop (at + i) l) ≡ listAt l at i n
 take-listAt l at i zero h = refl
 take-listAt l at i (suc n) h =
     let e : suc (at + i) ≡ at + suc i = omega arith in
@@ -88,6 +88,14 @@ sameWords-append (a ∷ u) (b ∷ v) x y h = rw (sameWords-append u v x y (omega
 pub then-found : {A B : Type 0} (a : A) (f : A → Walk B) (r p : ℕ) → andThen (found a r p) f ≡ f a r p
 unfolding andThen
 then-found a f r p = refl
+
+pub no-found : {A : Type 0} {a : A} {r p : ℕ} → bad ≡ found a r p → ⊥
+no-found h = let z : _≡_ {A = ℕ} 0 1 = cc in omega arith
+
+pub then-assoc : {A B D : Type 0} (x : Found A) (f : A → Walk B) (g : B → Walk D) → andThen x (λ a r p. andThen (f a r p) g) ≡ andThen (andThen x f) g
+unfolding andThen
+then-assoc (found a r p) f g = refl
+then-assoc bad f g = refl
 
 pub then-test : {B : Type 0} (c : Bool) (f : Unit {0} → Walk B) (r p : ℕ) → andThen (test c r p) f ≡ cond c (f tt r p) bad
 unfolding andThen test

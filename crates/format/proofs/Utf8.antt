@@ -10,6 +10,7 @@ use lib.Dec.{leb, ltb}
 use Rattle.format.specs.Bytes.{AllBytes}
 use Rattle.format.specs.Message.{noNul}
 use Rattle.format.specs.Utf8.{Lead, single, lead, ill, upTo, leads, Utf8State, ready, waiting, Utf8Step, replacement, begin, broken, going, step, atEnd, mendedFrom, mended, isReady, wellFormedFrom, wellFormed, carried, stateAfter, outputOf}
+use Rattle.format.proofs.Booleans.{and-both}
 
 -- ---- valid UTF-8 is left as it is
 
@@ -39,10 +40,6 @@ step-keeps ready b h = begin-keeps b (upTo leads b) h
 step-keeps (waiting w zero lo hi) b h = cc
 step-keeps (waiting w (suc n) lo hi) b h =
     cond-keeps (leb lo b && leb b hi) (going (w ++ (b ∷ [])) n) (begin b (upTo leads b)) _ (going-keeps (w ++ (b ∷ [])) n) h
-
-and-both : (a b : Bool) → (a && b) ≡ true → (a ≡ true) × (b ≡ true)
-and-both true b h = (refl, h)
-and-both false b h = (cc, cc)
 
 mended-from : (st : Utf8State) (s : List ℕ) → wellFormedFrom st s ≡ true → mendedFrom st s ≡ carried st ++ s
 unfolding wellFormedFrom mendedFrom atEnd isReady carried

@@ -1,11 +1,11 @@
 -- Dimensions as the table has them, and zeros behind a list.
 use Prim.Native.Nat.{ℕ, zero, suc, _+_, _-_, _*_, _^_, _<_, _≤_}
 use mathlib.Core.Path.{_≡_, refl, ap, _∙_}
-use mathlib.Core.Bool.{Bool, true, false, _&&_}
+use mathlib.Core.Bool.{true}
 use mathlib.Core.List.{List, [], _∷_, _++_}
 use native.Mathlib.Omega.{arith}
-use lib.ListN.{length, take, drop, replicate, length-append, length-take, length-drop}
-use lib.Dec.{ltb, eqb}
+use lib.ListN.{length, take, drop, replicate, length-append, length-take}
+use lib.Dec.{eqb}
 use borrow.Author.Tests.{eqb-true, lt-ltb}
 use Rattle.format.specs.Bytes.{numberFrom, AllBytes, zeros, padded, allZero, dimensionBytes, dimensionsFrom}
 use Rattle.format.specs.Table.{allBelow}

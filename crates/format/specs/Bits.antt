@@ -1,7 +1,7 @@
 -- Header and flag bytes, split and put together by masks and shifts. proofs/Bits.antt has their laws to / and %.
-use Prim.Native.Nat.{ℕ, _+_, _-_, _*_, _/_, _^_}
+use Prim.Native.Nat.{ℕ, _-_, _*_, _/_, _^_}
 use mathlib.Core.Bool.{cond}
-use mathlib.Core.List.{List, [], _∷_}
+use mathlib.Core.List.{[], _∷_}
 use lib.Bits.{bitAnd, bitOr}
 use lib.Dec.{eqb}
 use lib.ListN.{getD}

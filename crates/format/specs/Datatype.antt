@@ -1,7 +1,7 @@
 -- The type as a tree, one constructor a class. Every field that a row can hold is here, what no message can store included.
 -- Codes are those of a row: order 0 little-endian, 1 big-endian, 2 VAX; signed, padding, charset and kind as document 01 has them;
 -- a variable-length type's padding and charset are 0 where absent, else the code + 1.
-use Prim.Native.Nat.{ℕ, zero, suc, _+_, _*_, min, max}
+use Prim.Native.Nat.{ℕ, suc, _+_, _*_, min, max}
 use mathlib.Core.List.{List, [], _∷_, _++_}
 use lib.ListN.{length}
 use Rattle.format.specs.Bytes.{dimensionBytes}

@@ -1,16 +1,16 @@
 -- The message of a type in editions 1 to 3, what can be stored, and what an edition carries.
-use Prim.Native.Nat.{ℕ, zero, suc, _+_, _-_, _*_, _/_, _%_, _^_, _<_, _≤_}
+use Prim.Native.Nat.{ℕ, zero, suc, _+_, _-_, _*_, _/_, _%_, _^_}
 use mathlib.Core.Bool.{Bool, true, false, cond, _&&_, _||_}
 use mathlib.Core.List.{List, [], _∷_, _++_}
 use mathlib.Core.Option.{Option, none, some}
 use lib.ListN.{length}
 use lib.Dec.{leb, ltb, eqb}
 use Rattle.refusal.specs.declared.Refusal.the-variants.{NoSuchEdition, Unstorable, NotInEdition, NoRoom}
-use Rattle.format.specs.Bytes.{littleEndian, zeros, paddingTo8, totalWidth, packNumbers, dimensionBytes}
+use Rattle.format.specs.Bytes.{littleEndian, zeros, paddingTo8, packNumbers, dimensionBytes}
 use Rattle.format.specs.Bits.{classAndVersion, fixedFlags, floatFlags, nibbles}
 use Rattle.format.specs.Utf8.{wellFormed}
 use Rattle.format.specs.Datatype.{Datatype, fixedPoint, floatingPoint, time, string, bitField, opaque, compound, reference, enumeration, variableLength, array, Members, noMembers, member, EnumMember, memberCount, typeSize, enumValues}
-use Rattle.format.specs.Outcome.{Outcome, gives, refuses, whenGiven, unless, needed}
+use Rattle.format.specs.Outcome.{Outcome, gives, whenGiven, unless, needed}
 use Rattle.format.specs.Table.{allBelow, typeOf}
 
 -- `build_header`: class and version, three flag bytes of which the third is 0, size

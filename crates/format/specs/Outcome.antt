@@ -5,7 +5,6 @@ use mathlib.Core.List.{List, [], _∷_, _++_}
 use lib.ListN.{length, drop}
 use Rattle.refusal.specs.Refusal.{numberOf, valuesOf}
 use Rattle.refusal.specs.declared.Refusal.{Refusal}
-use Rattle.refusal.specs.declared.Refusal.the-variants.{NoRoom}
 
 pub data Outcome (A : Type 0) : Type 0 where
   gives : A → Outcome A

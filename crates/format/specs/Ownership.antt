@@ -2,13 +2,13 @@
 use Prim.Native.Nat.{ℕ, zero, suc, _+_, _-_, _*_, _<_, _≤_}
 use mathlib.Core.Path.{_≡_}
 use mathlib.Core.Logic.{_⊎_}
-use mathlib.Core.Bool.{Bool, true, false, cond, not, _&&_, _||_}
-use mathlib.Core.List.{List, [], _∷_, _++_}
+use mathlib.Core.Bool.{Bool, true, false, not, _&&_, _||_}
+use mathlib.Core.List.{List}
 use lib.ListN.{length, getD}
 use lib.Dec.{leb, ltb, eqb}
 use Rattle.refusal.specs.declared.Refusal.the-variants.{OutsideRecord, HeapHeld, WrongLength}
 use Rattle.format.specs.Datatype.{Datatype, fixedPoint, floatingPoint, time, string, bitField, opaque, compound, reference, enumeration, variableLength, array, Members, noMembers, member, typeSize, product, maxSize}
-use Rattle.format.specs.Outcome.{Outcome, gives, refuses, whenGiven, unless}
+use Rattle.format.specs.Outcome.{Outcome, gives, whenGiven, unless}
 use Rattle.format.specs.Slots.{firstZero, unlessZero}
 use Rattle.format.specs.Table.{typeOf}
 

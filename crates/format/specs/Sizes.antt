@@ -1,12 +1,12 @@
 -- `type_size`, `element_size` and the three address predicates.
-use Prim.Native.Nat.{ℕ, zero, suc}
-use mathlib.Core.Bool.{Bool, true, false, cond, _&&_, _||_}
+use Prim.Native.Nat.{ℕ}
+use mathlib.Core.Bool.{Bool, true, false, _&&_, _||_}
 use mathlib.Core.List.{List}
 use lib.Dec.{leb, ltb}
 use Rattle.refusal.specs.declared.Refusal.the-variants.{ZeroSize}
 use Rattle.format.specs.Bits.{lowBits}
 use Rattle.format.specs.Datatype.{Datatype, fixedPoint, floatingPoint, time, string, bitField, opaque, compound, reference, enumeration, variableLength, array, Members, noMembers, member, typeSize, classNumber}
-use Rattle.format.specs.Outcome.{Outcome, gives, refuses, whenGiven, unless}
+use Rattle.format.specs.Outcome.{Outcome, gives, whenGiven, unless}
 use Rattle.format.specs.Table.{typeOf}
 
 -- the size of the type that a table and pool set out

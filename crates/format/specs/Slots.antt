@@ -1,14 +1,13 @@
 -- `embedded_reference_slots` and `stored_object_references`.
-use Prim.Native.Nat.{ℕ, zero, suc, _+_, _-_, _*_, _/_, min, max}
-use mathlib.Core.Bool.{Bool, true, false, cond, not, _&&_, _||_}
+use Prim.Native.Nat.{ℕ, zero, suc, _+_, _*_, _/_, max}
+use mathlib.Core.Bool.{Bool, false, cond, not, _&&_, _||_}
 use mathlib.Core.List.{List, [], _∷_, _++_}
 use mathlib.Core.Option.{Option, none, some}
 use lib.ListN.{length, take, drop}
 use lib.Dec.{leb, ltb, eqb}
-use Rattle.refusal.specs.declared.Refusal.{Refusal}
 use Rattle.refusal.specs.declared.Refusal.the-variants.{ZeroSize, Unmapped, SlotOutside, NoRoom}
 use Rattle.format.specs.Bytes.{numberFrom}
-use Rattle.format.specs.Datatype.{Datatype, fixedPoint, floatingPoint, time, string, bitField, opaque, compound, reference, enumeration, variableLength, array, Members, noMembers, member, typeSize, classNumber, product}
+use Rattle.format.specs.Datatype.{Datatype, fixedPoint, floatingPoint, time, string, bitField, opaque, compound, reference, enumeration, variableLength, array, Members, noMembers, member, typeSize, product}
 use Rattle.format.specs.Outcome.{Outcome, gives, refuses, whenGiven, unless, needed}
 use Rattle.format.specs.Sizes.{holdsObjectAddress}
 use Rattle.format.specs.Table.{typeOf}

@@ -1,12 +1,12 @@
 -- The table: 16 words a row, in reading order; the type that a lent table and pool set out, or BadTable.
-use Prim.Native.Nat.{ℕ, zero, suc, _+_, _-_, _*_, _<_, _≤_}
+use Prim.Native.Nat.{ℕ, zero, suc, _+_, _-_, _*_, _≤_}
 use mathlib.Core.Path.{_≡_}
 use mathlib.Core.Bool.{Bool, true, false, cond, _&&_}
 use mathlib.Core.List.{List, [], _∷_, _++_}
 use lib.ListN.{length, take, drop, getD}
 use lib.Dec.{leb, ltb, eqb}
 use Rattle.refusal.specs.declared.Refusal.the-variants.{BadTable}
-use Rattle.format.specs.Bytes.{zeros, padded, allZero, dimensionBytes, dimensionsFrom}
+use Rattle.format.specs.Bytes.{padded, allZero, dimensionBytes, dimensionsFrom}
 use Rattle.format.specs.Datatype.{Datatype, fixedPoint, floatingPoint, time, string, bitField, opaque, compound, reference, enumeration, variableLength, array, Members, noMembers, member, EnumMember, memberCount, depth, rowCount, poolBytes}
 use Rattle.format.specs.Outcome.{Outcome, gives, refuses}
 
