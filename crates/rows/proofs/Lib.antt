@@ -2,3 +2,5 @@ pub mod Decode
 pub mod Zeros
 pub mod Columns
 pub mod Known
+pub mod Leaves
+pub mod EnumNames
