@@ -11,13 +11,13 @@ use lib.ListN.{length, take, drop, getD, length-append, length-drop}
 use lib.Seq.{sets, take-suc, drop-cons, getD-drop}
 use Rattle.format.specs.Bytes.{firstNul, oneMore}
 use Rattle.format.specs.Utf8.{Utf8State, ready, begin, step, upTo, leads, atEnd, mendedFrom, mended, stateAfter, outputOf}
+use Rattle.format.proofs.Lists.{sets-append}
 use Rattle.format.proofs.Utf8.{mended-resumes}
 use Rattle.names.specs.Pass.{carrying, stateOf, Fits, Steps}
 use Rattle.names.specs.Names.{Stored, WholeName, Reads}
 use Rattle.names.specs.declared.Name.the-variants.{Whole, Missing, Full}
 use Rattle.names.specs.declared.Carry.{Carry}
 use Rattle.names.specs.declared.Stepped.{Stepped}
-use Rattle.names.proofs.Storing.{sets-append}
 
 -- ---- the first NUL
 

@@ -1,6 +1,6 @@
 -- What a byte begins, and the steps of the pass: a law for each way out of the code.
 use mathlib.Core.Path.{_≡_, refl, sym, ap, _∙_}
-use mathlib.Core.Bool.{Bool, true, false, _&&_}
+use mathlib.Core.Bool.{true, false, _&&_, and-false}
 use mathlib.Core.List.{List, [], _∷_, _++_}
 use Prim.Native.Nat.{ℕ, zero, suc, _+_, _-_, _≤_, _<_}
 use native.Mathlib.Omega.{arith}
@@ -196,10 +196,6 @@ step-outside w n lo hi b e = rw e
 step-inside : (w : List ℕ) (n lo hi b : ℕ) → (leb lo b && leb b hi) ≡ true → step (waiting w (suc n) lo hi) b ≡ going (w ++ (b ∷ [])) n
 unfolding step
 step-inside w n lo hi b e = rw e
-
-and-false : (x : Bool) → (x && false) ≡ false
-and-false true = refl
-and-false false = refl
 
 pub steps-low : (st : Carry) (b : ℕ) (r : Stepped) → Fits st → (st .count ≡ 0 → ⊥) → b < st .low → Steps r (broken (begin b (upTo leads b))) → Steps r (step (stateOf st) b)
 steps-low st b r f h l s =

@@ -1,29 +1,14 @@
 -- Stores in the pool.
-use mathlib.Core.Path.{_≡_, refl, sym, ap, _∙_}
-use mathlib.Core.List.{List, [], _∷_, _++_}
+use mathlib.Core.Path.{_≡_, refl, ap, _∙_}
+use mathlib.Core.List.{List, [], _∷_}
 use Prim.Native.Nat.{ℕ, zero, suc, _+_, _≤_, _<_}
-use native.Mathlib.Nat.{add-zero}
-use native.Mathlib.Numerals.{add-one}
 use native.Mathlib.Omega.{arith}
-use lib.ListN.{length, take, getD, set}
-use lib.Seq.{sets, length-sets, take-suc, length-take-le}
+use lib.ListN.{length, take}
+use lib.Seq.{sets, length-sets, length-take-le}
 use Rattle.format.specs.Utf8.{replacement, atEnd}
 use Rattle.names.specs.Names.{Stored}
 use Rattle.names.specs.Pass.{carrying, stateOf}
 use Rattle.names.specs.declared.Carry.{Carry}
-
--- stores of vs and then of ws behind them are stores of both
-pub sets-append : (vs ws l : List ℕ) (i : ℕ) → sets l i (vs ++ ws) ≡ sets (sets l i vs) (i + length vs) ws
-sets-append [] ws l i = ap (λ (k : ℕ). sets l k ws) (sym (add-zero i))
-sets-append (v ∷ vs) ws l i = sets-append vs ws (set l i v) (suc i) ∙ ap (λ (k : ℕ). sets (sets (set l i v) (suc i) vs) k ws) (omega arith)
-
--- one store more of a copy
-pub sets-take : (d l : List ℕ) (i j : ℕ) → j < length d → set (sets l i (take j d)) (i + j) (getD d j 0) ≡ sets l i (take (j + 1) d)
-sets-take d l i j h =
-    let e : length (take j d) ≡ j = length-take-le j d (omega arith) in
-    ap (λ (k : ℕ). set (sets l i (take j d)) (i + k) (getD d j 0)) (sym e)
-    ∙ sym (sets-append (take j d) (getD d j 0 ∷ []) l i)
-    ∙ ap (λ (vs : List ℕ). sets l i vs) (sym (take-suc d j 0 h) ∙ ap (λ (k : ℕ). take k d) (sym (add-one j)))
 
 -- the pool p, then q
 module _ (p q : List ℕ) (pos room : ℕ) where

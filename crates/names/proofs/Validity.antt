@@ -1,6 +1,6 @@
 -- Whether a name is valid: one pass whose state leaves out the bytes of a character that is not whole.
 use mathlib.Core.Path.{_≡_, refl, sym, ap, _∙_}
-use mathlib.Core.Bool.{Bool, true, false, cond, _&&_}
+use mathlib.Core.Bool.{Bool, true, false, cond, _&&_, and-false}
 use mathlib.Core.List.{List, [], _∷_, _++_}
 use Prim.Native.Nat.{ℕ, zero, suc, _+_, _-_, _≤_, _<_}
 use native.Mathlib.Numerals.{add-one}
@@ -52,10 +52,6 @@ awaiting-any : (w : List ℕ) (n lo hi : ℕ) (s : List ℕ) → wellFormedFrom 
 unfolding awaiting Forgets
 awaiting-any w n lo hi s = forget s w (suc n) lo hi
 
-none-and : (a : Bool) → (a && false) ≡ false
-none-and true = refl
-none-and false = refl
-
 -- the next byte b, and s behind it
 module _ (b : ℕ) (s : List ℕ) where
   nul-byte : (n lo hi : ℕ) → b ≡ 0 → validFrom n lo hi (b ∷ s) ≡ false
@@ -68,7 +64,7 @@ module _ (b : ℕ) (s : List ℕ) where
     other-byte n lo hi e = rw (lt-ltb 0 b (omega arith), e)
 
     fails : (n lo hi : ℕ) → wellFormedFrom (awaiting n lo hi) (b ∷ s) ≡ false → validFrom n lo hi (b ∷ s) ≡ false
-    fails n lo hi e = other-byte n lo hi e ∙ none-and (noNul s)
+    fails n lo hi e = other-byte n lo hi e ∙ and-false (noNul s)
 
     -- between characters
     single-byte : (n lo hi : ℕ) → n ≡ 0 → upTo leads b ≡ single → validFrom n lo hi (b ∷ s) ≡ validFrom n lo hi s
@@ -148,7 +144,7 @@ module _ (pool : List ℕ) (i to n lo hi : ℕ) {z : Bool} (inv : z ≡ validFro
         valid-low k = sym (next-is ∙ rw again (outside-byte _ _ other (n - 1) lo hi (rw (lt-leb lo (getD pool i 0) k))))
 
         pub valid-high : hi < getD pool i 0 → false ≡ z
-        valid-high k = sym (next-is ∙ rw again (outside-byte _ _ other (n - 1) lo hi (rw (lt-leb (getD pool i 0) hi k) (none-and (leb lo (getD pool i 0))))))
+        valid-high k = sym (next-is ∙ rw again (outside-byte _ _ other (n - 1) lo hi (rw (lt-leb (getD pool i 0) hi k) (and-false (leb lo (getD pool i 0))))))
 
         pub valid-on : lo ≤ getD pool i 0 → getD pool i 0 ≤ hi → z ≡ validFrom (n - 1) 0x80 0xbf (part pool (i + 1) to)
         valid-on j k = next-is ∙ ap (λ (m : ℕ). validFrom m lo hi (getD pool i 0 ∷ part pool (i + 1) to)) again ∙ inside-byte _ _ other (n - 1) lo hi (rw (le-leb lo (getD pool i 0) j, le-leb (getD pool i 0) hi k))

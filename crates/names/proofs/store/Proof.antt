@@ -1,4 +1,5 @@
-use Rattle.names.proofs.Storing.{sets-take, all-past, all-in}
+use Rattle.format.proofs.Lists.{sets-take}
+use Rattle.names.proofs.Storing.{all-past, all-in}
 use mathlib.Core.Path.{_≡_, refl, ap, _∙_}
 use mathlib.Core.List.{List}
 use Prim.Native.Nat.{ℕ, _+_, _-_, _≤_}
