@@ -1,2 +1,4 @@
 pub mod Heading
+pub mod Classes
+pub mod Properties
 pub mod Opening

@@ -1,29 +1,29 @@
 -- The ways out of `open_type`, `open_variable` and `open_array`: each law's premises are the facts that the code has there.
 use mathlib.Core.Path.{_≡_, refl, sym, ap, _∙_}
-use mathlib.Core.Bool.{true, false}
+use mathlib.Core.Bool.{true}
 use mathlib.Core.List.{List, []}
-use Prim.Native.Nat.{ℕ, zero, suc, _+_, _-_, _*_, _<_, _≤_}
+use Prim.Native.Nat.{ℕ, suc, _+_, _-_, _*_, _<_, _≤_}
 use native.Mathlib.Omega.{arith}
-use borrow.Author.Tests.{le-leb, lt-leb, lt-ltb, le-ltb, eq-eqb, ne-eqb}
-use lib.ListN.{length, getD, take, drop, length-drop}
-use lib.Seq.{getD-take, getD-drop, take-take, length-take-le}
+use lib.ListN.{length, getD, take, drop}
 use Rattle.refusal.specs.declared.Refusal.{Refusal}
 use Rattle.refusal.specs.declared.Refusal.the-variants.{TooDeep, Short, BadClass, BadVersion, BadPadding, BadCharset, PoolFull}
 use Rattle.format.specs.declared.Header.{Header}
 use Rattle.format.specs.Bits.{lowBits, highBits}
 use Rattle.format.specs.Bytes.{dimensionsFrom}
-use Rattle.format.specs.Datatype.{Datatype, array}
+use Rattle.format.specs.Datatype.{Datatype}
 use Rattle.format.specs.Message.{reservedBytes, permutationBytes}
-use Rattle.format.specs.Reading.{Answer, got, refused, Reader, then, _>>=_, _>>_, give, require, refuse, bytes, piece, inner, classKind, countOf, readNames, layoutVersion, readVariable, readArray, readProperties, sized, readType}
-use Rattle.format.specs.Table.{Kind, isFixedPoint, isFloatingPoint, isTime, isString, isBitField, isOpaque, isCompound, isReference, isEnumeration, isVariableLength, isArray, isUnknown}
+use Rattle.format.specs.Reading.{refused, Reader, _>>=_, _>>_, refuse, classKind, layoutVersion, readProperties, sized, readType}
+use Rattle.format.specs.Table.{isCompound, isVariableLength, isArray}
 use Rattle.reading.specs.declared.Limits.{Limits}
 use Rattle.reading.specs.declared.Base.{Base}
 use Rattle.reading.specs.declared.Headed.{Headed}
 use Rattle.reading.specs.declared.Headed.the-variants.{Head, Refused as HeadRefused}
 use Rattle.reading.specs.declared.Opened.{Opened}
 use Rattle.reading.specs.declared.Opened.the-variants.{Leaf, Compound, Based, Refused as OpenRefused}
-use Rattle.reading.specs.Contract.{run, leafKind, readLeaf, readCompound, variableOf, readEnumMembers, behind, readBased, Begun, Heads, basedKind, dimensionsOf, OpensLeaf, OpensCompound, OpensBased, Opens}
-use Rattle.reading.proofs.Steps.{sized-no, bytes-go, bytes-short, piece-go, piece-full, drop-take}
+use Rattle.reading.specs.Contract.{run, leafKind, readLeaf, readCompound, readBased, Begun, Heads, basedKind, dimensionsOf, OpensLeaf, OpensCompound, OpensBased, Opens}
+use Rattle.reading.proofs.Steps.{sized-no}
+use Rattle.reader_before.proofs.Classes.{leaf-low, unknown-high, kind-compound, kind-packed, leaf-reference, kind-enumeration, kind-variable, kind-array, own-layout, packed-layout, leaf-same}
+use Rattle.reader_before.proofs.Properties.{propertiesAt, compound-go, compound-old, compound-new, enumeration-go, unknown-no, sequence-go, text-padding, text-charset, text-go, arrayRest, array-old, array-new, array-is, rank-short, rank-go, rest-short, rest-full, rest-go}
 
 -- ---- what is returned, by cases
 
@@ -99,237 +99,6 @@ module _ {d : List ℕ} {lim : Limits} {used pooled : ℕ} where
 sized-same : (h : Header) (m m′ : Reader Datatype) (v at : ℕ) (s : List ℕ) (r p at′ : ℕ) (s′ : List ℕ) (r′ p′ : ℕ) → m v at s r p ≡ m′ v at′ s′ r′ p′ → sized h m v at s r p ≡ sized h m′ v at′ s′ r′ p′
 unfolding sized
 sized-same h m m′ v at s r p at′ s′ r′ p′ q = rw q
-
--- ---- kinds
-
-leaf-low : (c : ℕ) → c < 6 → leafKind (classKind c) ≡ true
-unfolding leafKind classKind
-leaf-low zero h = refl
-leaf-low (suc zero) h = refl
-leaf-low (suc (suc zero)) h = refl
-leaf-low (suc (suc (suc zero))) h = refl
-leaf-low (suc (suc (suc (suc zero)))) h = refl
-leaf-low (suc (suc (suc (suc (suc zero))))) h = refl
-leaf-low (suc (suc (suc (suc (suc (suc c)))))) h = absurd (omega arith)
-
-unknown-high : (c : ℕ) → 12 ≤ c → classKind c ≡ isUnknown
-unfolding classKind
-unknown-high zero h = absurd (omega arith)
-unknown-high (suc zero) h = absurd (omega arith)
-unknown-high (suc (suc zero)) h = absurd (omega arith)
-unknown-high (suc (suc (suc zero))) h = absurd (omega arith)
-unknown-high (suc (suc (suc (suc zero)))) h = absurd (omega arith)
-unknown-high (suc (suc (suc (suc (suc zero))))) h = absurd (omega arith)
-unknown-high (suc (suc (suc (suc (suc (suc zero)))))) h = absurd (omega arith)
-unknown-high (suc (suc (suc (suc (suc (suc (suc zero))))))) h = absurd (omega arith)
-unknown-high (suc (suc (suc (suc (suc (suc (suc (suc zero)))))))) h = absurd (omega arith)
-unknown-high (suc (suc (suc (suc (suc (suc (suc (suc (suc zero))))))))) h = absurd (omega arith)
-unknown-high (suc (suc (suc (suc (suc (suc (suc (suc (suc (suc zero)))))))))) h = absurd (omega arith)
-unknown-high (suc (suc (suc (suc (suc (suc (suc (suc (suc (suc (suc zero))))))))))) h = absurd (omega arith)
-unknown-high (suc (suc (suc (suc (suc (suc (suc (suc (suc (suc (suc (suc c)))))))))))) h = refl
-
-module _ (c : ℕ) where
-  kind-compound : c ≡ 6 → classKind c ≡ isCompound
-  unfolding classKind
-  kind-compound e = rw e
-
-  kind-packed : c ≡ 11 → classKind c ≡ isCompound
-  unfolding classKind
-  kind-packed e = rw e
-
-  leaf-reference : c ≡ 7 → leafKind (classKind c) ≡ true
-  unfolding classKind leafKind
-  leaf-reference e = rw e
-
-  kind-enumeration : c ≡ 8 → classKind c ≡ isEnumeration
-  unfolding classKind
-  kind-enumeration e = rw e
-
-  pub kind-variable : c ≡ 9 → classKind c ≡ isVariableLength
-  unfolding classKind
-  kind-variable e = rw e
-
-  pub kind-array : c ≡ 10 → classKind c ≡ isArray
-  unfolding classKind
-  kind-array e = rw e
-
-module _ (h : Header) where
-  own-layout : h .class ≡ 6 → layoutVersion h ≡ h .version
-  unfolding layoutVersion
-  own-layout e = rw e
-
-  packed-layout : h .class ≡ 11 → layoutVersion h ≡ 3
-  unfolding layoutVersion
-  packed-layout e = rw e
-
-no-truth : false ≡ true → ⊥
-no-truth e = let z : _≡_ {A = ℕ} 0 1 = cc in omega arith
-
--- the reader of the types inside a leaf is never asked
-leaf-same : (rd rd′ : Reader Datatype) (h : Header) (k : Kind) → leafKind k ≡ true → readProperties rd h k ≡ readProperties rd′ h k
-unfolding leafKind readProperties
-leaf-same rd rd′ h isFixedPoint e = refl
-leaf-same rd rd′ h isFloatingPoint e = refl
-leaf-same rd rd′ h isTime e = refl
-leaf-same rd rd′ h isString e = refl
-leaf-same rd rd′ h isBitField e = refl
-leaf-same rd rd′ h isOpaque e = refl
-leaf-same rd rd′ h isCompound e = absurd (no-truth e)
-leaf-same rd rd′ h isReference e = refl
-leaf-same rd rd′ h isEnumeration e = absurd (no-truth e)
-leaf-same rd rd′ h isVariableLength e = absurd (no-truth e)
-leaf-same rd rd′ h isArray e = absurd (no-truth e)
-leaf-same rd rd′ h isUnknown e = absurd (no-truth e)
-
--- ---- steps in a row
-
-then-then : {A B C : Type 0} (o : Answer A) (f : A → ℕ → List ℕ → ℕ → ℕ → Answer B) (g : B → ℕ → List ℕ → ℕ → ℕ → Answer C)
-    → then (then o f) g ≡ then o (λ a at s r p. then (f a at s r p) g)
-unfolding then
-then-then (got a at s r p) f g = refl
-then-then (refused e) f g = refl
-
-then-same : {A B : Type 0} (o : Answer A) {f g : A → ℕ → List ℕ → ℕ → ℕ → Answer B} → ((a : A) (at : ℕ) (s : List ℕ) (r p : ℕ) → f a at s r p ≡ g a at s r p) → then o f ≡ then o g
-unfolding then
-then-same (got a at s r p) q = q a at s r p
-then-same (refused e) q = refl
-
--- ---- a type of each kind behind its header
-
-abbrev propertiesAt : Reader Datatype → Header → List ℕ → (rows pool : ℕ) → Answer Datatype
-propertiesAt rd h d r p = readProperties rd h (classKind (h .class)) (length d) 8 (drop 8 d) r p
-
-module _ (rd : Reader Datatype) (h : Header) (d : List ℕ) (r cap pooled : ℕ) where
-  module _ (kind : classKind (h .class) ≡ isCompound) (v : ℕ) (layout : layoutVersion h ≡ v) where
-    compound-go : 0 < v → v ≤ 4 → propertiesAt rd h d r (cap - pooled) ≡ readCompound rd h v (length d) 8 (drop 8 d) r (cap - pooled)
-    unfolding readProperties then require readCompound
-    compound-go a b = rw (kind, layout, lt-ltb 0 v a, le-leb v 4 b)
-
-    compound-old : v < 1 → propertiesAt rd h d r (cap - pooled) ≡ refused (BadVersion (h .class) v)
-    unfolding readProperties then require
-    compound-old a = rw (kind, layout, le-ltb 0 v (omega arith))
-
-    compound-new : 4 < v → propertiesAt rd h d r (cap - pooled) ≡ refused (BadVersion (h .class) v)
-    unfolding readProperties then require
-    compound-new a = rw (kind, layout, lt-ltb 0 v (omega arith), lt-leb v 4 a)
-
-  enumeration-go : classKind (h .class) ≡ isEnumeration → propertiesAt rd h d r (cap - pooled) ≡ readBased rd h [] (length d) 8 (drop 8 d) r (cap - pooled)
-  unfolding readProperties readBased behind readEnumMembers
-  enumeration-go kind =
-      rw
-      kind
-      (then-same
-      (inner rd (length d) 8 (drop 8 d) r (cap - pooled))
-      (λ t at s r p. sym (then-then (readNames (h .version) (countOf h) (length d) at s r p) _ _)))
-
-  unknown-no : classKind (h .class) ≡ isUnknown → propertiesAt rd h d r (cap - pooled) ≡ refused (BadClass (h .class))
-  unfolding readProperties
-  unknown-no kind = rw kind
-
-  module _ (kind : classKind (h .class) ≡ isVariableLength) where
-    sequence-go : (lowBits 4 (h .f0) ≡ 1 → ⊥) → propertiesAt rd h d r (cap - pooled) ≡ readBased rd h [] (length d) 8 (drop 8 d) r (cap - pooled)
-    unfolding readProperties then readVariable readBased behind variableOf
-    sequence-go n = rw (kind, ne-eqb (lowBits 4 (h .f0)) 1 n)
-
-    module _ (text : lowBits 4 (h .f0) ≡ 1) where
-      text-padding : 2 < highBits 4 (h .f0) → propertiesAt rd h d r (cap - pooled) ≡ refused (BadPadding (highBits 4 (h .f0)))
-      unfolding readProperties then readVariable require
-      text-padding a = rw (kind, eq-eqb (lowBits 4 (h .f0)) 1 text, lt-leb (highBits 4 (h .f0)) 2 a)
-
-      module _ (padding : highBits 4 (h .f0) ≤ 2) where
-        text-charset : 1 < lowBits 4 (h .f1) → propertiesAt rd h d r (cap - pooled) ≡ refused (BadCharset (lowBits 4 (h .f1)))
-        unfolding readProperties then readVariable require
-        text-charset a = rw (kind, eq-eqb (lowBits 4 (h .f0)) 1 text, le-leb (highBits 4 (h .f0)) 2 padding, lt-leb (lowBits 4 (h .f1)) 1 a)
-
-        text-go : lowBits 4 (h .f1) ≤ 1 → propertiesAt rd h d r (cap - pooled) ≡ readBased rd h [] (length d) 8 (drop 8 d) r (cap - pooled)
-        unfolding readProperties then readVariable require readBased behind variableOf
-        text-go a = rw (kind, eq-eqb (lowBits 4 (h .f0)) 1 text, le-leb (highBits 4 (h .f0)) 2 padding, le-leb (lowBits 4 (h .f1)) 1 a)
-
--- ---- an array
-
--- k dimensions take 4 bytes each
-dimensions-front : (k m : ℕ) (s : List ℕ) → 4 * k ≤ m → dimensionsFrom k (take m s) ≡ dimensionsFrom k s
-unfolding dimensionsFrom
-dimensions-front zero m s h = refl
-dimensions-front (suc k) m s h =
-    rw (take-take 4 m s (omega arith), drop-take 4 (m - 4) m s (omega arith), dimensions-front k (m - 4) (drop 4 s) (omega arith))
-
--- what stands behind an array's rank and reserved bytes: n bytes, of which the dimensions are the first
-unfoldable arrayRest : Reader Datatype → (rank n : ℕ) → Reader Datatype
-arrayRest rd k n = do
-  b ← bytes n
-  piece (take (4 * k) b)
-  t ← inner rd
-  give (array (dimensionsFrom k b) t)
-
-module _ (rd : Reader Datatype) (h : Header) (d : List ℕ) (r cap pooled : ℕ) (kind : classKind (h .class) ≡ isArray) where
-  array-old : h .version < 2 → propertiesAt rd h d r (cap - pooled) ≡ refused (BadVersion (h .class) (h .version))
-  unfolding readProperties then require
-  array-old a = rw (kind, le-ltb 1 (h .version) (omega arith))
-
-  array-new : 4 ≤ h .version → propertiesAt rd h d r (cap - pooled) ≡ refused (BadVersion (h .class) (h .version))
-  unfolding readProperties then require
-  array-new a = rw (kind, lt-ltb 1 (h .version) (omega arith), lt-leb (h .version) 3 (omega arith))
-
-  module _ (low : 2 ≤ h .version) (high : h .version < 4) where
-    array-is : propertiesAt rd h d r (cap - pooled) ≡ readArray rd (h .version) (length d) 8 (drop 8 d) r (cap - pooled)
-    unfolding readProperties then require
-    array-is = rw (kind, lt-ltb 1 (h .version) (omega arith), le-leb (h .version) 3 (omega arith))
-
-  module _ (rb : ℕ) (reserved : rb ≡ reservedBytes (h .version)) where
-    rank-short : length d < 9 + rb → readArray rd (h .version) (length d) 8 (drop 8 d) r (cap - pooled) ≡ refused (Short (9 + rb) (length d))
-    unfolding readArray then
-    rank-short a =
-        let e : 8 + (1 + rb) ≡ 9 + rb = omega arith in
-        rw (← reserved, bytes-short (1 + rb) 8 d r (cap - pooled) (omega arith) (omega arith), e)
-
-    module _ (there : 9 + rb ≤ length d) (k pb : ℕ) (rank : k ≡ getD d 8 0) (permutation : pb ≡ permutationBytes (h .version) k) where
-      rank-go : readArray rd (h .version) (length d) 8 (drop 8 d) r (cap - pooled) ≡ arrayRest rd k (4 * k + pb) (length d) (9 + rb) (drop (9 + rb) d) r (cap - pooled)
-      unfolding readArray then arrayRest
-      rank-go =
-          let e : 8 + (1 + rb) ≡ 9 + rb = omega arith in
-          let f : getD (take (1 + rb) (drop 8 d)) 0 0 ≡ k = getD-take (1 + rb) (drop 8 d) 0 0 (omega arith) ∙ (getD-drop 8 d 0 0 ∙ sym rank) in
-          rw (← reserved, bytes-go (1 + rb) 8 d r (cap - pooled) (omega arith), f, ← permutation, e)
-
-module _ (rd : Reader Datatype) (d : List ℕ) (r cap pooled start k pb : ℕ) where
-  rest-short : start ≤ length d → length d < start + 4 * k + pb → arrayRest rd k (4 * k + pb) (length d) start (drop start d) r (cap - pooled) ≡ refused (Short (start + 4 * k + pb) (length d))
-  unfolding then arrayRest
-  rest-short a b =
-      let e : start + (4 * k + pb) ≡ start + 4 * k + pb = omega arith in
-      rw (bytes-short (4 * k + pb) start d r (cap - pooled) (omega arith) (omega arith), e)
-
-  module _ (there : start + 4 * k + pb ≤ length d) where
-    -- the dimensions' bytes
-    rest-dimensions : take (4 * k) (take (4 * k + pb) (drop start d)) ≡ take (4 * k) (drop start d)
-    rest-dimensions = take-take (4 * k) (4 * k + pb) (drop start d) (omega arith)
-
-    rest-long : length (take (4 * k) (drop start d)) ≡ 4 * k
-    rest-long = length-take-le (4 * k) (drop start d) (omega (arith, length-drop start d))
-
-    rest-full : cap - pooled < 4 * k → arrayRest rd k (4 * k + pb) (length d) start (drop start d) r (cap - pooled) ≡ refused PoolFull
-    unfolding then arrayRest
-    rest-full a =
-        rw (
-          bytes-go (4 * k + pb) start d r (cap - pooled) (omega arith),
-          rest-dimensions,
-          piece-full (take (4 * k) (drop start d)) (length d) (start + (4 * k + pb)) (drop (start + (4 * k + pb)) d) r cap pooled (omega (arith, rest-long)),
-        )
-
-    rest-go : (h : Header) → classKind (h .class) ≡ isArray → 4 * k ≤ cap - pooled → arrayRest rd k (4 * k + pb) (length d) start (drop start d) r (cap - pooled)
-        ≡ readBased rd h (dimensionsFrom k (take (4 * k) (drop start d))) (length d) (start + 4 * k + pb) (drop (start + 4 * k + pb) d) r (cap - (pooled + 4 * k))
-    unfolding then arrayRest readBased behind
-    rest-go h kind a =
-        let e : start + (4 * k + pb) ≡ start + 4 * k + pb = omega arith in
-        let f : dimensionsFrom k (take (4 * k + pb) (drop start d)) ≡ dimensionsFrom k (take (4 * k) (drop start d)) = dimensions-front k (4 * k + pb) (drop start d) (omega arith) ∙ sym (dimensions-front k (4 * k) (drop start d) (omega arith)) in
-        rw (
-          kind,
-          bytes-go (4 * k + pb) start d r (cap - pooled) (omega arith),
-          rest-dimensions,
-          piece-go (take (4 * k) (drop start d)) (length d) (start + (4 * k + pb)) (drop (start + (4 * k + pb)) d) r cap pooled (omega (arith, rest-long)),
-          rest-long,
-          f,
-          e,
-        )
 
 -- ---- the ways out
 

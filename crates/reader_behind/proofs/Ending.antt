@@ -17,7 +17,7 @@ use Rattle.format.specs.Bytes.{zeros, padded, dimensionBytes, dimensionsFrom}
 use Rattle.format.specs.Datatype.{enumNames, enumValues, Datatype, variableLength, array, enumeration, typeSize, rowCount, poolBytes, product}
 use Rattle.format.specs.Reading.{got, refused, then, countOf, classKind, sized}
 use Rattle.format.specs.Table.{row, rows, enumRows, isEnumeration, isVariableLength, isArray}
-use Rattle.format.proofs.Bytes.{length-dimensions, length-dimensionsFrom, dimension-bytes-back, bytes-take, bytes-drop}
+use Rattle.format.proofs.Bytes.{length-dimensions, length-dimensionsFrom, dimension-bytes-back, all-bytes, bytes-take, bytes-drop}
 use Rattle.reading.specs.declared.Limits.{Limits}
 use Rattle.reading.specs.declared.State.{State}
 use Rattle.reading.specs.declared.Base.{Base}
@@ -25,7 +25,7 @@ use Rattle.reading.specs.declared.Step.{Step}
 use Rattle.reading.specs.declared.Step.the-variants.{Done as StepDone, Refused as StepRefused}
 use Rattle.reading.specs.Contract.{run, here, Ready, AfterEnum, readEnumMembers, behind, variableOf, dimensionsOf, basedKind, Ended, Ends}
 use Rattle.reading.proofs.Steps.{sized-no, sized-go, sized-zero}
-use Rattle.reading.proofs.Contracts.{by-done, not-done, by-refused, not-refused, all-bytes}
+use Rattle.reading.proofs.Contracts.{by-done, not-done, by-refused, not-refused}
 
 -- ---- by what is returned
 

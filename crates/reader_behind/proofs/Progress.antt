@@ -9,7 +9,7 @@ use Rattle.refusal.specs.declared.Refusal.{Refusal}
 use Rattle.format.specs.Reading.{Answer, got, refused, then, readName, readNames}
 use Rattle.format.specs.Table.{enumMemberRow}
 use Rattle.format.proofs.Rows.{length-enumMemberRow}
-use Rattle.primitives.proofs.Laws.{sets-append}
+use Rattle.format.proofs.Lists.{sets-append}
 use Rattle.reading.specs.declared.Limits.{Limits}
 use Rattle.reading.specs.declared.State.{State}
 use Rattle.reading.specs.declared.Step.{Step}

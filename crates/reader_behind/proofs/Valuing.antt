@@ -18,7 +18,7 @@ use Rattle.reading.specs.declared.Step.the-variants.{Done as StepDone, Refused 
 use Rattle.reading.specs.Contract.{run, nameRows, joinedNames, AfterNames, AfterEnum, Valued, Values, readEnumMembers}
 use Rattle.reading.proofs.Steps.{bytes-go, bytes-short, piece-go, piece-full}
 use Rattle.reading.proofs.Contracts.{by-done, not-done, by-refused, not-refused, refuses}
-use Rattle.primitives.proofs.Laws.{sets-append}
+use Rattle.format.proofs.Lists.{sets-append}
 
 -- ---- values
 

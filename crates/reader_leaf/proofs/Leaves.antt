@@ -5,8 +5,8 @@ use mathlib.Core.List.{List, [], _∷_}
 use Prim.Native.Nat.{ℕ, zero, suc, _+_, _-_, _*_, _<_, _≤_}
 use native.Mathlib.Omega.{arith}
 use borrow.Author.Tests.{le-leb, lt-leb}
-use lib.ListN.{length, getD, take, drop, length-drop}
-use lib.Seq.{sets, take-take, drop-drop, length-take-le}
+use lib.ListN.{length, getD, take, drop}
+use lib.Seq.{sets, take-take, drop-drop}
 use Rattle.refusal.specs.declared.Refusal.{Refusal}
 use Rattle.refusal.specs.declared.Refusal.the-variants.{TooDeep, Short, BadPadding, BadCharset, BadReferenceKind, PoolFull, ZeroSize}
 use Rattle.format.specs.declared.Header.{Header}
@@ -16,12 +16,13 @@ use Rattle.format.specs.Datatype.{Datatype, fixedPoint, floatingPoint, time, st
 use Rattle.format.specs.Message.{bitWidths, floatWidths, timeWidths}
 use Rattle.format.specs.Reading.{got, refused, then, _>>=_, give, refuse, require, numbers, classKind, readProperties, sized}
 use Rattle.format.specs.Table.{Kind, isFixedPoint, isFloatingPoint, isTime, isString, isBitField, isOpaque, isReference, row, rows}
+use Rattle.format.proofs.Lists.{drop-take, length-part}
 use Rattle.reading.specs.declared.Limits.{Limits}
 use Rattle.reading.specs.declared.State.{State}
 use Rattle.reading.specs.declared.Step.{Step}
 use Rattle.reading.specs.declared.Step.the-variants.{Done, Refused}
 use Rattle.reading.specs.Contract.{run, here, Ready, AfterType, leafKind, readLeaf}
-use Rattle.reading.proofs.Steps.{bytes-go, bytes-short, skip-go, piece-go, piece-full, drop-take, sized-no, sized-go, sized-zero}
+use Rattle.reading.proofs.Steps.{bytes-go, bytes-short, skip-go, piece-go, piece-full, sized-no, sized-go, sized-zero}
 use Rattle.reading.proofs.Contracts.{lands, refuses, one-row}
 
 -- ---- what all classes share
@@ -230,12 +231,9 @@ module _ (h : Header) (d : List ℕ) {lim : Limits} {used pooled : ℕ} {t p : L
 
 -- ---- opaque: a tag, and its padding
 
-tag-length : (n : ℕ) (d : List ℕ) → 8 + n ≤ length d → length (take n (drop 8 d)) ≡ n
-tag-length n d long = length-take-le n (drop 8 d) (omega (arith, length-drop 8 d))
-
 opaque-leaf : (h : Header) (pooled n : ℕ) (d : List ℕ) → 8 + n ≤ length d → Leaf h pooled (opaque (h .size) (take n (drop 8 d))) (6 ∷ h .size ∷ pooled ∷ n ∷ 0 ∷ 0 ∷ 0 ∷ 0 ∷ 0 ∷ 0 ∷ 0 ∷ 0 ∷ 0 ∷ 0 ∷ 0 ∷ 0 ∷ []) (take n (drop 8 d))
 unfolding typeSize rowCount poolBytes rows row padded zeros
-opaque-leaf h pooled n d long = record { size = refl; count = refl; words-are = rw (tag-length n d long); bytes-are = refl }
+opaque-leaf h pooled n d long = record { size = refl; count = refl; words-are = rw (length-part d 8 n long); bytes-are = refl }
 
 module _ (h : Header) (d : List ℕ) {lim : Limits} {used pooled : ℕ} {t p : List ℕ} where
   module _ (n : ℕ) (asked : Asked isOpaque h d lim used pooled t p) (en : (n ≡ h .f0) × (n < 256)) where
@@ -249,7 +247,7 @@ module _ (h : Header) (d : List ℕ) {lim : Limits} {used pooled : ℕ} {t p : L
       pub opaque-full : {t′ p′ : List ℕ} → lim .pool - pooled < n → Ends h d lim used pooled t p (Refused PoolFull) t′ p′
       unfolding readProperties then
       opaque-full m =
-          let k : lim .pool - pooled < length (take n (drop 8 d)) = omega (arith, tag-length n d long) in
+          let k : lim .pool - pooled < length (take n (drop 8 d)) = omega (arith, length-part d 8 n long) in
           leaf-refuses h d asked (rw (
             ← en .0,
             bytes-go n 8 d (lim .rows - (used + 1)) (lim .pool - pooled) long,
@@ -261,12 +259,12 @@ module _ (h : Header) (d : List ℕ) {lim : Limits} {used pooled : ℕ} {t p : L
             ≡ here (opaque (h .size) (take n (drop 8 d))) d lim (ended h (8 + n + paddingTo8 n) used (pooled + n))
         unfolding readProperties then
         opaque-is =
-            let k : length (take n (drop 8 d)) ≤ lim .pool - pooled = omega (arith, tag-length n d long) in
+            let k : length (take n (drop 8 d)) ≤ lim .pool - pooled = omega (arith, length-part d 8 n long) in
             rw (
               ← en .0,
               bytes-go n 8 d (lim .rows - (used + 1)) (lim .pool - pooled) long,
               piece-go (take n (drop 8 d)) (length d) (8 + n) (drop (8 + n) d) (lim .rows - (used + 1)) (lim .pool) pooled k,
-              tag-length n d long,
+              length-part d 8 n long,
               skip-go (paddingTo8 n) (8 + n) d (lim .rows - (used + 1)) (lim .pool - (pooled + n)) (length d),
             )
 
@@ -278,7 +276,7 @@ module _ (h : Header) (d : List ℕ) {lim : Limits} {used pooled : ℕ} {t p : L
             → Ends h d lim used pooled t p (Done (ended h (8 + n + pad) used (pooled + n))) t′ p′
         opaque-lands pad e z ep et =
             let place = asked .0 .0 .0 .room in
-            leaf-lands h d asked _ _ (rw (e .0) opaque-is) (opaque-leaf h pooled n d long) z refl refl (omega (arith, tag-length n d long)) (omega arith) (omega arith) et ep
+            leaf-lands h d asked _ _ (rw (e .0) opaque-is) (opaque-leaf h pooled n d long) z refl refl (omega (arith, length-part d 8 n long)) (omega arith) (omega arith) et ep
 
 -- ---- the class's number
 

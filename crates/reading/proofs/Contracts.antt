@@ -1,21 +1,19 @@
 -- Laws that put a contract together, or take one apart.
 use mathlib.Core.Path.{_≡_, refl, sym, ap, _∙_}
-use mathlib.Core.List.{List, [], _∷_, _++_, append-assoc, append-nil}
-use Prim.Native.Nat.{ℕ, zero, suc, _+_, _-_, _*_, _<_, _≤_}
+use mathlib.Core.List.{List, [], _∷_, _++_}
+use Prim.Native.Nat.{ℕ, suc, _+_, _-_, _*_, _<_, _≤_}
 use native.Mathlib.Omega.{arith}
-use lib.ListN.{length, getD, set, length-append, length-set}
-use lib.Seq.{sets, length-sets, set-comm}
+use lib.ListN.{length, set}
+use lib.Seq.{sets, set-comm}
 use Rattle.refusal.specs.declared.Refusal.{Refusal}
-use Rattle.format.specs.declared.Header.{Header}
-use Rattle.format.specs.Bytes.{AllBytes}
-use Rattle.format.specs.Datatype.{Datatype, Members, typeSize, rowCount, poolBytes, memberRowCount, memberPool}
-use Rattle.format.specs.Reading.{Answer, got, refused}
-use Rattle.format.specs.Table.{row, rows, memberRows}
+use Rattle.format.specs.Datatype.{Datatype, typeSize, rowCount, poolBytes}
+use Rattle.format.specs.Reading.{Answer, refused}
+use Rattle.format.specs.Table.{rows}
 use Rattle.reading.specs.declared.Limits.{Limits}
 use Rattle.reading.specs.declared.State.{State}
 use Rattle.reading.specs.declared.Step.{Step}
 use Rattle.reading.specs.declared.Step.the-variants.{Done as StepDone, Refused as StepRefused}
-use Rattle.reading.specs.Contract.{run, here, Ready, Landed, After, AfterType, AfterMembers}
+use Rattle.reading.specs.Contract.{here, Ready, Landed, After}
 
 done-is : {s z : State} → StepDone s ≡ StepDone z → s ≡ z
 done-is e = cc
@@ -93,9 +91,3 @@ sets-before [] vs l i j e =
     rw q
 sets-before (w ∷ ws) vs l i j e =
     ap (λ (m : List ℕ). sets m (suc i) ws) (set-before vs l i j w (omega arith)) ∙ sets-before ws vs (set l i w) (suc i) j (omega arith)
-
--- every element is a byte
-pub all-bytes : (l : List ℕ) → ((i : ℕ) → getD l i 0 < 256) → AllBytes l
-unfolding AllBytes
-all-bytes [] h = tt
-all-bytes (b ∷ l) h = (h 0, all-bytes l (λ i. h (suc i)))

@@ -1,22 +1,22 @@
 -- The members of a compound, one turn of the loop after another.
 use mathlib.Core.Path.{_≡_, refl, sym, ap, _∙_}
-use mathlib.Core.List.{List, [], _∷_, _++_, append-assoc, append-nil}
-use Prim.Native.Nat.{ℕ, zero, suc, _+_, _-_, _*_, _<_, _≤_}
+use mathlib.Core.List.{List, _++_, append-assoc, append-nil}
+use Prim.Native.Nat.{ℕ, suc, _+_, _-_, _*_, _<_, _≤_}
 use native.Mathlib.Omega.{arith}
-use native.Mathlib.Nat.{add-zero, add-assoc}
+use native.Mathlib.Nat.{add-zero}
 use lib.ListN.{length, take, drop, length-append, length-drop}
 use lib.Seq.{sets, length-sets}
 use Rattle.refusal.specs.declared.Refusal.{Refusal}
 use Rattle.format.specs.Datatype.{Datatype, Members, noMembers, member, memberCount, rowCount, memberRowCount, poolBytes, memberPool, typeSize}
-use Rattle.format.specs.Reading.{Answer, got, refused, Reader, then, inner, readMembers, readType}
+use Rattle.format.specs.Reading.{Answer, got, refused, Reader, then, readMembers}
 use Rattle.format.specs.Table.{rows, memberRow, memberRows}
-use Rattle.format.proofs.Rows.{length-rows, length-memberRow, length-memberRows}
-use Rattle.primitives.proofs.Laws.{sets-append, part-all}
+use Rattle.format.proofs.Rows.{length-memberRow, length-memberRows}
+use Rattle.format.proofs.Lists.{sets-more, part-all}
 use Rattle.reading.specs.declared.Limits.{Limits}
 use Rattle.reading.specs.declared.State.{State}
 use Rattle.reading.specs.declared.Step.{Step}
 use Rattle.reading.specs.declared.Step.the-variants.{Done as StepDone, Refused as StepRefused}
-use Rattle.reading.specs.Contract.{run, here, Ready, Landed, After, AfterType, AfterMembers, Entered, Enters}
+use Rattle.reading.specs.Contract.{run, Ready, Landed, AfterType, AfterMembers, Entered, Enters}
 use Rattle.reading.proofs.Contracts.{lands, refuses, ready-at}
 use Rattle.reading.proofs.Steps.{inner-go, inner-no}
 use Rattle.reading.specs.Members.{joinMembers, Progress}
@@ -60,12 +60,6 @@ unfolding then
 then-same (got a at s r p) = refl
 then-same (refused e) = refl
 
-then-then : {A B C : Type 0} (x : Answer A) (f : A → ℕ → List ℕ → ℕ → ℕ → Answer B) (g : B → ℕ → List ℕ → ℕ → ℕ → Answer C)
-    → then (then x f) g ≡ then x (λ a at s r p. then (f a at s r p) g)
-unfolding then
-then-then (got a at s r p) f g = refl
-then-then (refused e) f g = refl
-
 -- the answer behind one member more
 one-more : (x : Answer Members) (front : Members) (b : List ℕ) (o : ℕ) (t : Datatype)
     → then (then x (λ ms at s r p. got (member b o t ms) at s r p)) (λ ms at s r p. got (joinMembers front ms) at s r p)
@@ -73,10 +67,6 @@ one-more : (x : Answer Members) (front : Members) (b : List ℕ) (o : ℕ) (t : 
 unfolding then joinMembers
 one-more (got ms at s r p) front b o t = ap (λ (m : Members). got m at s r p) (sym (join-join front (member b o t noMembers) ms))
 one-more (refused e) front b o t = refl
-
--- stores behind stores
-pub sets-more : (l xs ys : List ℕ) {l₁ l₂ : List ℕ} (i j : ℕ) → l₁ ≡ sets l i xs → l₂ ≡ sets l₁ j ys → j ≡ i + length xs → l₂ ≡ sets l i (xs ++ ys)
-sets-more l xs ys i j a b e = b ∙ ap (λ (k : List ℕ). sets k j ys) a ∙ ap (λ (k : ℕ). sets (sets l i xs) k ys) e ∙ sym (sets-append xs ys l i)
 
 member-words : (p : ℕ) (b : List ℕ) (o : ℕ) (t : Datatype) → memberRows p (member b o t noMembers) ≡ memberRow p o (length b) ++ rows (p + length b) t
 unfolding rows

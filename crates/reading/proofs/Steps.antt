@@ -1,14 +1,13 @@
 -- The reader's steps at a place of a message: what each gives, and where it ends.
-use mathlib.Core.Path.{_≡_, refl, sym, ap, _∙_}
+use mathlib.Core.Path.{_≡_, refl, ap, _∙_}
 use mathlib.Core.Bool.{Bool, true, false}
-use mathlib.Core.Option.{Option, none, some}
-use mathlib.Core.List.{List, [], _∷_, _++_}
-use Prim.Native.Nat.{ℕ, zero, suc, _+_, _-_, _*_, _<_, _≤_}
+use mathlib.Core.Option.{none, some}
+use mathlib.Core.List.{List}
+use Prim.Native.Nat.{ℕ, zero, suc, _+_, _-_, _<_, _≤_}
 use native.Mathlib.Omega.{arith}
 use borrow.Author.Tests.{le-leb, lt-leb, lt-ltb, le-ltb}
-use lib.Dec.{ltb, leb}
 use lib.ListN.{length, getD, take, drop, length-drop}
-use lib.Seq.{take-nil, drop-drop, getD-take}
+use lib.Seq.{drop-drop, getD-take}
 use Rattle.refusal.specs.declared.Refusal.{Refusal}
 use Rattle.refusal.specs.declared.Refusal.the-variants.{TooDeep, TooMany, Short, TooNew, PoolFull, ZeroSize}
 use Rattle.format.specs.declared.Header.{Header}
@@ -16,9 +15,23 @@ use Rattle.format.specs.Bits.{lowBits, highBits}
 use Rattle.format.specs.Bytes.{numberFrom, firstNul}
 use Rattle.format.specs.Datatype.{Datatype, typeSize}
 use Rattle.format.specs.Reading.{Answer, got, refused, Reader, then, require, bytes, skip, number, nameTo, name, takeRow, piece, moved, inner, headerOf, readHeader, classKind, readProperties, sized, readType}
+use Rattle.format.proofs.Lists.{drop-take}
 use Rattle.reading.specs.declared.Limits.{Limits}
 use Rattle.reading.specs.declared.State.{State}
 use Rattle.reading.specs.Contract.{run, here}
+
+-- ---- steps in a row
+
+pub then-then : {A B C : Type 0} (x : Answer A) (f : A → ℕ → List ℕ → ℕ → ℕ → Answer B) (g : B → ℕ → List ℕ → ℕ → ℕ → Answer C)
+    → then (then x f) g ≡ then x (λ a at s r p. then (f a at s r p) g)
+unfolding then
+then-then (got a at s r p) f g = refl
+then-then (refused e) f g = refl
+
+pub then-each : {A B : Type 0} (x : Answer A) {f g : A → ℕ → List ℕ → ℕ → ℕ → Answer B} → ((a : A) (at : ℕ) (s : List ℕ) (r p : ℕ) → f a at s r p ≡ g a at s r p) → then x f ≡ then x g
+unfolding then
+then-each (got a at s r p) q = q a at s r p
+then-each (refused e) q = refl
 
 -- ---- each step
 
@@ -83,14 +96,6 @@ module _ (b : List ℕ) (v at : ℕ) (s : List ℕ) (r cap pooled : ℕ) where
   pub piece-full : cap - pooled < length b → piece b v at s r (cap - pooled) ≡ refused PoolFull
   unfolding piece
   piece-full h = rw (lt-leb (length b) (cap - pooled) h)
-
-pub drop-take : (m n k : ℕ) (l : List ℕ) → k ≡ m + n → drop m (take k l) ≡ take n (drop m l)
-drop-take zero n k l e =
-    let q : k ≡ n = omega arith in
-    rw q
-drop-take (suc m) n zero l e = absurd (omega arith)
-drop-take (suc m) n (suc k) [] e = sym (take-nil n)
-drop-take (suc m) n (suc k) (x ∷ l) e = drop-take m n k l (omega arith)
 
 -- ---- the header
 

@@ -1,20 +1,20 @@
 -- A type, by what its header opens: one law for each way out of the reader's function.
 use mathlib.Core.Path.{_≡_, refl, sym, ap, _∙_}
 use mathlib.Core.Bool.{true}
-use mathlib.Core.List.{List, [], _∷_, _++_, append-assoc}
-use Prim.Native.Nat.{ℕ, zero, suc, _+_, _-_, _*_, _<_, _≤_}
+use mathlib.Core.List.{List, [], _++_}
+use Prim.Native.Nat.{ℕ, suc, _+_, _-_, _*_, _<_, _≤_}
 use native.Mathlib.Omega.{arith}
-use lib.ListN.{length, take, drop, length-append, length-drop}
+use lib.ListN.{length, take, drop, length-drop}
 use lib.Seq.{sets, length-sets}
 use Rattle.refusal.specs.declared.Refusal.{Refusal}
 use Rattle.refusal.specs.declared.Refusal.the-variants.{TooDeep, ZeroSize}
 use Rattle.format.specs.declared.Header.{Header}
-use Rattle.format.specs.Datatype.{Datatype, compound, Members, memberCount, rowCount, memberRowCount, poolBytes, memberPool, typeSize}
-use Rattle.format.specs.Reading.{Answer, got, refused, Reader, then, inner, countOf, readMembers, readType, sized, classKind}
+use Rattle.format.specs.Datatype.{Datatype, compound, Members, memberCount, rowCount, poolBytes, typeSize}
+use Rattle.format.specs.Reading.{Answer, refused, then, inner, countOf, readMembers, readType, sized, classKind}
 use Rattle.format.specs.Table.{row, rows, memberRows}
 use Rattle.format.proofs.Rows.{length-row, length-rows}
 use Rattle.format.proofs.Bytes.{length-dimensionsFrom}
-use Rattle.primitives.proofs.Laws.{part-all}
+use Rattle.format.proofs.Lists.{part-all, sets-more}
 use Rattle.reading.specs.declared.Base.{Base}
 use Rattle.reading.specs.declared.Limits.{Limits}
 use Rattle.reading.specs.declared.State.{State}
@@ -22,10 +22,10 @@ use Rattle.reading.specs.declared.Step.{Step}
 use Rattle.reading.specs.declared.Step.the-variants.{Done as StepDone, Refused as StepRefused}
 use Rattle.reading.specs.declared.Opened.{Opened}
 use Rattle.reading.specs.declared.Opened.the-variants.{Leaf, Compound, Based, Refused as OpenRefused}
-use Rattle.reading.specs.Contract.{run, here, Ready, Landed, After, AfterType, AfterMembers, Opens, OpensLeaf, OpensCompound, OpensBased, leafKind, readLeaf, readCompound, readBased, behind, basedKind, dimensionsOf, Ended, Ends}
+use Rattle.reading.specs.Contract.{run, here, Ready, AfterType, AfterMembers, Opens, leafKind, readLeaf, readCompound, readBased, behind, basedKind, dimensionsOf, Ended, Ends}
 use Rattle.reading.specs.Members.{CompoundEnds}
-use Rattle.reading.proofs.Contracts.{same, lands, refuses, ready-at, sets-before, by-done, by-refused, not-done, not-refused}
-use Rattle.reading.proofs.Members.{sets-more, LandedType}
+use Rattle.reading.proofs.Contracts.{same, refuses, ready-at, sets-before, by-done, by-refused, not-done, not-refused}
+use Rattle.reading.proofs.Members.{LandedType}
 use Rattle.reading.proofs.Steps.{type-deep, sized-no, sized-go, sized-zero, inner-go, inner-no}
 
 -- ---- a compound's own row

@@ -1,21 +1,21 @@
 -- The whole reading: the answer, the table and the pool that `read` promises.
-use mathlib.Core.Path.{_≡_, refl, sym, ap, _∙_}
-use mathlib.Core.List.{List, [], _∷_, _++_}
-use Prim.Native.Nat.{ℕ, zero, suc, _+_, _-_, _*_, _/_, _<_, _≤_, min}
+use mathlib.Core.Path.{_≡_, refl, ap, _∙_}
+use mathlib.Core.List.{List, _++_}
+use Prim.Native.Nat.{ℕ, _+_, _-_, _*_, _/_, _≤_, min}
 use native.Mathlib.Omega.{arith}
 use lib.ListN.{length, take, drop}
 use lib.Seq.{sets, sets-eq, length-sets, take-at}
 use Rattle.refusal.specs.declared.Refusal.{Refusal}
 use Rattle.format.specs.Bytes.{zeros, padded}
-use Rattle.format.specs.Datatype.{Datatype, rowCount, poolBytes}
+use Rattle.format.specs.Datatype.{poolBytes}
 use Rattle.format.specs.Outcome.{Outcome, gives, refuses, outcomeNumber, outcomeValues}
-use Rattle.format.specs.Reading.{Answer, got, refused, Read, readType, readOutcome, readingInto, reading, tableAfter, poolAfter}
+use Rattle.format.specs.Reading.{refused, Read, readType, readOutcome, readingInto, reading, tableAfter, poolAfter}
 use Rattle.format.specs.Table.{rows, tableOf, poolOf}
 use Rattle.format.proofs.Rows.{length-rows}
 use Rattle.reading.specs.declared.Limits.{Limits}
 use Rattle.reading.specs.declared.State.{State}
 use Rattle.reading.specs.declared.Reading.the-variants.{Read as AnswerRead, Refused as AnswerRefused}
-use Rattle.reading.specs.Contract.{run, here, Landed}
+use Rattle.reading.specs.Contract.{run}
 use Rattle.reading.specs.Reads.{Reads, answerOf, readingNumber, readingValues}
 use Rattle.reading.proofs.Members.{LandedType}
 

@@ -2,7 +2,7 @@
 use mathlib.Core.Path.{_≡_}
 use mathlib.Core.Bool.{Bool, true, false}
 use mathlib.Core.List.{List, [], _∷_, _++_}
-use Prim.Native.Nat.{ℕ, zero, suc, _+_, _-_, _*_, _≤_, _<_}
+use Prim.Native.Nat.{ℕ, suc, _+_, _-_, _*_, _≤_, _<_}
 use lib.Dec.{eqb}
 use lib.ListN.{length, take, drop}
 use lib.Seq.{sets}
@@ -10,8 +10,8 @@ use Rattle.refusal.specs.declared.Refusal.{Refusal}
 use Rattle.refusal.specs.declared.Refusal.the-variants.{TooDeep}
 use Rattle.format.specs.declared.Header.{Header}
 use Rattle.format.specs.Bits.{lowBits, highBits}
-use Rattle.format.specs.Bytes.{dimensionBytes, dimensionsFrom}
-use Rattle.format.specs.Datatype.{Datatype, compound, enumeration, variableLength, array, Members, noMembers, member, EnumMember, enumNames, enumValues, memberCount, typeSize, rowCount, memberRowCount, poolBytes, memberPool}
+use Rattle.format.specs.Bytes.{dimensionsFrom}
+use Rattle.format.specs.Datatype.{Datatype, compound, enumeration, variableLength, array, Members, member, EnumMember, enumNames, enumValues, memberCount, typeSize, rowCount, memberRowCount, poolBytes, memberPool}
 use Rattle.format.specs.Reading.{Answer, got, refused, Reader, then, _>>=_, give, refuse, inner, countOf, readMembers, readName, readNames, readValues, readProperties, classKind, sized, readType}
 use Rattle.format.specs.Table.{Kind, isFixedPoint, isFloatingPoint, isTime, isString, isBitField, isOpaque, isCompound, isReference, isEnumeration, isVariableLength, isArray, isUnknown, rows, memberRows, memberRow, enumRows, enumMemberRow}
 use Rattle.reading.specs.declared.Limits.{Limits}

@@ -2,19 +2,19 @@
 use Prim.Native.Nat.{ℕ, _*_, _<_, _≤_}
 use mathlib.Core.Path.{_≡_, refl, sym, ap, _∙_}
 use mathlib.Core.Bool.{true}
-use mathlib.Core.List.{List, [], _∷_, _++_}
-use mathlib.Core.Option.{Option, none, some}
+use mathlib.Core.List.{List, _++_}
 use native.Mathlib.Omega.{arith}
 use lib.ListN.{length, take, drop, getD}
 use lib.Seq.{take-at}
 use Rattle.refusal.specs.declared.Refusal.{Refusal}
 use Rattle.refusal.specs.declared.Refusal.the-variants.{TooNew}
-use Rattle.format.specs.Bytes.{AllBytes, zeros, padded}
+use Rattle.format.specs.Bytes.{padded}
 use Rattle.format.specs.Datatype.{Datatype, rowCount, poolBytes}
-use Rattle.format.specs.Message.{message, versions, firstAbove, storable, carried, writing}
+use Rattle.format.specs.Message.{message, storable, carried, writing}
 use Rattle.format.specs.Outcome.{Outcome, gives, refuses, outputAfter}
-use Rattle.format.specs.Reading.{Read, reading, tableAfter, poolAfter}
+use Rattle.format.specs.Reading.{Read}
 use Rattle.format.specs.Table.{SetsOut, typeOf, rows, tableOf, poolOf}
+use Rattle.format.proofs.Bytes.{all-bytes}
 use Rattle.format.proofs.Rows.{length-rows}
 use Rattle.format.proofs.Table.{typeOf-sound}
 use Rattle.format.proofs.Written.{length-message, writingType-given, writing-found}
@@ -22,11 +22,10 @@ use Rattle.reading.specs.Reads.{Reads, answerOf as readAs}
 use Rattle.reading.specs.declared.Reading.{Reading}
 use Rattle.reading.specs.declared.Reading.the-variants.{Read as AnswerRead, Refused as AnswerRefused}
 use Rattle.reading.proofs.Promises.{Refuses, GivesBack, Written as Supposed, written-too-new, written-reads-back}
-use Rattle.reading.proofs.Contracts.{all-bytes}
 use Rattle.writer.specs.Writes.{Answers, answerOf as writtenAs}
 use Rattle.writer.specs.declared.Writing.{Writing}
 use Rattle.writer.specs.declared.Writing.the-variants.{Written as AnswerWritten, Refused as NotWrittenAs}
-use Rattle.round_trip.specs.Back.{answerOf, NotWritten, Written, TooNewBack, SameBack, Back}
+use Rattle.round_trip.specs.Back.{answerOf, TooNewBack, SameBack, Back}
 use Rattle.round_trip.specs.declared.RoundTrip.{RoundTrip}
 use Rattle.round_trip.specs.declared.RoundTrip.the-variants.{Length, Refused}
 

@@ -1,4 +1,4 @@
-use Prim.Native.Nat.{ℕ, suc, _<_, _≤_, _*_, _+_, _-_}
+use Prim.Native.Nat.{ℕ, _<_, _*_, _+_, _-_}
 use borrow.Author.Needs.{needs}
 use native.Mathlib.Omega.{arith}
 use Rattle.format.specs.Reading.{readType}

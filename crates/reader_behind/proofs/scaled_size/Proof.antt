@@ -1,12 +1,12 @@
 use Prim.Native.Nat.{_+_, _-_, _*_, _≤_, min}
-use mathlib.Core.Path.{_≡_, sym}
+use mathlib.Core.Path.{_≡_, refl}
 use mathlib.Core.Logic.{⊎-elim}
 use native.Mathlib.Omega.{arith}
 use borrow.Author.Needs.{needs}
 use lib.ListN.{length, take, drop}
 use Rattle.format.specs.Bytes.{dimensionsFrom}
 use Rattle.format.specs.Datatype.{product}
-use Rattle.reader_behind.proofs.Scaling.{dimensionsBehind, cap-below, cap-at, cap-room, scale-start, scale-next, scale-end}
+use Rattle.format.proofs.Scaling.{dimensionsBehind, cap-room, scale-start, scale-next, scale-end}
 use Rattle.reader_behind.proofs.scaled_size.Statement.{statement}
 use Rattle.reader_behind.proofs.scaled_size.Tie as tie
 
@@ -19,7 +19,7 @@ abbrev μ-loop : tie.MeasureT-loop
 μ-loop «data» start rank size scaled₀ i₀ scaled i = rank - i
 
 loop-holds : tie.Need-loop-holds Inv-loop μ-loop
-loop-holds c = ((omega arith, omega arith), (c .before .pre, sym (scale-start _ _ _ _)))
+loop-holds c = ((omega arith, omega arith), (c .before .pre, scale-start _ _ _ _ _ _ _ refl refl))
 
 mul-read-uint : tie.Need-mul-read-uint Inv-loop μ-loop
 mul-read-uint c = omega arith
@@ -46,16 +46,16 @@ loop-again : tie.Need-loop-again Inv-loop μ-loop
 loop-again c =
     let l = c .before .before .before .loop in
     let x = c .before .read-uint .result in
-    let e : c .if1 .scaled ≡ min (l .scaled * x) 4294967295 = ⊎-elim (λ w. cap-below (l .scaled * x) (c .if1 .scaled) (omega arith) (omega arith)) (λ w. cap-at (l .scaled * x) (c .if1 .scaled) (omega arith) (omega arith)) (c .if1 .came) in (
+    let e : c .if1 .scaled ≡ min (l .scaled * x) 4294967295 = ⊎-elim (λ w. omega arith) (λ w. omega arith) (c .if1 .came) in (
       (omega arith, ⊎-elim (λ w. omega arith) (λ w. omega arith) (c .if1 .came)),
-      (l .inv .1 .0, scale-next _ _ _ (l .i) (l .scaled) (c .if1 .scaled) x _ (omega arith) (c .before .read-uint .ensures) (l .inv .1 .1) e),
+      (l .inv .1 .0, scale-next _ _ _ _ (l .i) (l .scaled) (c .if1 .scaled) x _ (omega arith) (c .before .read-uint .ensures) (l .inv .1 .1) e),
     )
 
 cast-result : tie.Need-cast-result Inv-loop μ-loop
 cast-result c = omega arith
 
 returns : tie.Need-returns Inv-loop μ-loop
-returns c = let l = c .before .loop in scale-end _ _ _ (l .i) (l .scaled) _ (omega arith) (l .inv .0 .1) (l .inv .1 .1)
+returns c = let l = c .before .loop in scale-end _ _ _ _ (l .i) (l .scaled) _ (omega arith) (l .inv .0 .1) (l .inv .1 .1)
 
 pub scaled-size-spec : {M : Type 1} → statement M
 scaled-size-spec =
