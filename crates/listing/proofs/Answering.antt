@@ -1,25 +1,22 @@
 -- The answers of `list_fields` and `list_refusal`, and what they leave in `out`.
-use Prim.Native.Nat.{ℕ, _+_, _*_, _<_, _≤_, min}
+use Prim.Native.Nat.{ℕ, _+_, _<_, _≤_, min}
 use mathlib.Core.Path.{_≡_, sym, ap, _∙_}
-use mathlib.Core.Bool.{Bool, true, false, cond, _&&_}
 use mathlib.Core.List.{List, [], _∷_, _++_}
 use native.Mathlib.Omega.{arith}
-use native.Mathlib.Nat.{zero-add}
 use lib.ListN.{length, drop}
-use lib.Seq.{sets-eq}
-use lib.Dec.{leb}
 use borrow.Author.Tests.{le-leb, lt-leb}
 use Rattle.refusal.specs.declared.Refusal.{Refusal}
 use Rattle.refusal.specs.declared.Refusal.the-variants.{BadTable, NoRoom}
-use Rattle.format.specs.Bytes.{allZero}
 use Rattle.format.specs.Datatype.{Datatype}
 use Rattle.format.specs.Outcome.{Outcome, gives, refuses, whenGiven, unless, outputAfter, needed, outcomeNumber, outcomeValues}
-use Rattle.format.specs.Table.{Found, found, bad, typeAt, wholeType, typeOf}
+use Rattle.format.specs.Table.{Found, typeAt, typeOf}
+use Rattle.format.proofs.Lists.{sets-front}
+use Rattle.format.proofs.Table.{type-found}
 use Rattle.table.specs.Survey.{Checks}
 use Rattle.table.specs.declared.Survey.{Survey}
 use Rattle.table.specs.declared.Checked.{Checked}
 use Rattle.table.specs.declared.Checked.the-variants.{Good, Bad}
-use Rattle.listing.specs.Text.{heading, lines, fieldsText, fitting, fieldsListing, refusalText, refusalListing}
+use Rattle.listing.specs.Text.{heading, fieldsText, fitting, fieldsListing, refusalText, refusalListing}
 use Rattle.listing.specs.Puts.{Puts, nameIn, PutsType}
 use Rattle.listing.specs.Answers.{listingNumber, listingValues, answerOf, Answers, PutsFields, ListsType}
 use Rattle.listing.specs.declared.Name.the-variants.{Nameless}
@@ -72,7 +69,7 @@ module _ (s : List ℕ) {n : ℕ} {none none′ : List ℕ} (m : Puts s 0 n none
   room : length out < 9223372036854775808 → n ≤ length out → {k : ℕ} {out′ : List ℕ} → Puts s 0 k out out′ → Answers (fitting (length out) s) (Listed n) out out′
   room small h x =
       let l : n ≡ length s = omega (arith, long) in
-      given (fitting-there (omega arith)) l (x .written (omega arith) (omega arith) ∙ sets-eq s out 0 (omega arith) ∙ rw (zero-add (length s)))
+      given (fitting-there (omega arith)) l (x .written (omega arith) (omega arith) ∙ sets-front s out (omega arith))
 
 -- ---- a refusal's line
 
@@ -93,33 +90,9 @@ pub fields-put : {y : Found Datatype} (pool : List ℕ) {a r : ℕ} {out out₁ 
 unfolding fieldsText heading nameIn
 fields-put pool x m = record { puts = λ t r p f. then-put x (m .puts t r p f) }
 
-record FoundAs (y : Found Datatype) (t : Datatype) : Type 0 where
-  pub row : ℕ
-  pub place : ℕ
-  pub is : y ≡ found t row place
-
-gives-is : {t u : Datatype} → _≡_ {A = Outcome Datatype} (gives t) (gives u) → t ≡ u
-gives-is h = cc
-
-no-gives : {t : Datatype} {e : Refusal} → refuses e ≡ gives t → ⊥
-no-gives h = let z : _≡_ {A = ℕ} 0 1 = cc in omega arith
-
-whole-found : (table pool : List ℕ) (t : Datatype) (y : Found Datatype) → wholeType table pool y ≡ gives t → FoundAs y t
-unfolding wholeType
-whole-found table pool t (found u r p) h = go (leb r 4096 && (leb p 65536 && (allZero (drop (r * 16) table) && allZero (drop p pool)))) h
-  where
-    go : (b : Bool) → cond b (gives u) (refuses BadTable) ≡ gives t → FoundAs (found u r p) t
-    go true e = record { row = r; place = p; is = ap (λ (v : Datatype). found v r p) (gives-is e) }
-    go false e = absurd (no-gives e)
-whole-found table pool t bad h = absurd (no-gives h)
-
 module _ (table pool out : List ℕ) {n : ℕ} {none none′ : List ℕ} (m : PutsFields (typeAt 32 table pool 0 0) n none none′) where
-  type-found : (t : Datatype) → typeOf table pool ≡ gives t → FoundAs (typeAt 32 table pool 0 0) t
-  unfolding typeOf
-  type-found t h = whole-found table pool t (typeAt 32 table pool 0 0) h
-
   said : (t : Datatype) → typeOf table pool ≡ gives t → {k : ℕ} {out₁ out₂ : List ℕ} → PutsFields (typeAt 32 table pool 0 0) k out₁ out₂ → Puts (fieldsText t) 0 k out₁ out₂
-  said t h x = let f = type-found t h in x .puts t (f .row) (f .place) (f .is)
+  said t h x = let f = type-found table pool t h in x .puts t (f .row) (f .place) (f .is)
 
   pub fields-no-room : length out < n → ListsType table pool (Refused (NoRoom n)) out out
   fields-no-room h = record { lists = λ t f. no-room (fieldsText t) (said t f m) out h }

@@ -8,6 +8,7 @@ use native.Mathlib.Numerals.{add-one}
 use lib.ListN.{length, take, drop}
 use Rattle.format.specs.Datatype.{Datatype, Members, noMembers, member, typeSize, classNumber}
 use Rattle.format.specs.Table.{found, bad, Walk, andThen, typeAt, membersAt}
+use Rattle.format.proofs.TableSteps.{no-found}
 use Rattle.rows.specs.Entries.{entryAt, memberAt, fromMember}
 use Rattle.rows.specs.declared.Member.{Member}
 use Rattle.rows.specs.declared.Member.the-variants.{Named, Unnamed}
@@ -19,7 +20,7 @@ use Rattle.listing.specs.declared.Inside.{Inside}
 use Rattle.listing.specs.declared.Inside.the-variants.{Nothing, Members as InsideMembers, Base}
 use Rattle.listing.specs.declared.Extent.{Extent}
 use Rattle.listing.proofs.Pieces.{nothing-put, then-put, put-as}
-use Rattle.listing.proofs.Shapes.{no-found, found-is, then-found, Inner, shape}
+use Rattle.listing.proofs.Shapes.{found-is, then-found, Inner, shape}
 
 -- ---- one line
 

@@ -6,11 +6,11 @@ use mathlib.Core.List.{List, [], _∷_, _++_, append-assoc, append-nil}
 use mathlib.Core.Option.{some}
 use native.Mathlib.Omega.{arith}
 use native.Mathlib.Numerals.{add-one}
-use lib.ListN.{length, getD, take, drop, set, length-append, length-drop}
+use lib.ListN.{length, getD, take, drop, length-append, length-drop}
 use lib.Seq.{sets, length-sets, set-out, take-suc, take-all, getD-take, getD-drop, length-take-le}
 use lib.Dec.{ltb}
 use borrow.Author.Tests.{lt-ltb, le-ltb, ltb-true, ltb-false}
-use Rattle.primitives.proofs.Laws.{sets-append}
+use Rattle.format.proofs.Lists.{sets-append}
 use Rattle.refusal.specs.Refusal.{numberOf, valuesOf, valuesFrom}
 use Rattle.refusal.specs.declared.Refusal.{Refusal}
 use Rattle.refusal.specs.declared.Refusal.the-variants.{BadTable, TooDeep, TooMany, Short, TooNew, BadClass, BadVersion, BadPadding, BadCharset, BadReferenceKind, PoolFull, ZeroSize, NoSuchEdition, Unstorable, NotInEdition, OutsideRecord, HeapHeld, WrongLength, Unmapped, SlotOutside, NoRoom}

@@ -1,7 +1,6 @@
 -- What a row says of its type: class, size, and what is inside.
 use Prim.Native.Nat.{ℕ, zero, suc, _+_, _-_, _*_, _≤_}
 use mathlib.Core.Path.{_≡_, refl, sym, ap, _∙_}
-use mathlib.Core.Bool.{Bool, true, false}
 use mathlib.Core.List.{List, []}
 use mathlib.Core.Option.{none}
 use native.Mathlib.Omega.{arith}
@@ -9,11 +8,13 @@ use native.Mathlib.Numerals.{add-one}
 use lib.ListN.{take, drop}
 use Rattle.format.specs.Bytes.{dimensionsFrom}
 use Rattle.format.specs.Datatype.{Datatype, compound, enumeration, variableLength, array, Members, typeSize, classNumber}
-use Rattle.format.specs.Table.{Found, found, bad, Walk, andThen, Kind, isFixedPoint, isFloatingPoint, isTime, isString, isBitField, isOpaque, isCompound, isReference, isEnumeration, isVariableLength, isArray, isUnknown, kindOf, typeAt, membersAt, enumNamesAt, enumValuesAt}
-use Rattle.rows.specs.Entries.{wordAt, pick, entryOf, entryAt, EntryInside, leafType, fromEntry}
+use Rattle.format.specs.Table.{Found, found, bad, Walk, andThen, typeAt, membersAt, enumNamesAt, enumValuesAt}
+use Rattle.format.proofs.TableSteps.{no-found}
+use Rattle.rows.specs.Entries.{entryAt, EntryInside, leafType, fromEntry}
 use Rattle.rows.specs.declared.Entry.{Entry}
 use Rattle.rows.specs.declared.Entry.the-variants.{Leaf, Compound, Enumeration, VariableLength, Array, Unknown}
 use Rattle.rows.proofs.Decode.{typeAt-entry, compound-inside, enumeration-inside, variableLength-inside, array-inside}
+use Rattle.rows.proofs.Leaves.{leaf-law}
 use Rattle.table.specs.Survey.{surveyOf}
 use Rattle.table.specs.declared.Survey.{Survey}
 use Rattle.table.specs.declared.Surveyed.{Surveyed}
@@ -86,9 +87,6 @@ module _ {e : Entry} {y : Inside} {words r p : ℕ} (h : InsideAt e words r p y)
 
 -- ---- what a walk found, taken apart
 
-pub no-found : {A : Type 0} {a : A} {r p : ℕ} → bad ≡ found a r p → ⊥
-no-found h = let z : _≡_ {A = ℕ} 0 1 = cc in omega arith
-
 pub record ThenFound {A B : Type 0} (x : Found A) (k : A → Walk B) (b : B) (r p : ℕ) : Type 0 where
   pub first : A
   pub row : ℕ
@@ -130,38 +128,26 @@ module _ (x : Found Datatype) {y : Surveyed} (q : y ≡ surveyOf x) where
 -- ---- the class and the lines inside, by the entry of the row
 
 -- a leaf has its class, and nothing inside
-unfoldable LeafShown : (table pool : List ℕ) (r p : ℕ) → Entry → Type 0
-LeafShown table pool r p (Leaf c n l x) = (c ≡ classNumber (leafType table pool r p c)) × ((i : ℕ) → innerLines i (leafType table pool r p c) ≡ [])
-LeafShown table pool r p (Compound n k) = Unit {0}
-LeafShown table pool r p (Enumeration n k) = Unit {0}
-LeafShown table pool r p (VariableLength i a k) = Unit {0}
-LeafShown table pool r p (Array k) = Unit {0}
-LeafShown table pool r p Unknown = Unit {0}
+unfoldable LeafShown : (c n l x : ℕ) → Datatype → Type 0
+LeafShown c n l x t = (c ≡ classNumber t) × ((i : ℕ) → innerLines i t ≡ [])
 
 module _ (table pool : List ℕ) (r p : ℕ) where
-  shown-pick : (b : Bool) (e : Entry) → LeafShown table pool r p e → LeafShown table pool r p (pick b e)
-  unfolding pick LeafShown
-  shown-pick true e h = h
-  shown-pick false e h = tt
-
-  shown-kind : (k : Kind) → LeafShown table pool r p (entryOf table pool r p k)
-  unfolding entryOf LeafShown leafType classNumber innerLines
-  shown-kind isFixedPoint = shown-pick _ _ (refl, λ i. refl)
-  shown-kind isFloatingPoint = shown-pick _ _ (refl, λ i. refl)
-  shown-kind isTime = shown-pick _ _ (refl, λ i. refl)
-  shown-kind isString = shown-pick _ _ (refl, λ i. refl)
-  shown-kind isBitField = shown-pick _ _ (refl, λ i. refl)
-  shown-kind isOpaque = shown-pick _ _ (refl, λ i. refl)
-  shown-kind isCompound = shown-pick _ _ tt
-  shown-kind isReference = shown-pick _ _ (refl, λ i. refl)
-  shown-kind isEnumeration = shown-pick _ _ tt
-  shown-kind isVariableLength = shown-pick _ _ tt
-  shown-kind isArray = shown-pick _ _ tt
-  shown-kind isUnknown = tt
-
-  leaf-shown : LeafShown table pool r p (entryAt table pool r p)
-  unfolding entryAt
-  leaf-shown = shown-kind (kindOf (wordAt table r 0))
+  leaf-shown : {c n l x : ℕ} → entryAt table pool r p ≡ Leaf c n l x → LeafShown c n l x (leafType table pool r p c)
+  unfolding LeafShown classNumber innerLines
+  leaf-shown e =
+      leaf-law table pool r p LeafShown (
+      record {
+        of-fixedPoint = (refl, λ i. refl);
+        of-floatingPoint = (refl, λ i. refl);
+        of-time = (refl, λ i. refl);
+        of-string = (refl, λ i. refl);
+        of-bitField = (refl, λ i. refl);
+        of-opaque = λ b. (refl, λ i. refl);
+        of-reference = (refl, λ i. refl);
+      }
+      )
+      refl
+      e
 
 -- the members, or the base, that are found inside a type, and their lines
 pub record MembersInside (rd : Walk Datatype) (table pool : List ℕ) (k r p l : ℕ) (t : Datatype) : Type 0 where
@@ -188,19 +174,20 @@ pub record Shape (rd : Walk Datatype) (table pool : List ℕ) (r p : ℕ) (t : D
   pub inner : (l : ℕ) → Inner rd table pool r p l t (insideOf p e)
 
 module _ (rd : Walk Datatype) (table pool : List ℕ) (r p : ℕ) (t : Datatype) (r′ p′ : ℕ) where
-  by-entry : (e : Entry) → LeafShown table pool r p e → fromEntry rd table pool r p e ≡ found t r′ p′ → Shape rd table pool r p t e
+  by-entry : (e : Entry) → entryAt table pool r p ≡ e → fromEntry rd table pool r p e ≡ found t r′ p′ → Shape rd table pool r p t e
   unfolding LeafShown fromEntry classIn insideOf Inner classNumber innerLines lines
-  by-entry (Leaf c n l x) s h =
+  by-entry (Leaf c n l x) q h =
+      let s = leaf-shown table pool r p q in
       let f : leafType table pool r p c ≡ t = found-is h .0 in
       record { class = s .0 ∙ ap classNumber f; inner = λ i. sym (ap (innerLines i) f) ∙ s .1 i }
-  by-entry (Compound n k) s h =
+  by-entry (Compound n k) q h =
       let w = then-found (membersAt rd table pool k (suc r) p) _ h in
       let f : compound n (w .first) ≡ t = found-is (w .rest) .0 in
       record {
         class = ap classNumber f;
         inner = λ i. record { members = w .first; row = w .row; place = w .place; are = rw (add-one r) (w .is); text = sym (ap (innerLines i) f) };
       }
-  by-entry (Enumeration n k) s h =
+  by-entry (Enumeration n k) q h =
       let w = then-found (rd (suc r) p) _ h in
       let v = then-found (enumNamesAt table pool k (w .row) (w .place)) _ (w .rest) in
       let u = then-found (enumValuesAt pool (v .first) (v .row) (v .place)) _ (v .rest) in
@@ -209,24 +196,24 @@ module _ (rd : Walk Datatype) (table pool : List ℕ) (r p : ℕ) (t : Datatype)
         class = ap classNumber f;
         inner = λ i. record { base = w .first; row = w .row; place = w .place; is = rw (add-one r) (w .is); text = sym (ap (innerLines i) f) };
       }
-  by-entry (VariableLength i a c) s h =
+  by-entry (VariableLength i a c) q h =
       let w = then-found (rd (suc r) p) _ h in
       let f : variableLength i a c (w .first) ≡ t = found-is (w .rest) .0 in
       record {
         class = ap classNumber f;
         inner = λ i. record { base = w .first; row = w .row; place = w .place; is = rw (add-one r) (w .is); text = sym (ap (innerLines i) f) };
       }
-  by-entry (Array k) s h =
+  by-entry (Array k) q h =
       let w = then-found (rd (suc r) (p + k * 4)) _ h in
       let f : array (dimensionsFrom k (take (k * 4) (drop p pool))) (w .first) ≡ t = found-is (w .rest) .0 in
       record {
         class = ap classNumber f;
         inner = λ i. record { base = w .first; row = w .row; place = w .place; is = rw (add-one r) (w .is); text = sym (ap (innerLines i) f) };
       }
-  by-entry Unknown s h = absurd (no-found h)
+  by-entry Unknown q h = absurd (no-found h)
 
 pub shape : (levels : ℕ) (table pool : List ℕ) (r p : ℕ) {t : Datatype} {r′ p′ : ℕ} → typeAt levels table pool r p ≡ found t r′ p′ → Shape (typeAt (levels - 1) table pool) table pool r p t (entryAt table pool r p)
 shape zero table pool r p {t = t} {r′ = r′} {p′ = p′} h = let z : bad ≡ found t r′ p′ = unfold typeAt in h in absurd (no-found z)
 shape (suc k) table pool r p {t = t} {r′ = r′} {p′ = p′} h =
     let j : suc k - 1 ≡ k = omega arith in
-    rw j (by-entry (typeAt k table pool) table pool r p t r′ p′ (entryAt table pool r p) (leaf-shown table pool r p) (sym (typeAt-entry k table pool r p) ∙ h))
+    rw j (by-entry (typeAt k table pool) table pool r p t r′ p′ (entryAt table pool r p) refl (sym (typeAt-entry k table pool r p) ∙ h))

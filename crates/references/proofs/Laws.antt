@@ -7,7 +7,7 @@ use native.Mathlib.Nat.{add-zero, mul-zero, suc-mul, div-lt-iff-lt-mul, le-div-i
 use native.Mathlib.Numerals.{add-one}
 use native.Mathlib.Omega.{arith}
 use lib.ListN.{length, getD, take, drop, set}
-use lib.Seq.{sets, length-sets, drop-cons, take-all, sets-eq}
+use lib.Seq.{sets, length-sets, drop-cons, take-all}
 use lib.Dec.{leb}
 use borrow.Author.Tests.{lt-ltb, le-ltb, le-leb, lt-leb}
 use Rattle.refusal.specs.declared.Refusal.the-variants.{SlotOutside, NoRoom}
@@ -15,7 +15,7 @@ use Rattle.format.specs.Bytes.{numberFrom}
 use Rattle.format.specs.Outcome.{Outcome, gives, refuses, unless, needed, outcomeNumber, outcomeValues}
 use Rattle.format.specs.Slots.{References as Found·References, shifted, entries, someOutside, recordSize, recordCount, valuesAt, referencePlaces, referencing}
 use Rattle.format.proofs.Slots.{length-shifted, length-entries, length-places, length-values, value-at, getD-shifted, slot-inside}
-use Rattle.primitives.proofs.Laws.{sets-append, sets-take}
+use Rattle.format.proofs.Lists.{sets-more, sets-front, sets-take}
 use Rattle.references.specs.References.{ReferencesAre, referencesNumber, referencesValues, answerOf, placesAfter, valuesAfter}
 use Rattle.references.specs.declared.References.{References}
 use Rattle.references.specs.declared.References.the-variants.{Found, Refused}
@@ -119,21 +119,16 @@ unfolding valuesAt
 values-append block [] qs = refl
 values-append block (p ∷ ps) qs = ap (λ (x : List ℕ). numberFrom (take 8 (drop p block)) ∷ x) (values-append block ps qs)
 
-stored-more : (xs ys l l₁ l₂ : List ℕ) (n : ℕ) → length xs ≡ n → l₁ ≡ sets l 0 xs → l₂ ≡ sets l₁ n ys → l₂ ≡ sets l 0 (xs ++ ys)
-stored-more xs ys l l₁ l₂ n h e g =
-    let k : n ≡ 0 + length xs = omega arith in
-    g ∙ ap (λ (x : List ℕ). sets x n ys) e ∙ ap (λ (x : ℕ). sets (sets l 0 xs) x ys) k ∙ sym (sets-append xs ys l 0)
-
 module _ (l l₁ l₂ : List ℕ) (size : ℕ) (ss : List ℕ) (r : ℕ) where
   pub places-more : l₁ ≡ sets l 0 (entries size ss 0 r) → l₂ ≡ sets l₁ (r * length ss) (shifted (r * size) ss) → l₂ ≡ sets l 0 (entries size ss 0 (r + 1))
   places-more e g =
-      stored-more (entries size ss 0 r) (shifted (r * size) ss) l l₁ l₂ (r * length ss) (length-entries size ss 0 r) e g
+      sets-more l (entries size ss 0 r) (shifted (r * size) ss) 0 (r * length ss) e g (omega (arith, length-entries size ss 0 r))
       ∙ ap (sets l 0) (one-more size ss r)
 
   pub values-more : (block : List ℕ) → l₁ ≡ sets l 0 (valuesAt block (entries size ss 0 r)) → l₂ ≡ sets l₁ (r * length ss) (valuesAt block (shifted (r * size) ss))
       → l₂ ≡ sets l 0 (valuesAt block (entries size ss 0 (r + 1)))
   values-more block e g =
-      stored-more (valuesAt block (entries size ss 0 r)) (valuesAt block (shifted (r * size) ss)) l l₁ l₂ (r * length ss) (length-values block (entries size ss 0 r) ∙ length-entries size ss 0 r) e g
+      sets-more l (valuesAt block (entries size ss 0 r)) (valuesAt block (shifted (r * size) ss)) 0 (r * length ss) e g (omega (arith, length-values block (entries size ss 0 r), length-entries size ss 0 r))
       ∙ ap (sets l 0) (sym (values-append block (entries size ss 0 r) (shifted (r * size) ss)) ∙ ap (valuesAt block) (one-more size ss r))
 
 pub same-stored : (l l₁ l₂ ys : List ℕ) (n : ℕ) → l₂ ≡ sets l₁ n ys → length l₁ ≡ length l → length l₂ ≡ length l
@@ -157,11 +152,6 @@ pub slot-in-block : (r n size m : ℕ) (ss : List ℕ) → r < n → n * size �
 slot-in-block r n size m ss h g o i k = omega (arith, record-within r n size m h g, slot-inside size ss o i k)
 
 -- ---- the ways out of `stored_object_references`
-
-stored-all : (xs l l₁ : List ℕ) → length xs ≤ length l → l₁ ≡ sets l 0 xs → l₁ ≡ xs ++ drop (length xs) l
-stored-all xs l l₁ h e =
-    let k : 0 + length xs ≡ length xs = omega arith in
-    e ∙ sets-eq xs l 0 (omega arith) ∙ ap (λ (x : ℕ). xs ++ drop x l) k
 
 -- an answer that is the definition's has its number and values
 told : (o : Outcome Found·References) {r : References} → r ≡ answerOf o → (referencesNumber r ≡ outcomeNumber o) × (referencesValues r ≡ outcomeValues (λ x. length (x .places)) o)
@@ -217,6 +207,6 @@ module _ (block ss p v : List ℕ) (n size : ℕ) (flag : Bool) (z : size ≡ re
             answer = a;
             answer-number = t .0;
             answer-values = t .1;
-            places-are = rw (inside, q) (stored-all (referencePlaces block n ss) p p′ (omega (arith, enough)) (rw (← ps) e));
-            values-are = rw (inside, q) (stored-all (valuesAt block (referencePlaces block n ss)) v v′ (omega (arith, enough)) (rw (← ps) d));
+            places-are = rw (inside, q) (rw (← ps) e ∙ sets-front (referencePlaces block n ss) p (omega (arith, enough)));
+            values-are = rw (inside, q) (rw (← ps) d ∙ sets-front (valuesAt block (referencePlaces block n ss)) v (omega (arith, enough)));
           }
