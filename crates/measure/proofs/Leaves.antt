@@ -1,7 +1,7 @@
 -- A leaf's row: the tests that the code makes are those of `storable`, and its length is that of the message.
 use Prim.Native.Nat.{ℕ, zero, suc, _+_, _<_, _≤_}
 use mathlib.Core.Path.{_≡_, refl, sym, _∙_}
-use mathlib.Core.Bool.{Bool, true, false, _&&_}
+use mathlib.Core.Bool.{Bool, true, false, _&&_, and-true, and-assoc}
 use mathlib.Core.List.{List, [], _∷_}
 use native.Mathlib.Omega.{arith}
 use lib.ListN.{length, take, drop}
@@ -12,12 +12,12 @@ use Rattle.format.specs.Datatype.{typeSize}
 use Rattle.format.specs.Message.{storable, carried, messageLength, all, fit, offsetWidth}
 use Rattle.format.specs.Table.{found, row, Kind, isFixedPoint, isFloatingPoint, isTime, isString, isBitField, isOpaque, isCompound, isReference, isEnumeration, isVariableLength, isArray, isUnknown, kindOf}
 use Rattle.format.proofs.Booleans.{and-both}
+use Rattle.format.proofs.Lists.{length-part}
 use Rattle.rows.specs.Entries.{wordAt, rowIs, pick, entryOf, entryAt, leafType}
 use Rattle.rows.specs.declared.Entry.{Entry}
 use Rattle.rows.specs.declared.Entry.the-variants.{Leaf, Compound, Enumeration, VariableLength, Array, Unknown}
 use Rattle.measure.specs.Measure.{mostLength, measureOf, word, partsFit, leafStorable, leafLength, offsetFits}
 use Rattle.measure.specs.declared.Measured.the-variants.{At}
-use Rattle.measure.proofs.Lengths.{and-true, and-assoc, length-part}
 
 -- ---- the tests, class by class
 

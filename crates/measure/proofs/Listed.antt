@@ -1,10 +1,9 @@
 -- The members of an enumeration: names, then values behind all names.
-use Prim.Native.Nat.{ℕ, zero, suc, _+_, _-_, _<_, _≤_}
+use Prim.Native.Nat.{ℕ, _+_, _-_, _<_, _≤_}
 use mathlib.Core.Path.{_≡_, refl, sym, ap, _∙_}
-use mathlib.Core.Bool.{Bool, true, cond, _&&_}
+use mathlib.Core.Bool.{Bool, true, cond, _&&_, and-true, and-assoc}
 use mathlib.Core.List.{List, [], _∷_}
 use native.Mathlib.Omega.{arith}
-use native.Mathlib.Numerals.{add-one}
 use native.Mathlib.Decide.{decLe}
 use lib.ListN.{length, take, drop, length-append}
 use lib.Dec.{leb, eqb}
@@ -13,15 +12,16 @@ use Rattle.format.specs.Datatype.{EnumMember, enumValues}
 use Rattle.format.specs.Message.{all, noNul, storableEnum, nameLength, enumNameLength}
 use Rattle.format.specs.Utf8.{wellFormed}
 use Rattle.format.specs.Table.{Found, found, bad, andThen, enumNamesAt, enumValuesAt}
+use Rattle.format.proofs.Lists.{length-part}
 use Rattle.format.proofs.TableSteps.{then-piece}
-use Rattle.rows.specs.Entries.{enumMemberAt, fromEnumMember}
+use Rattle.rows.specs.Entries.{enumMemberAt}
 use Rattle.rows.specs.declared.Member.{Member}
 use Rattle.rows.specs.declared.Member.the-variants.{Named, Unnamed}
-use Rattle.rows.proofs.Decode.{enumNamesAt-entry}
+use Rattle.rows.proofs.EnumNames.{names-as, names-none, valuesLong}
 use Rattle.measure.specs.Measure.{mostLength, measureEnum, enumMeasureOf, nameLengthOf}
 use Rattle.measure.specs.declared.Measured.{Measured}
 use Rattle.measure.specs.declared.Measured.the-variants.{At, Lost}
-use Rattle.measure.proofs.Lengths.{and-true, and-assoc, most-both, length-part, length-name-of}
+use Rattle.measure.proofs.Lengths.{most-both, length-name-of}
 
 abbrev pub Names : Type 0
 Names = List (List ℕ × ℕ)
@@ -31,10 +31,6 @@ Names = List (List ℕ × ℕ)
 unfoldable pub membersFrom : (pool : List ℕ) (place : ℕ) → Names → List EnumMember
 membersFrom pool p [] = []
 membersFrom pool p (x ∷ ns) = record { name = x .0; value = take (x .1) (drop p pool) } ∷ membersFrom pool (p + x .1) ns
-
-unfoldable pub valuesLong : Names → ℕ
-valuesLong [] = 0
-valuesLong (x ∷ ns) = x .1 + valuesLong ns
 
 unfoldable pub namesLong : (edition : ℕ) → Names → ℕ
 namesLong e [] = 0
@@ -139,22 +135,6 @@ module _ (pool : List ℕ) (e n : ℕ) where
   past-then : (s : Bool) (l v : ℕ) (y : Found Names) → length pool < v → listed pool e n s l v y ≡ Lost
   past-then s l v (found ns r p) h = listed-past s l v ns r p (omega arith)
   past-then s l v bad h = unfold listed in refl
-
--- ---- the names, one at a time
-
-module _ (table pool : List ℕ) (r p : ℕ) where
-  names-as : (k : ℕ) {x : Member} {n l : ℕ} → 0 < k → x ≡ enumMemberAt table pool r p → x ≡ Named n l
-      → enumNamesAt table pool k r p ≡ andThen (enumNamesAt table pool (k - 1) (r + 1) (p + n)) (λ ns r′ p′. found ((take n (drop p pool), l) ∷ ns) r′ p′)
-  unfolding fromEnumMember
-  names-as (suc k) h q e =
-      let j : suc k - 1 ≡ k = omega arith in
-      enumNamesAt-entry table pool k r p ∙ ap (fromEnumMember (enumNamesAt table pool k) pool r p) (sym q ∙ e) ∙ rw (j, add-one)
-  names-as zero h q e = absurd (omega arith)
-
-  names-none : (k : ℕ) {x : Member} → 0 < k → x ≡ enumMemberAt table pool r p → x ≡ Unnamed → enumNamesAt table pool k r p ≡ bad
-  unfolding fromEnumMember
-  names-none (suc k) h q e = enumNamesAt-entry table pool k r p ∙ ap (fromEnumMember (enumNamesAt table pool k) pool r p) (sym q ∙ e)
-  names-none zero h q e = absurd (omega arith)
 
 -- ---- the loop: z is the answer from the start
 

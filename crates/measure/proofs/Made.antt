@@ -1,23 +1,19 @@
 -- What is measured of a type, from the parts that the code makes.
-use Prim.Native.Nat.{ℕ, suc, _+_, _*_, _<_, _≤_, min}
-use mathlib.Core.Path.{_≡_, refl, sym}
-use mathlib.Core.Bool.{Bool, true, false, _&&_, _||_}
-use mathlib.Core.List.{List, [], _∷_}
+use Prim.Native.Nat.{ℕ, _+_, _*_, _<_, _≤_, min}
+use mathlib.Core.Path.{_≡_, sym}
+use mathlib.Core.Bool.{Bool, true, _&&_, or-false}
+use mathlib.Core.List.{List}
 use lib.ListN.{getD, take, drop}
 use lib.Dec.{ltb, eqb}
 use borrow.Author.Tests.{ne-eqb}
-use Rattle.format.specs.Bytes.{AllBytes, dimensionsFrom}
+use Rattle.format.specs.Bytes.{dimensionsFrom}
 use Rattle.format.specs.Datatype.{product}
 use Rattle.format.specs.Message.{storableVariable}
 use Rattle.format.specs.Table.{allBelow}
-use Rattle.format.proofs.Bytes.{bytes-take, bytes-drop}
+use Rattle.format.proofs.Bytes.{all-bytes, bytes-take, bytes-drop}
 use Rattle.format.proofs.Zeros.{dimensions-below}
 use Rattle.measure.specs.Measure.{mostLength, offsetFits, arrayHead, withMember, compoundMeasure, enumerationMeasure, variableMeasure, arrayMeasure}
 use Rattle.measure.specs.declared.Measure.{Measure}
-
-or-false : (a : Bool) → (a || false) ≡ a
-or-false true = refl
-or-false false = refl
 
 pub variable-sequence : (i a c : ℕ) {z : Bool} → i ≡ 0 → z ≡ (eqb a 0 && eqb c 0) → z ≡ storableVariable i a c
 unfolding storableVariable
@@ -56,10 +52,5 @@ unfolding arrayMeasure
 array-made e k ds b h1 h2 h3 h4 h5 h6 h7 = rw (h4, h3, h5, h7 .0, h6, h2, h1)
 
 -- dimensions of 4 bytes each, in a slice of bytes
-all-bytes : (l : List ℕ) → ((i : ℕ) → getD l i 0 < 256) → AllBytes l
-unfolding AllBytes
-all-bytes [] h = tt
-all-bytes (b ∷ l) h = (h 0, all-bytes l (λ i. h (suc i)))
-
 pub array-below : (pool : List ℕ) (p k : ℕ) → ((i : ℕ) → getD pool i 0 < 256) → allBelow 4294967296 (dimensionsFrom k (take (k * 4) (drop p pool))) ≡ true
 array-below pool p k b = dimensions-below k (take (k * 4) (drop p pool)) (bytes-take (k * 4) (drop p pool) (bytes-drop p pool (all-bytes pool b)))

@@ -1,7 +1,7 @@
 -- The walk over a type's rows, one law for each way out of it.
-use Prim.Native.Nat.{ℕ, zero, suc, _+_, _-_, _*_, _<_, _≤_, min}
+use Prim.Native.Nat.{ℕ, zero, suc, _+_, _-_, _*_, _<_, _≤_}
 use mathlib.Core.Path.{_≡_, refl, sym, ap, _∙_}
-use mathlib.Core.Bool.{Bool, true, false, cond, _&&_}
+use mathlib.Core.Bool.{Bool, true, false, cond, _&&_, and-true, and-assoc}
 use mathlib.Core.List.{List, [], _∷_}
 use native.Mathlib.Omega.{arith}
 use native.Mathlib.Numerals.{add-one}
@@ -14,7 +14,9 @@ use Rattle.format.specs.Message.{storable, storableMembers, storableEnum, carri
 use Rattle.format.specs.Utf8.{wellFormed}
 use Rattle.format.specs.Table.{Found, found, bad, Walk, andThen, allBelow, typeAt, membersAt, enumNamesAt, enumValuesAt}
 use Rattle.format.proofs.Bytes.{length-dimensionsFrom}
-use Rattle.format.proofs.TableSteps.{then-found}
+use Rattle.format.proofs.Lists.{length-part}
+use Rattle.format.proofs.Scaling.{cap-again}
+use Rattle.format.proofs.TableSteps.{then-found, then-assoc}
 use Rattle.rows.specs.Entries.{entryAt, memberAt, fromEntry, fromMember, fromEnumMember, enumMemberAt}
 use Rattle.rows.specs.declared.Entry.{Entry}
 use Rattle.rows.specs.declared.Entry.the-variants.{Leaf, Compound, Enumeration, VariableLength, Array, Unknown}
@@ -25,7 +27,7 @@ use Rattle.measure.specs.Measure.{mostLength, measureOf, measureIn, meas
 use Rattle.measure.specs.declared.Measure.{Measure}
 use Rattle.measure.specs.declared.Measured.{Measured}
 use Rattle.measure.specs.declared.Measured.the-variants.{At, Lost}
-use Rattle.measure.proofs.Lengths.{and-true, and-assoc, most-below, most-same, most-two, length-part, length-name-of}
+use Rattle.measure.proofs.Lengths.{most-below, most-same, most-two, length-name-of}
 use Rattle.measure.proofs.Leaves.{leaf-is}
 use Rattle.measure.proofs.Listed.{Names, step-value}
 
@@ -127,11 +129,6 @@ unfolding measureIn measureOf andThen
 compound-lost e n (found ms r p) f = let z : _≡_ {A = ℕ} 0 1 = cc in absurd (omega arith)
 compound-lost e n bad f = refl
 
-assoc : {A B D : Type 0} (x : Found A) (f : A → Walk B) (g : B → Walk D) → andThen x (λ a r p. andThen (f a r p) g) ≡ andThen (andThen x f) g
-unfolding andThen
-assoc (found a r p) f g = refl
-assoc bad f g = refl
-
 most-three : (a b : ℕ) → mostLength (8 + mostLength (mostLength a + mostLength b)) ≡ mostLength (8 + (a + b))
 unfolding mostLength
 most-three a b = omega arith
@@ -159,14 +156,14 @@ module _ (e : ℕ) (table pool : List ℕ) (n k : ℕ) (b : Measure) where
       → Lost ≡ measureOf e (andThen x (λ t r₁ p₁. andThen (enumNamesAt table pool k r₁ p₁) (λ ns r₂ p₂. andThen (enumValuesAt pool ns r₂ p₂) (λ ms r₃ p₃. found (enumeration n t ms) r₃ p₃))))
   unfolding Told
   enumeration-lost (found t r p) h f =
-      rw (then-found t _ r p, assoc (enumNamesAt table pool k r p) (enumValuesAt pool) (λ ms r₃ p₃. found (enumeration n t ms) r₃ p₃)) (behind-lost t _ (members-of t r p h f))
+      rw (then-found t _ r p, then-assoc (enumNamesAt table pool k r p) (enumValuesAt pool) (λ ms r₃ p₃. found (enumeration n t ms) r₃ p₃)) (behind-lost t _ (members-of t r p h f))
   enumeration-lost bad h f = absurd h
 
   enumeration-at : (m : Measure) → n < 4294967296 → (x : Found Datatype) → Told e x b → At m ≡ enumMeasureOf e (b .size) table pool k (b .row) (b .place)
       → At (enumerationMeasure n k b m) ≡ measureOf e (andThen x (λ t r₁ p₁. andThen (enumNamesAt table pool k r₁ p₁) (λ ns r₂ p₂. andThen (enumValuesAt pool ns r₂ p₂) (λ ms r₃ p₃. found (enumeration n t ms) r₃ p₃))))
   unfolding Told
   enumeration-at m s (found t r p) h f =
-      rw (then-found t _ r p, assoc (enumNamesAt table pool k r p) (enumValuesAt pool) (λ ms r₃ p₃. found (enumeration n t ms) r₃ p₃))
+      rw (then-found t _ r p, then-assoc (enumNamesAt table pool k r p) (enumValuesAt pool) (λ ms r₃ p₃. found (enumeration n t ms) r₃ p₃))
       (behind-at t r p m s h _ (values-behind pool k _ (names-listed table pool k r p)) (members-of t r p h f))
   enumeration-at m s bad h f = absurd h
 
@@ -175,14 +172,11 @@ unfolding Told andThen measureOf variableMeasure typeSize storable carried messa
 variable-at e i a c b (found t r p) h = rw (h .is, most-two, and-true)
 variable-at e i a c b bad h = absurd h
 
-min-min : (x : ℕ) → min (min x 4294967296) 4294967295 ≡ min x 4294967295
-min-min x = omega arith
-
 array-at : (e k : ℕ) (ds : List ℕ) (b : Measure) → length ds ≡ k → allBelow 4294967296 ds ≡ true → (x : Found Datatype) → Told e x b → At (arrayMeasure e k ds b) ≡ measureOf e (andThen x (λ t r p. found (array ds t) r p))
 unfolding Told andThen measureOf arrayMeasure arrayHead typeSize storable carried messageLength all
 array-at e k ds b g s (found t r p) h =
     let q : 8 + (1 + reservedBytes e + (4 * k + permutationBytes e k)) + messageLength e t ≡ 8 + (1 + reservedBytes e + (4 * k + permutationBytes e k) + messageLength e t) = omega arith in
-    rw (h .is, min-min, g, s, most-two, and-true, q)
+    rw (h .is, cap-again, g, s, most-two, and-true, q)
 array-at e k ds b g s bad h = absurd h
 
 -- ---- a type

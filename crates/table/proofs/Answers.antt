@@ -12,6 +12,7 @@ use Rattle.format.specs.Datatype.{Datatype, fixedPoint, floatingPoint, time, st
 use Rattle.format.specs.Outcome.{Outcome, gives, refuses, whenGiven, unless, outcomeNumber, outcomeValues}
 use Rattle.format.specs.Sizes.{sizing, elementSizing, objectAddressHeld, fileAddressHeld, holdsObjectAddress, holdsFileAddress}
 use Rattle.format.specs.Table.{rows, row, found}
+use Rattle.format.proofs.Bytes.{all-bytes}
 use Rattle.format.proofs.Rows.{length-rows}
 use Rattle.format.proofs.Table.{typeOf-sound}
 use Rattle.table.specs.Survey.{Checks, sizedNumber, sizedValues, sizedOf, SizedAs, heldNumber, heldValues, heldOf, yesOrNo, HeldAs}
@@ -23,7 +24,6 @@ use Rattle.table.specs.declared.Sized.the-variants.{Size, Refused as Siz
 use Rattle.table.specs.declared.Held.{Held}
 use Rattle.table.specs.declared.Held.the-variants.{Yes, No, Refused as HeldRefused}
 use Rattle.table.proofs.Surveys.{Says, Told, told}
-use Rattle.table.proofs.Checking.{all-bytes}
 
 -- the first word of a type's rows is its class + 1
 rows-first : (p : ℕ) (t : Datatype) → getD (rows p t) 0 0 ≡ suc (classNumber t)

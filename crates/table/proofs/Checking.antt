@@ -1,20 +1,21 @@
 -- The check: from the walk over the outermost type, the limits and the two tests for zeros to the type that the table and pool set out.
-use Prim.Native.Nat.{ℕ, suc, _+_, _-_, _*_, _<_, _≤_}
+use Prim.Native.Nat.{ℕ, _+_, _-_, _*_, _<_, _≤_}
 use mathlib.Core.Path.{_≡_, refl, sym, ap, _∙_}
 use mathlib.Core.Bool.{Bool, true, false, not, cond, _&&_}
-use mathlib.Core.List.{List, [], _∷_, _++_}
+use mathlib.Core.List.{List, _++_}
 use native.Mathlib.Omega.{arith}
 use lib.ListN.{length, getD, take, drop, length-append}
 use lib.Dec.{leb}
 use borrow.Author.Tests.{le-leb, lt-leb, not-true, not-false}
 use Rattle.refusal.specs.declared.Refusal.the-variants.{BadTable}
-use Rattle.format.specs.Bytes.{AllBytes, allZero}
+use Rattle.format.specs.Bytes.{allZero}
 use Rattle.format.specs.Datatype.{Datatype, poolBytes}
 use Rattle.format.specs.Outcome.{gives, refuses}
 use Rattle.format.specs.Table.{rows, Found, found, bad, typeAt, wholeType, typeOf}
 use Rattle.format.proofs.Rows.{length-rows}
 use Rattle.format.proofs.TableSound.{Sure, holds, TypeStands, typeAt-sound}
-use Rattle.primitives.proofs.Laws.{part-all}
+use Rattle.format.proofs.Bytes.{all-bytes}
+use Rattle.format.proofs.Lists.{part-all}
 use Rattle.table.specs.Survey.{surveyOf, endsAt, Sets, Checks}
 use Rattle.table.specs.declared.Survey.{Survey}
 use Rattle.table.specs.declared.Surveyed.{Surveyed}
@@ -28,12 +29,6 @@ picks-second b x y e = rw e
 
 picks-first : {A : Type 0} (b : Bool) (x y : A) → b ≡ true → cond b x y ≡ x
 picks-first b x y e = rw e
-
--- every element is a byte
-pub all-bytes : (l : List ℕ) → ((i : ℕ) → getD l i 0 < 256) → AllBytes l
-unfolding AllBytes
-all-bytes [] h = tt
-all-bytes (b ∷ l) h = (h 0, all-bytes l (λ i. h (suc i)))
 
 sure-found : {A : Type 0} {Q : A → ℕ → ℕ → Type 0} {a : A} {r p : ℕ} → Sure Q (found a r p) → Q a r p
 sure-found (holds s) = s

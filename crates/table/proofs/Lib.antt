@@ -1,4 +1,3 @@
-pub mod Scaling
 pub mod Skipping
 pub mod Surveys
 pub mod Checking

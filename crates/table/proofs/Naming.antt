@@ -9,6 +9,7 @@ use lib.Seq.{drop-at, drop-append-le, drop-drop, getD-drop}
 use Rattle.format.specs.Bytes.{dimensionBytes, padded, zeros}
 use Rattle.format.specs.Datatype.{Datatype, fixedPoint, floatingPoint, time, string, bitField, opaque, compound, reference, enumeration, variableLength, array, Members, noMembers, member, EnumMember, memberCount, rowCount, memberRowCount, poolBytes, memberPool, enumNames, enumValues}
 use Rattle.format.specs.Table.{row, memberRow, enumMemberRow, rows, memberRows, enumRows, SetsOut}
+use Rattle.format.proofs.Bytes.{all-bytes}
 use Rattle.format.proofs.Rows.{length-row, length-memberRow, length-enumMemberRow, length-rows}
 use Rattle.format.proofs.Table.{typeOf-sound}
 use Rattle.table.specs.Names.{Part, nameParts, memberNameParts, enumNameParts, partOf, placeOf, nameIn, nameOf, placeIn, namePlace, further, PartIs}
@@ -17,7 +18,7 @@ use Rattle.table.specs.declared.NamePart.{NamePart}
 use Rattle.table.specs.declared.Survey.{Survey}
 use Rattle.table.specs.declared.Checked.{Checked}
 use Rattle.table.specs.declared.Checked.the-variants.{Good, Bad}
-use Rattle.table.proofs.Checking.{all-bytes, stands-at}
+use Rattle.table.proofs.Checking.{stands-at}
 
 -- the words of a row say that it is no member's, or where the member's name lies, before an end
 unfoldable pub RowNames : (end : ℕ) → Option Part → List ℕ → Type 0

@@ -1,43 +1,23 @@
 -- The members of an enumeration: where their names end, and their values behind all names.
-use Prim.Native.Nat.{ℕ, zero, suc, _+_, _-_, _<_, _≤_}
+use Prim.Native.Nat.{ℕ, _+_, _-_, _<_, _≤_}
 use mathlib.Core.Path.{_≡_, refl, sym, ap, _∙_}
 use mathlib.Core.Bool.{cond}
 use mathlib.Core.List.{List, [], _∷_}
 use native.Mathlib.Omega.{arith}
-use native.Mathlib.Numerals.{add-one}
 use native.Mathlib.Decide.{decLe}
-use lib.ListN.{length, take, drop}
+use lib.ListN.{length}
 use lib.Dec.{leb}
 use borrow.Author.Tests.{le-leb, lt-leb}
 use Rattle.format.specs.Datatype.{EnumMember}
 use Rattle.format.specs.Table.{Found, found, bad, andThen, enumNamesAt, enumValuesAt}
 use Rattle.format.proofs.TableSteps.{then-piece}
-use Rattle.rows.specs.Entries.{enumMemberAt, fromEnumMember}
+use Rattle.rows.specs.Entries.{enumMemberAt}
 use Rattle.rows.specs.declared.Member.{Member}
 use Rattle.rows.specs.declared.Member.the-variants.{Named, Unnamed}
-use Rattle.rows.proofs.Decode.{enumNamesAt-entry}
+use Rattle.rows.proofs.EnumNames.{names-as, names-none, valuesLong}
 use Rattle.table.specs.Survey.{spotOf, enumSpotOf}
 use Rattle.table.specs.declared.Found.{Found as Walked}
 use Rattle.table.specs.declared.Found.the-variants.{At, Lost}
-
-module _ (table pool : List ℕ) (r p : ℕ) where
-  names-as : (k : ℕ) {x : Member} {n l : ℕ} → 0 < k → x ≡ enumMemberAt table pool r p → x ≡ Named n l
-      → enumNamesAt table pool k r p ≡ andThen (enumNamesAt table pool (k - 1) (r + 1) (p + n)) (λ ns r′ p′. found ((take n (drop p pool), l) ∷ ns) r′ p′)
-  unfolding fromEnumMember
-  names-as (suc k) h q e =
-      let j : suc k - 1 ≡ k = omega arith in
-      enumNamesAt-entry table pool k r p ∙ ap (fromEnumMember (enumNamesAt table pool k) pool r p) (sym q ∙ e) ∙ rw (j, add-one)
-  names-as zero h q e = absurd (omega arith)
-
-  names-none : (k : ℕ) {x : Member} → 0 < k → x ≡ enumMemberAt table pool r p → x ≡ Unnamed → enumNamesAt table pool k r p ≡ bad
-  unfolding fromEnumMember
-  names-none (suc k) h q e = enumNamesAt-entry table pool k r p ∙ ap (fromEnumMember (enumNamesAt table pool k) pool r p) (sym q ∙ e)
-  names-none zero h q e = absurd (omega arith)
-
--- how long the values are in all
-unfoldable pub valuesLong : List (List ℕ × ℕ) → ℕ
-valuesLong [] = 0
-valuesLong (x ∷ ns) = x .1 + valuesLong ns
 
 unfoldable pub endsAt : (pool : List ℕ) (row place : ℕ) → Walked
 endsAt pool r p = cond (leb p (length pool)) (At (record { row = r; place = p })) Lost

@@ -1,7 +1,7 @@
 -- The walk over a type's rows, one law for each way out of it.
 use Prim.Native.Nat.{ℕ, zero, suc, _+_, _-_, _*_, _<_, _≤_, min}
 use mathlib.Core.Path.{_≡_, refl, sym, ap, _∙_}
-use mathlib.Core.Bool.{Bool, true, false, cond, _&&_, _||_}
+use mathlib.Core.Bool.{Bool, true, false, cond, _&&_, _||_, or-false, or-assoc}
 use mathlib.Core.List.{List}
 use mathlib.Core.Option.{Option, none, some}
 use native.Mathlib.Omega.{arith}
@@ -15,14 +15,16 @@ use Rattle.format.specs.Datatype.{Datatype, compound, enumeration, variableLeng
 use Rattle.format.specs.Ownership.{outside, memberOutside, heapHeld, memberHeapHeld}
 use Rattle.format.specs.Sizes.{holdsObjectAddress, memberHoldsObjectAddress, holdsFileAddress, memberHoldsFileAddress}
 use Rattle.format.specs.Slots.{firstZero, memberFirstZero, orElse, zeroClass}
-use Rattle.format.specs.Table.{Found, found, bad, Walk, andThen, Kind, isFixedPoint, isFloatingPoint, isTime, isString, isBitField, isOpaque, isCompound, isReference, isEnumeration, isVariableLength, isArray, isUnknown, kindOf, typeAt, membersAt, enumNamesAt, enumValuesAt}
-use Rattle.format.proofs.TableSteps.{then-found}
-use Rattle.rows.specs.Entries.{wordAt, pick, entryOf, entryAt, memberAt, leafType, fromEntry, fromMember}
+use Rattle.format.specs.Table.{Found, found, bad, Walk, andThen, typeAt, membersAt, enumNamesAt, enumValuesAt}
+use Rattle.format.proofs.Scaling.{cap-again}
+use Rattle.format.proofs.TableSteps.{then-found, then-assoc}
+use Rattle.rows.specs.Entries.{wordAt, entryAt, memberAt, leafType, fromEntry, fromMember}
 use Rattle.rows.specs.declared.Entry.{Entry}
 use Rattle.rows.specs.declared.Entry.the-variants.{Leaf, Compound, Enumeration, VariableLength, Array, Unknown}
 use Rattle.rows.specs.declared.Member.{Member}
 use Rattle.rows.specs.declared.Member.the-variants.{Named, Unnamed}
 use Rattle.rows.proofs.Decode.{typeAt-entry, membersAt-entry}
+use Rattle.rows.proofs.Leaves.{leaf-law}
 use Rattle.table.specs.Survey.{zeroCode, zeroNote, firstOf, surveyOf, surveyIn, spotOf, enumSpotOf}
 use Rattle.table.specs.declared.Survey.{Survey}
 use Rattle.table.specs.declared.Surveyed.{Surveyed}
@@ -46,6 +48,11 @@ unfolding zeroCode orElse firstOf
 zero-else none y = refl
 zero-else (some k) y = rw (ne-eqb (suc k) 0 (λ e. omega arith))
 
+pub zero-code : (x : Option ℕ) → zeroCode x ≡ 0 → x ≡ none
+unfolding zeroCode
+zero-code none h = refl
+zero-code (some c) h = absurd (omega arith)
+
 first-zero : (a : ℕ) → firstOf a 0 ≡ a
 unfolding firstOf
 first-zero zero = refl
@@ -56,18 +63,7 @@ unfolding firstOf
 first-assoc zero b d = refl
 first-assoc (suc a) b d = rw (ne-eqb (suc a) 0 (λ e. omega arith), ne-eqb (suc a) 0 (λ e. omega arith))
 
-or-false : (a : Bool) → (a || false) ≡ a
-or-false true = refl
-or-false false = refl
-
-or-assoc : (a b d : Bool) → ((a || b) || d) ≡ (a || (b || d))
-or-assoc true b d = refl
-or-assoc false b d = refl
-
 -- ---- an array's size and its cap
-
-min-min : (x : ℕ) → min (min x 4294967296) 4294967295 ≡ min x 4294967295
-min-min x = omega arith
 
 ltb-min′ : (x : ℕ) → Dec (x ≤ 4294967295) → ltb 4294967295 (min x 4294967296) ≡ ltb 4294967295 x
 ltb-min′ x (yes h) = rw (le-ltb 4294967295 (min x 4294967296) (omega arith), le-ltb 4294967295 x h)
@@ -79,43 +75,27 @@ ltb-min x = ltb-min′ x (decLe x 4294967295)
 -- ---- a leaf
 
 -- what a leaf's row says of its type
-unfoldable LeafTold : (table pool : List ℕ) (r p : ℕ) → Entry → Type 0
-LeafTold table pool r p (Leaf k n l x) =
+unfoldable LeafTold : (r p k n l x : ℕ) → Datatype → Type 0
+LeafTold r p k n l x t =
     (k ≤ 7)
-    × surveyOf (found (leafType table pool r p k) (suc r) (p + l))
+    × surveyOf (found t (suc r) (p + l))
     ≡ Sound (record { row = suc r; place = p + l; size = n; zero = zeroNote (suc k) n; outside = false; heap = eqb k 7 && eqb x 1; object = eqb k 7; file = eqb k 7 })
-LeafTold table pool r p (Compound n k) = Unit {0}
-LeafTold table pool r p (Enumeration n k) = Unit {0}
-LeafTold table pool r p (VariableLength i a k) = Unit {0}
-LeafTold table pool r p (Array k) = Unit {0}
-LeafTold table pool r p Unknown = Unit {0}
 
 module _ (table pool : List ℕ) (r p : ℕ) where
-  told-pick : (b : Bool) (e : Entry) → LeafTold table pool r p e → LeafTold table pool r p (pick b e)
-  unfolding pick LeafTold
-  told-pick true e h = h
-  told-pick false e h = tt
-
-  told-kind : (k : Kind) → LeafTold table pool r p (entryOf table pool r p k)
-  unfolding entryOf LeafTold leafType surveyOf typeSize firstZero outside heapHeld holdsObjectAddress holdsFileAddress
-  told-kind isFixedPoint = told-pick _ _ (omega arith, rw (zero-class 0 (wordAt table r 1)))
-  told-kind isFloatingPoint = told-pick _ _ (omega arith, rw (zero-class 1 (wordAt table r 1)))
-  told-kind isTime = told-pick _ _ (omega arith, rw (zero-class 2 (wordAt table r 1)))
-  told-kind isString = told-pick _ _ (omega arith, rw (zero-class 3 (wordAt table r 1)))
-  told-kind isBitField = told-pick _ _ (omega arith, rw (zero-class 4 (wordAt table r 1)))
-  told-kind isOpaque = told-pick _ _ (omega arith, rw (zero-class 5 (wordAt table r 1)))
-  told-kind isCompound = told-pick _ _ tt
-  told-kind isReference = told-pick _ _ (omega arith, rw (zero-class 7 (wordAt table r 1)))
-  told-kind isEnumeration = told-pick _ _ tt
-  told-kind isVariableLength = told-pick _ _ tt
-  told-kind isArray = told-pick _ _ tt
-  told-kind isUnknown = tt
-
-  leaf-told : {k n l x : ℕ} {e : Entry} → e ≡ entryAt table pool r p → e ≡ Leaf k n l x → LeafTold table pool r p (Leaf k n l x)
-  unfolding entryAt
-  leaf-told {k = k} {n = n} {l = l} {x = x} q e =
-      let f : entryAt table pool r p ≡ Leaf k n l x = sym q ∙ e in
-      rw f at (told-kind (kindOf (wordAt table r 0)))
+  leaf-told : {k n l x : ℕ} {e : Entry} → e ≡ entryAt table pool r p → e ≡ Leaf k n l x → LeafTold r p k n l x (leafType table pool r p k)
+  unfolding LeafTold surveyOf typeSize firstZero outside heapHeld holdsObjectAddress holdsFileAddress
+  leaf-told =
+      leaf-law table pool r p (LeafTold r p) (
+      record {
+        of-fixedPoint = (omega arith, rw (zero-class 0 (wordAt table r 1)));
+        of-floatingPoint = (omega arith, rw (zero-class 1 (wordAt table r 1)));
+        of-time = (omega arith, rw (zero-class 2 (wordAt table r 1)));
+        of-string = (omega arith, rw (zero-class 3 (wordAt table r 1)));
+        of-bitField = (omega arith, rw (zero-class 4 (wordAt table r 1)));
+        of-opaque = λ i. (omega arith, rw (zero-class 5 (wordAt table r 1)));
+        of-reference = (omega arith, rw (zero-class 7 (wordAt table r 1)));
+      }
+      )
 
   pub leaf-class : {k n l x : ℕ} {e : Entry} → e ≡ entryAt table pool r p → e ≡ Leaf k n l x → k ≤ 7
   unfolding LeafTold
@@ -147,11 +127,6 @@ unsound-then x f q e = rw (untold x q e)
 -- ---- the types that hold another
 
 module _ (table pool : List ℕ) (n k : ℕ) (s : Survey) where
-  assoc : {A B D : Type 0} (x : Found A) (f : A → Walk B) (g : B → Walk D) → andThen x (λ a r p. andThen (f a r p) g) ≡ andThen (andThen x f) g
-  unfolding andThen
-  assoc (found a r p) f g = refl
-  assoc bad f g = refl
-
   behind-lost : (t : Datatype) (x : Found (List EnumMember)) → Lost ≡ spotOf x → Unsound ≡ surveyOf (andThen x (λ ms r p. found (enumeration n t ms) r p))
   unfolding spotOf andThen surveyOf
   behind-lost t (found ms r p) e = let z : _≡_ {A = ℕ} 0 1 = cc in absurd (omega arith)
@@ -164,7 +139,7 @@ module _ (table pool : List ℕ) (n k : ℕ) (s : Survey) where
       let fr : s .row ≡ r = ap (λ (v : Survey). v .row) (h .is) in
       let fp : s .place ≡ p = ap (λ (v : Survey). v .place) (h .is) in
       let d : Lost ≡ spotOf (andThen (enumNamesAt table pool k r p) (enumValuesAt pool)) = rw (fr, fp) at e in
-      rw (then-found t _ r p, assoc (enumNamesAt table pool k r p) (enumValuesAt pool) (λ ms r₃ p₃. found (enumeration n t ms) r₃ p₃)) (behind-lost t _ d)
+      rw (then-found t _ r p, then-assoc (enumNamesAt table pool k r p) (enumValuesAt pool) (λ ms r₃ p₃. found (enumeration n t ms) r₃ p₃)) (behind-lost t _ d)
   enumeration-lost bad h e = absurd h
 
   behind-sound : (t : Datatype) (x : Found (List EnumMember)) {end : Spot} (r p : ℕ) → Says s t r p → At end ≡ spotOf x
@@ -184,7 +159,7 @@ module _ (table pool : List ℕ) (n k : ℕ) (s : Survey) where
       let fr : s .row ≡ r = ap (λ (v : Survey). v .row) (h .is) in
       let fp : s .place ≡ p = ap (λ (v : Survey). v .place) (h .is) in
       let d : At end ≡ spotOf (andThen (enumNamesAt table pool k r p) (enumValuesAt pool)) = rw (fr, fp) at e in
-      rw (then-found t _ r p, assoc (enumNamesAt table pool k r p) (enumValuesAt pool) (λ ms r₃ p₃. found (enumeration n t ms) r₃ p₃)) (behind-sound t _ r p h d)
+      rw (then-found t _ r p, then-assoc (enumNamesAt table pool k r p) (enumValuesAt pool) (λ ms r₃ p₃. found (enumeration n t ms) r₃ p₃)) (behind-sound t _ r p h d)
   enumeration-sound bad h e = absurd h
 
 variableLength-sound : (i a k : ℕ) (s : Survey) (x : Found Datatype) → Told x s
@@ -200,7 +175,7 @@ module _ (ds : List ℕ) (s : Survey) {total size note first : ℕ} {out : Bool}
       → Sound (record { row = s .row; place = s .place; size = size; zero = first; outside = out; heap = s .heap; object = s .object; file = s .file })
       ≡ surveyOf (andThen x (λ t r p. found (array ds t) r p))
   unfolding Told andThen surveyOf typeSize firstZero outside heapHeld holdsObjectAddress holdsFileAddress
-  array-sound (found t r p) h = rw (ho, hf, hn, hs, ht, h .is, zero-else, zero-class, min-min, ltb-min)
+  array-sound (found t r p) h = rw (ho, hf, hn, hs, ht, h .is, zero-else, zero-class, cap-again, ltb-min)
   array-sound bad h = absurd h
 
 -- ---- a type

@@ -1,13 +1,12 @@
 -- The answers of `write`, refusal by refusal, and what it leaves in `out`.
-use Prim.Native.Nat.{ℕ, zero, suc, _+_, _*_, _<_, _≤_, min}
-use mathlib.Core.Path.{_≡_, refl, sym, ap, _∙_}
+use Prim.Native.Nat.{ℕ, _+_, _<_, _≤_}
+use mathlib.Core.Path.{_≡_, sym, ap, _∙_}
 use mathlib.Core.Logic.{inl, inr}
 use mathlib.Core.Bool.{Bool, true, false, not}
 use mathlib.Core.List.{List, [], _∷_, _++_}
 use native.Mathlib.Omega.{arith}
-use native.Mathlib.Nat.{min-eq-left, zero-add}
+use native.Mathlib.Nat.{min-eq-left}
 use lib.ListN.{length, getD, drop}
-use lib.Seq.{sets, sets-eq}
 use borrow.Author.Tests.{not-true, not-false}
 use Rattle.refusal.specs.declared.Refusal.{Refusal}
 use Rattle.refusal.specs.declared.Refusal.the-variants.{BadTable, NoSuchEdition, Unstorable, NotInEdition, NoRoom}
@@ -15,13 +14,15 @@ use Rattle.format.specs.Datatype.{Datatype}
 use Rattle.format.specs.Message.{message, messageLength, storable, carried, writing}
 use Rattle.format.specs.Outcome.{Outcome, gives, refuses, outputAfter, needed, outcomeNumber, outcomeValues}
 use Rattle.format.specs.Table.{WithinLimits, SetsOut, Found, found, bad, typeAt, typeOf}
+use Rattle.format.proofs.Bytes.{all-bytes}
+use Rattle.format.proofs.Lists.{sets-front}
 use Rattle.format.proofs.Table.{typeOf-sound}
 use Rattle.format.proofs.Written.{length-message, writing-bad-table, writing-no-edition, writing-unstorable, writing-not-in-edition, writing-no-room, writing-given}
 use Rattle.table.specs.Survey.{endsAt, Sets, Checks}
 use Rattle.table.specs.declared.Survey.{Survey}
 use Rattle.table.specs.declared.Checked.{Checked}
 use Rattle.table.specs.declared.Checked.the-variants.{Good, Bad}
-use Rattle.table.proofs.Checking.{all-bytes, stands-fits, whole-given, whole-refused, none-refused}
+use Rattle.table.proofs.Checking.{stands-fits, whole-given, whole-refused, none-refused}
 use Rattle.measure.specs.Measure.{measureOf, mostLength}
 use Rattle.measure.specs.declared.Measure.{Measure}
 use Rattle.measure.specs.declared.Measured.{Measured}
@@ -32,6 +33,7 @@ use Rattle.writer_parts.specs.Places.{Stands}
 use Rattle.writer_parts.specs.declared.Put.{Put}
 use Rattle.writer_parts.specs.declared.Put.the-variants.{At, Lost}
 use Rattle.writer_parts.specs.declared.Written.{Written}
+use Rattle.writer_parts.proofs.Placing.{no-at}
 use Rattle.writer.specs.Writes.{PutsType, writingNumber, writingValues, answerOf, Answers, Writes}
 use Rattle.writer.specs.declared.Writing.{Writing}
 use Rattle.writer.specs.declared.Writing.the-variants.{Written as AnswerWritten, Refused as AnswerRefused}
@@ -59,12 +61,6 @@ module _ {o : Outcome (List ℕ)} {out : List ℕ} where
         values = ap (λ (n : ℕ). n ∷ []) e ∙ sym (ap (outcomeValues length) h);
         out-is = w ∙ sym (ap (outputAfter out) h);
       }
-
-at-start : (s out : List ℕ) → 0 + length s ≤ length out → sets out 0 s ≡ s ++ drop (length s) out
-at-start s out h = sets-eq s out 0 h ∙ rw (zero-add (length s))
-
-no-at : {w : Written} → Lost ≡ At w → ⊥
-no-at h = let z : _≡_ {A = ℕ} 0 1 = cc in omega arith
 
 -- ---- a type that is measured
 
@@ -155,7 +151,7 @@ module _ (table pool : List ℕ) (e : ℕ) {y : Measured} (q : y ≡ measureOf e
               pub write-written : {v : Written} → z ≡ At v → Writes table pool e (AnswerWritten (m .length)) out out′
               write-written f =
                   given (writing-given table pool e (length out) t is lo hi is-storable is-carried (omega (arith, exact))) (exact ∙ sym (length-message e t))
-                  (stood .written fits ∙ at-start (message e t) out fits)
+                  (stood .written fits ∙ sets-front (message e t) out (omega arith))
 
 -- ---- an edition that there is not
 

@@ -1,27 +1,28 @@
 -- The message of a type, by the entry of its row: one law for each way out of `put_type`.
-use Prim.Native.Nat.{ℕ, zero, suc, _+_, _-_, _*_, _/_, _%_, _^_, _<_, _≤_, max}
+use Prim.Native.Nat.{ℕ, zero, suc, _+_, _-_, _*_, _/_, _%_, _<_, _≤_}
 use mathlib.Core.Path.{_≡_, refl, sym, ap, _∙_}
-use mathlib.Core.Bool.{true, _&&_}
-use mathlib.Core.List.{List, [], _∷_, _++_, append-assoc}
+use mathlib.Core.Bool.{true}
+use mathlib.Core.List.{List, _++_, append-assoc}
 use native.Mathlib.Omega.{arith}
 use native.Mathlib.Numerals.{add-one}
 use lib.ListN.{length, getD, take, drop, length-append, length-drop}
 use lib.Seq.{length-take-le}
 use lib.Dec.{ltb}
 use borrow.Author.Tests.{ltb-true}
-use Rattle.format.specs.Bytes.{AllBytes, littleEndian, zeros, dimensionBytes, dimensionsFrom}
+use Rattle.format.specs.Bytes.{AllBytes, littleEndian, zeros, dimensionsFrom}
 use Rattle.format.specs.Datatype.{Datatype, compound, enumeration, variableLength, array, Members, EnumMember, memberCount, enumValues, typeSize}
-use Rattle.format.specs.Message.{header, message, memberBytes, enumNameBytes, arrayBytes, reservedBytes, permutationBytes, variableFlags, variableCharset, all, storable, storableMembers, storableEnum, storableVariable, carried, carriedMembers}
-use Rattle.format.specs.Table.{Found, found, bad, Walk, andThen, typeAt, membersAt, enumNamesAt, enumValuesAt}
+use Rattle.format.specs.Message.{header, message, memberBytes, enumNameBytes, arrayBytes, reservedBytes, permutationBytes, variableFlags, variableCharset, storable, storableMembers, storableVariable, carried, carriedMembers}
+use Rattle.format.specs.Table.{Found, found, bad, andThen, typeAt, membersAt, enumNamesAt, enumValuesAt}
 use Rattle.format.proofs.Booleans.{and-both}
-use Rattle.format.proofs.Bytes.{bytes-take, bytes-drop, dimension-bytes-back, length-dimensionsFrom}
+use Rattle.format.proofs.Bytes.{all-bytes, bytes-take, bytes-drop, dimension-bytes-back, length-dimensionsFrom}
 use Rattle.format.proofs.Storable.{Facts, all-facts}
-use Rattle.rows.specs.Entries.{entryAt, EntryInside, EntryIfKnown, fromEntry, leafType}
+use Rattle.format.proofs.TableSteps.{then-assoc}
+use Rattle.rows.specs.Entries.{entryAt, EntryInside, EntryIfKnown, fromEntry}
 use Rattle.rows.specs.declared.Entry.{Entry}
 use Rattle.rows.specs.declared.Entry.the-variants.{Leaf, Compound, Enumeration, VariableLength, Array, Unknown}
 use Rattle.rows.proofs.Decode.{typeAt-entry, array-inside}
 use Rattle.rows.proofs.Known.{claim-of-type}
-use Rattle.writer_parts.specs.Places.{Places, PlacesFrom, Inside, Stands}
+use Rattle.writer_parts.specs.Places.{Places, PlacesFrom, Stands}
 use Rattle.writer_parts.specs.Leaf.{PutsLeaf}
 use Rattle.writer_parts.specs.Enum.{PutsEnumOf, PutsEnum}
 use Rattle.writer_parts.specs.declared.Placed.{Placed}
@@ -29,21 +30,15 @@ use Rattle.writer_parts.specs.declared.Placed.the-variants.{Behind, Full}
 use Rattle.writer_parts.specs.declared.Put.{Put}
 use Rattle.writer_parts.specs.declared.Put.the-variants.{At, Lost}
 use Rattle.writer_parts.specs.declared.Written.{Written}
-use Rattle.writer_parts.proofs.Placing.{stands, lost, stands-behind, lost-behind, row-known, placed, unplaced, where-fits}
-use Rattle.writer_parts.proofs.Leaves.{leaf-class, leaf-codes, leaf-message}
+use Rattle.writer_parts.proofs.Placing.{stands-behind, lost-behind, row-known, placed, unplaced, where-fits}
+use Rattle.writer_parts.proofs.Leaves.{leaf-codes, leaf-message}
 use Rattle.writer_parts.proofs.Enums.{enum-count}
-use Rattle.table.proofs.Checking.{all-bytes}
 use Rattle.table.specs.Survey.{surveyOf}
 use Rattle.table.specs.declared.Survey.{Survey}
 use Rattle.table.specs.declared.Surveyed.{Surveyed}
 use Rattle.table.specs.declared.Surveyed.the-variants.{Sound, Unsound}
-use Rattle.writer.specs.Writes.{PutsFound, PutsType, PutsFoundMembers, PutsMembers, sizeIn}
+use Rattle.writer.specs.Writes.{PutsFound, PutsType, PutsMembers, sizeIn}
 use Rattle.writer.proofs.Compounds.{member-count, found-puts, found-members}
-
-assoc : {A B D : Type 0} (x : Found A) (f : A → Walk B) (g : B → Walk D) → andThen x (λ a r p. andThen (f a r p) g) ≡ andThen (andThen x f) g
-unfolding andThen
-assoc (found a r p) f g = refl
-assoc bad f g = refl
 
 -- ---- what a type that can be stored says of the types inside
 
@@ -248,7 +243,7 @@ module _ (levels e at : ℕ) (table pool : List ℕ) (r p : ℕ) (out : List ℕ
           → PutsFound e at (andThen z (λ t r₁ p₁. andThen (enumNamesAt table pool k r₁ p₁) (λ ns r₂ p₂. andThen (enumValuesAt pool ns r₂ p₂) (λ ms r₃ p₃. found (enumeration n t ms) r₃ p₃)))) x out out₂
       unfolding andThen
       enumeration-is (found t r₁ p₁) x out₂ s =
-          rw (assoc (enumNamesAt table pool k r₁ p₁) (enumValuesAt pool) (λ ms r₃ p₃. found (enumeration n t ms) r₃ p₃)) (enumeration-behind t r₁ p₁ _ refl x out₂ (s t r₁ p₁ refl))
+          rw (then-assoc (enumNamesAt table pool k r₁ p₁) (enumValuesAt pool) (λ ms r₃ p₃. found (enumeration n t ms) r₃ p₃)) (enumeration-behind t r₁ p₁ _ refl x out₂ (s t r₁ p₁ refl))
       enumeration-is bad x out₂ s = unfold PutsFound in tt
 
       as-enumeration : {x : Put} {out₂ : List ℕ}

@@ -1,12 +1,11 @@
 -- The members of an enumeration: names one a turn, then all values in one piece, as they stand in the pool.
-use Prim.Native.Nat.{ℕ, zero, suc, _+_, _-_, _*_, _<_, _≤_, max}
+use Prim.Native.Nat.{ℕ, zero, suc, _+_, _-_, _<_, _≤_, max}
 use mathlib.Core.Path.{_≡_, refl, sym, ap, _∙_}
 use mathlib.Core.Bool.{Bool, true, false, cond}
 use mathlib.Core.List.{List, [], _∷_, _++_, append-assoc}
 use native.Mathlib.Omega.{arith}
 use native.Mathlib.Nat.{add-zero, zero-add}
-use native.Mathlib.Numerals.{add-one}
-use lib.ListN.{length, take, drop, length-drop}
+use lib.ListN.{length, take, drop}
 use lib.Dec.{leb}
 use lib.Seq.{take-add, drop-drop}
 use borrow.Author.Tests.{leb-true}
@@ -18,22 +17,19 @@ use Rattle.rows.specs.declared.Member.{Member}
 use Rattle.rows.specs.declared.Member.the-variants.{Named, Unnamed}
 use Rattle.rows.proofs.Decode.{enumNamesAt-entry, enumNamed-inside}
 use Rattle.rows.proofs.Known.{claim-of-enumNames}
+use Rattle.rows.proofs.EnumNames.{names-as, names-none, valuesLong}
 use Rattle.writer_parts.specs.Enum.{PutsEnum, PutsEnumOf}
-use Rattle.writer_parts.specs.Places.{Places, PlacesFrom, Inside, Stands}
+use Rattle.writer_parts.specs.Places.{PlacesFrom, Inside, Stands}
 use Rattle.writer_parts.specs.declared.Placed.{Placed}
 use Rattle.writer_parts.specs.declared.Placed.the-variants.{Behind, Full}
 use Rattle.writer_parts.specs.declared.Put.{Put}
 use Rattle.writer_parts.specs.declared.Put.the-variants.{At, Lost}
-use Rattle.writer_parts.proofs.Placing.{behind, full-behind, stands, lost, stands-behind, lost-behind}
+use Rattle.writer_parts.proofs.Placing.{stands, lost, stands-behind, lost-behind}
 
--- the names in the message, and how long the values are in all
+-- the names in the message
 unfoldable pub namesOf : (edition : ℕ) → List (List ℕ × ℕ) → List ℕ
 namesOf e [] = []
 namesOf e (x ∷ ns) = nameBytes e (x .0) ++ namesOf e ns
-
-unfoldable pub valuesLong : List (List ℕ × ℕ) → ℕ
-valuesLong [] = 0
-valuesLong (x ∷ ns) = x .1 + valuesLong ns
 
 -- names, and behind them values, of which so many bytes belong to names before these
 unfoldable pub Rest : (edition : ℕ) (pool : List ℕ) (values at : ℕ) → Found (List (List ℕ × ℕ)) → Put → (out out′ : List ℕ) → Type 0
@@ -98,20 +94,6 @@ module _ (e : ℕ) (pool : List ℕ) where
     from-rest bad h = unfold PutsEnumOf in tt
 
 -- ---- the loop
-
-module _ (table pool : List ℕ) (r p : ℕ) where
-  names-as : (k : ℕ) {m : Member} {n l : ℕ} → 0 < k → m ≡ enumMemberAt table pool r p → m ≡ Named n l
-      → enumNamesAt table pool k r p ≡ andThen (enumNamesAt table pool (k - 1) (r + 1) (p + n)) (λ ns r′ p′. found ((take n (drop p pool), l) ∷ ns) r′ p′)
-  unfolding fromEnumMember
-  names-as (suc k) h q e =
-      let j : suc k - 1 ≡ k = omega arith in
-      enumNamesAt-entry table pool k r p ∙ ap (fromEnumMember (enumNamesAt table pool k) pool r p) (sym q ∙ e) ∙ rw (j, add-one)
-  names-as zero h q e = absurd (omega arith)
-
-  names-none : (k : ℕ) {m : Member} → 0 < k → m ≡ enumMemberAt table pool r p → m ≡ Unnamed → enumNamesAt table pool k r p ≡ bad
-  unfolding fromEnumMember
-  names-none (suc k) h q e = enumNamesAt-entry table pool k r p ∙ ap (fromEnumMember (enumNamesAt table pool k) pool r p) (sym q ∙ e)
-  names-none zero h q e = absurd (omega arith)
 
 -- a name whose row is read again: nothing is said where the row is unknown
 known-names : (e : ℕ) (table pool : List ℕ) (v a k r p : ℕ) (x : Put) (out out′ : List ℕ) {m : Member} → 0 < k → MemberIfKnown (enumMemberAt table pool r p) m

@@ -1,10 +1,10 @@
 -- Storing a piece of a message, and one behind another.
-use Prim.Native.Nat.{ℕ, zero, suc, _+_, _-_, _*_, _/_, _%_, _<_, _≤_, max}
+use Prim.Native.Nat.{ℕ, zero, suc, _+_, _-_, _*_, _/_, _%_, _<_, _≤_}
 use mathlib.Core.Path.{_≡_, refl, sym, ap, _∙_}
 use mathlib.Core.List.{List, [], _∷_, _++_}
 use native.Mathlib.Omega.{arith}
 use native.Mathlib.Nat.{add-zero}
-use native.Mathlib.Numerals.{add-one, one-add}
+use native.Mathlib.Numerals.{one-add}
 use lib.ListN.{length, take, drop, set, length-append, length-drop}
 use lib.Seq.{sets, length-sets, length-take-le}
 use mathlib.Core.Bool.{true, _&&_}
@@ -16,7 +16,8 @@ use Rattle.format.specs.Bits.{classAndVersion, nibbles}
 use Rattle.format.proofs.Bytes.{length-littleEndian, length-zeros}
 use Rattle.format.proofs.Booleans.{and-both}
 use Rattle.format.proofs.Steps.{length-header}
-use Rattle.primitives.proofs.Laws.{sets-append}
+use Rattle.format.proofs.Lists.{sets-append}
+use Rattle.primitives.proofs.Laws.{zeros-snoc}
 use Rattle.writer_parts.specs.Places.{Places, PlacesFrom, Inside, Stands}
 use Rattle.writer_parts.specs.declared.Placed.{Placed}
 use Rattle.writer_parts.specs.declared.Placed.the-variants.{Behind, Full}
@@ -30,7 +31,7 @@ behind-is e = cc
 no-behind : {a : ℕ} → Full ≡ Behind a → ⊥
 no-behind e = let z : _≡_ {A = ℕ} 0 1 = cc in omega arith
 
-no-at : {w : Written} → Lost ≡ At w → ⊥
+pub no-at : {w : Written} → Lost ≡ At w → ⊥
 no-at e = let z : _≡_ {A = ℕ} 0 1 = cc in omega arith
 
 -- ---- one piece
@@ -108,17 +109,12 @@ pub zeros-begun : (out : List ℕ) (at i : ℕ) → i ≡ 0 → out ≡ sets out
 unfolding zeros
 zeros-begun out at i h = rw h
 
-zeros-more : (n : ℕ) → zeros n ++ (0 ∷ []) ≡ zeros (n + 1)
-unfolding zeros
-zeros-more zero = refl
-zeros-more (suc n) = ap (λ (l : List ℕ). 0 ∷ l) (zeros-more n) ∙ rw (add-one n, add-one (suc n))
-
 pub zeros-next : (out : List ℕ) (at i : ℕ) {out′ : List ℕ} → out′ ≡ sets out at (zeros i) → set out′ (at + i) 0 ≡ sets out at (zeros (i + 1))
 zeros-next out at i h =
     ap (λ (l : List ℕ). set l (at + i) 0) h
     ∙ ap (λ (k : ℕ). set (sets out at (zeros i)) (at + k) 0) (sym (length-zeros i))
     ∙ sym (sets-append (zeros i) (0 ∷ []) out at)
-    ∙ ap (sets out at) (zeros-more i)
+    ∙ ap (sets out at) (zeros-snoc i)
 
 module _ (out out′ : List ℕ) (at : ℕ) where
   module _ (n : ℕ) where

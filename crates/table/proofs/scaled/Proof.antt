@@ -1,12 +1,13 @@
 use Prim.Native.Nat.{_+_, _-_, _*_, _≤_, min}
 use mathlib.Core.Path.{_≡_, refl}
 use mathlib.Core.Logic.{⊎-elim}
+use native.Mathlib.Nat.{mul-comm}
 use native.Mathlib.Omega.{arith}
 use borrow.Author.Needs.{needs}
 use lib.ListN.{length, take, drop}
 use Rattle.format.specs.Bytes.{dimensionsFrom}
 use Rattle.format.specs.Datatype.{product}
-use Rattle.table.proofs.Scaling.{dimensionsBehind, cap-room, scale-start, scale-next, scale-end}
+use Rattle.format.proofs.Scaling.{dimensionsBehind, cap-room, scale-start, scale-next, scale-end}
 use Rattle.table.proofs.scaled.Statement.{statement}
 use Rattle.table.proofs.scaled.Tie as tie
 
@@ -19,7 +20,7 @@ abbrev μ-loop : tie.MeasureT-loop
 μ-loop pool place rank size total₀ i₀ total i = rank - i
 
 loop-holds : tie.Need-loop-holds Inv-loop μ-loop
-loop-holds c = ((omega arith, omega arith), (c .before .pre, scale-start _ _ _ _ _ refl))
+loop-holds c = ((omega arith, omega arith), (c .before .pre, scale-start _ _ _ _ _ _ _ (mul-comm _ 4) refl))
 
 cast-read-uint : tie.Need-cast-read-uint Inv-loop μ-loop
 cast-read-uint c = search needs
@@ -51,11 +52,11 @@ loop-again c =
     let x = c .before .read-uint .result in
     let e : c .if1 .total ≡ min (l .total * x) 4294967296 = ⊎-elim (λ w. omega arith) (λ w. omega arith) (c .if1 .came) in (
       (omega arith, omega arith),
-      (l .inv .1 .0, scale-next _ _ _ (l .i) (l .total) (c .if1 .total) x _ (omega arith) (c .before .read-uint .ensures) (l .inv .1 .1) e),
+      (l .inv .1 .0, scale-next _ _ _ _ (l .i) (l .total) (c .if1 .total) x _ (omega arith) (c .before .read-uint .ensures) (l .inv .1 .1) e),
     )
 
 returns : tie.Need-returns Inv-loop μ-loop
-returns c = let l = c .before .loop in scale-end _ _ _ (l .i) (l .total) _ (omega arith) (l .inv .0 .1) (l .inv .1 .1)
+returns c = let l = c .before .loop in scale-end _ _ _ _ (l .i) (l .total) _ (omega arith) (l .inv .0 .1) (l .inv .1 .1)
 
 pub scaled-spec : {M : Type 1} → statement M
 scaled-spec =
