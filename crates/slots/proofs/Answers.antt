@@ -2,12 +2,11 @@
 use Prim.Native.Nat.{ℕ, suc, _+_, _-_, _/_, _<_, _≤_, min}
 use mathlib.Core.Path.{_≡_, refl, sym, ap, _∙_}
 use mathlib.Core.Bool.{Bool, true, false, cond, _||_, or-true}
-use mathlib.Core.List.{List, [], _∷_, _++_}
+use mathlib.Core.List.{List, [], _∷_}
 use mathlib.Core.Option.{Option, none, some}
 use native.Mathlib.Omega.{arith}
 use native.Mathlib.Nat.{div-mul-le-self}
-use lib.ListN.{length, drop}
-use lib.Seq.{sets, sets-eq}
+use lib.ListN.{length}
 use lib.Dec.{ltb, eqb}
 use borrow.Author.Tests.{lt-ltb, le-ltb, le-leb, lt-leb, ltb-false}
 use Rattle.refusal.specs.declared.Refusal.{Refusal}
@@ -17,18 +16,20 @@ use Rattle.format.specs.Outcome.{Outcome, gives, refuses, whenGiven, unless, ne
 use Rattle.format.specs.Slots.{slots, slotCount, slotEnd, shifted, holdsOtherReference, holdsHiddenReference, someOutside, unmapped, orElse, zeroClass, firstZero, memberFirstZero, unlessZero, slotting, findingSlots}
 use Rattle.format.specs.Table.{typeAt}
 use Rattle.format.proofs.Booleans.{or-neither}
+use Rattle.format.proofs.Lists.{sets-front}
 use Rattle.format.proofs.Slots.{length-slots, slots-outside, unmapped-counted}
 use Rattle.table.specs.Survey.{surveyOf, zeroCode, Sets, Checks}
 use Rattle.table.specs.declared.Survey.{Survey}
 use Rattle.table.specs.declared.Checked.{Checked}
 use Rattle.table.specs.declared.Checked.the-variants.{Good, Bad}
+use Rattle.table.proofs.Surveys.{zero-code}
 use Rattle.slots.specs.Slots.{mostSlots, mostEnd, CountedAs, AllBelow, Fits, Listed, PutAs, slotsNumber, slotsValues, answerOf, SlotsAre}
 use Rattle.slots.specs.declared.Tally.{Tally}
 use Rattle.slots.specs.declared.Tallied.{Tallied}
 use Rattle.slots.specs.declared.Tallied.the-variants.{At, Lost}
 use Rattle.slots.specs.declared.Slots.{Slots}
 use Rattle.slots.specs.declared.Slots.the-variants.{Found as SlotsFound, Refused}
-use Rattle.slots.proofs.Listing.{shifted-zero}
+use Rattle.slots.proofs.Shifting.{shifted-zero}
 
 -- ---- a class is at most 10
 
@@ -77,11 +78,6 @@ all-low size [] h k = tt
 all-low size (s ∷ ss) h k =
     let u = or-neither (ltb size (s + 8)) (someOutside size ss) k in
     (omega (arith, ltb-false size (s + 8) (u .0)), all-low size ss h (u .1))
-
-zero-code : (x : Option ℕ) → zeroCode x ≡ 0 → x ≡ none
-unfolding zeroCode
-zero-code none h = refl
-zero-code (some c) h = absurd (omega arith)
 
 some-code : {A : Type 0} (x : Option ℕ) (y : Outcome A) → (zeroCode x ≡ 0 → ⊥) → unlessZero x y ≡ refuses (ZeroSize (zeroCode x - 1))
 unfolding zeroCode unlessZero
@@ -210,7 +206,4 @@ module _ (table pool out : List ℕ) {k : Checked} (h : Checks table pool k) whe
               let d : findingSlots table pool (length out) ≡ gives (slots (given .type)) = finding ∙ rw (none-zero, mapped, long, le-leb (t .count) (length out) r) in
               let a : SlotsFound (t .count) ≡ answerOf (findingSlots table pool (length out)) = rw (d, long) in
               let n = told (findingSlots table pool (length out)) a in
-              record { answer = a; number = n .0; values = n .1; out-is = l .out-is ∙ rw d (written (slots (given .type)) out (omega (arith, long))) }
-            where
-              written : (vs out : List ℕ) → length vs ≤ length out → sets out 0 vs ≡ vs ++ drop (length vs) out
-              written vs out h = let e : 0 + length vs ≡ length vs = omega arith in sets-eq vs out 0 (omega arith) ∙ ap (λ (k : ℕ). vs ++ drop k out) e
+              record { answer = a; number = n .0; values = n .1; out-is = l .out-is ∙ rw d (sets-front (slots (given .type)) out (omega (arith, long))) }

@@ -1,4 +1,6 @@
 pub mod Answers
 pub mod Listing
+pub mod ListingInside
 pub mod Numbers
+pub mod Shifting
 pub mod Tallying

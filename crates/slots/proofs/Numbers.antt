@@ -4,9 +4,10 @@ use mathlib.Core.Path.{_≡_, refl, sym, ap, _∙_}
 use mathlib.Core.Bool.{true, false}
 use native.Mathlib.Omega.{arith}
 use native.Mathlib.Decide.{decLe}
-use native.Mathlib.Nat.{mul-le-mul, mul-le-mul-right, zero-mul, one-mul}
+use native.Mathlib.Nat.{mul-le-mul, mul-le-mul-right, le-mul-of-pos-right, zero-mul, mul-zero, one-mul}
 use borrow.Author.Tests.{ne-eqb}
 use Rattle.format.specs.Slots.{isSlot, lastEnd, movedEnd}
+use Rattle.format.proofs.Slots.{moved-end}
 use Rattle.slots.specs.Slots.{mostSlots, mostEnd, leafTally}
 
 -- ---- n entries of so many slots
@@ -27,11 +28,6 @@ sums-stop c s m = omega arith
 
 -- ---- the greater of an end and a member's
 
-pub moved-entry : (o e : ℕ) → 0 < e → movedEnd o e ≡ o + e
-unfolding movedEnd
-moved-entry o zero h = omega arith
-moved-entry o (suc e) h = refl
-
 pub moved-stops : (e o k : ℕ) → mostEnd (max e (movedEnd o (mostEnd k))) ≡ mostEnd (max e (movedEnd o k))
 moved-stops e o zero = refl
 moved-stops e o (suc k) = go (decLe (suc k) 4294967296)
@@ -40,7 +36,7 @@ moved-stops e o (suc k) = go (decLe (suc k) 4294967296)
     go (yes h) = let f : mostEnd (suc k) ≡ suc k = omega arith in rw f
     go (no h) =
         let f : mostEnd (suc k) ≡ 4294967296 = omega (arith, h) in
-        rw (f, moved-entry o 4294967296 (omega arith), moved-entry o (suc k) (omega arith)) (omega (arith, h))
+        rw (f, moved-end o 4294967296 (omega arith), moved-end o (suc k) (omega arith)) (omega (arith, h))
 
 stop-max : (a m : ℕ) → mostEnd (max (mostEnd a) m) ≡ mostEnd (max a m)
 stop-max a m = omega arith
@@ -58,7 +54,7 @@ module _ (most o e : ℕ) where
 
   module _ (z : e ≡ 0 → ⊥) where
     moved-as : movedEnd o e ≡ o + e
-    moved-as = moved-entry o e (omega (arith, z))
+    moved-as = moved-end o e (omega (arith, z))
 
     pub further-end : 4294967296 ≤ e → 4294967296 ≡ mostEnd (max most (movedEnd o e))
     further-end h = rw moved-as (omega arith)
@@ -132,3 +128,53 @@ leaf-other-size c n x r p h i = rw (h, ne-eqb n 8 i)
 pub leaf-none : (c n x r p : ℕ) → (c ≡ 7 → ⊥) → record { row = r; place = p; unmapped = false; count = 0; end = 0 } ≡ leafTally c n x r p
 unfolding leafTally
 leaf-none c n x r p h = rw (ne-eqb c 7 h)
+
+-- ---- products and ends whose factors stopped before
+
+positive-times : (n c : ℕ) → 0 < n → 0 < c → (n ≤ n * c) × (c ≤ n * c)
+positive-times n c h k =
+    (le-mul-of-pos-right n k, omega (arith, mul-le-mul-right c h, one-mul c))
+
+-- n entries of so many slots, both stopped before
+pub times-stop : (n c : ℕ) → mostSlots (min n 4294967296 * mostSlots c) ≡ mostSlots (n * c)
+times-stop zero c = ap (λ (k : ℕ). min k 1073741824) (zero-mul (mostSlots c) ∙ sym (zero-mul c))
+times-stop (suc n) zero = ap (λ (k : ℕ). min k 1073741824) (mul-zero (min (suc n) 4294967296) ∙ sym (mul-zero (suc n)))
+times-stop (suc n) (suc c) = go (decLe (suc n) 4294967296) (decLe (suc c) 1073741824)
+  where
+    more : (suc n ≤ suc n * suc c) × (suc c ≤ suc n * suc c)
+    more = positive-times (suc n) (suc c) (omega arith) (omega arith)
+
+    less : (min (suc n) 4294967296 ≤ min (suc n) 4294967296 * mostSlots (suc c)) × (mostSlots (suc c) ≤ min (suc n) 4294967296 * mostSlots (suc c))
+    less = positive-times (min (suc n) 4294967296) (mostSlots (suc c)) (omega arith) (omega arith)
+
+    go : Dec (suc n ≤ 4294967296) → Dec (suc c ≤ 1073741824) → mostSlots (min (suc n) 4294967296 * mostSlots (suc c)) ≡ mostSlots (suc n * suc c)
+    go (yes h) (yes k) =
+        let e : min (suc n) 4294967296 ≡ suc n = omega arith in
+        let f : mostSlots (suc c) ≡ suc c = omega arith in
+        rw (e, f)
+    go (yes h) (no k) = omega (arith, k, more, less)
+    go (no h) k = omega (arith, h, more, less)
+
+-- the last of n entries, the end and the number stopped before; a stride is not 0
+pub last-stops : (stride end n : ℕ) → 0 < stride → mostEnd (lastEnd stride (mostEnd end) (min n 4294967296)) ≡ mostEnd (lastEnd stride end n)
+unfolding lastEnd
+last-stops stride zero n h = refl
+last-stops stride (suc end) zero h = last-none stride (mostEnd (suc end))
+  where
+    last-none : (stride end : ℕ) → mostEnd (lastEnd stride end 0) ≡ 0
+    last-none stride zero = refl
+    last-none stride (suc end) = refl
+last-stops stride (suc end) (suc n) h = go (decLe (suc n) 4294967296)
+  where
+    left : lastEnd stride (mostEnd (suc end)) (min (suc n) 4294967296) ≡ (min (suc n) 4294967296 - 1) * stride + mostEnd (suc end)
+    left = last-entry stride (mostEnd (suc end)) (min (suc n) 4294967296) (omega arith) (omega arith)
+
+    go : Dec (suc n ≤ 4294967296) → mostEnd (lastEnd stride (mostEnd (suc end)) (min (suc n) 4294967296)) ≡ mostEnd (n * stride + suc end)
+    go (yes k) =
+        let e : min (suc n) 4294967296 - 1 ≡ n = omega arith in
+        let f = left ∙ ap (λ (j : ℕ). j * stride + mostEnd (suc end)) e in
+        rw f (omega arith)
+    go (no k) =
+        let a = le-mul-of-pos-right (min (suc n) 4294967296 - 1) h in
+        let b = le-mul-of-pos-right n h in
+        rw left (omega (arith, a, b, k))

@@ -1,94 +1,39 @@
 -- The first walk: what it counts of a type, one law for each way out of it.
-use Prim.Native.Nat.{ℕ, zero, suc, _+_, _-_, _*_, _<_, _≤_, min, max}
+use Prim.Native.Nat.{ℕ, suc, _+_, _-_, _*_, _<_, _≤_, min, max}
 use mathlib.Core.Path.{_≡_, refl, sym, ap, _∙_}
 use mathlib.Core.Logic.{⊎-elim}
 use mathlib.Core.Bool.{Bool, true, false, cond, not, _||_}
 use mathlib.Core.List.{List}
-use mathlib.Core.Option.{Option, none, some}
+use mathlib.Core.Option.{none}
 use native.Mathlib.Omega.{arith}
-use native.Mathlib.Nat.{mul-le-mul-right, le-mul-of-pos-right, zero-mul, mul-zero, one-mul}
+use native.Mathlib.Nat.{one-mul}
 use native.Mathlib.Numerals.{add-one}
-use native.Mathlib.Decide.{decLe}
 use lib.ListN.{take, drop}
 use Rattle.format.specs.Bytes.{dimensionsFrom}
 use Rattle.format.specs.Datatype.{Datatype, fixedPoint, floatingPoint, time, string, bitField, opaque, compound, reference, enumeration, variableLength, array, EnumMember, Members, noMembers, member, product, typeSize}
 use Rattle.format.specs.Sizes.{holdsObjectAddress, memberHoldsObjectAddress}
-use Rattle.format.specs.Slots.{isSlot, slotCount, memberSlotCount, lastEnd, movedEnd, slotEnd, memberSlotEnd, holdsOtherReference, memberHoldsOtherReference, holdsHiddenReference, memberHoldsHiddenReference, firstZero, memberFirstZero, orElse}
-use Rattle.format.specs.Table.{Found, found, bad, Walk, andThen, Kind, isFixedPoint, isFloatingPoint, isTime, isString, isBitField, isOpaque, isCompound, isReference, isEnumeration, isVariableLength, isArray, isUnknown, kindOf, typeAt, membersAt}
+use Rattle.format.specs.Slots.{isSlot, slotCount, memberSlotCount, lastEnd, movedEnd, slotEnd, memberSlotEnd, holdsOtherReference, memberHoldsOtherReference, holdsHiddenReference, memberHoldsHiddenReference, firstZero, memberFirstZero}
+use Rattle.format.specs.Table.{Found, found, bad, Walk, andThen, typeAt, membersAt}
 use Rattle.format.proofs.Booleans.{or-either, or-second}
-use Rattle.format.proofs.Slots.{first-zero-size}
+use Rattle.format.proofs.Slots.{first-zero-size, or-else-none}
 use Rattle.format.proofs.TableSteps.{then-found}
-use Rattle.rows.specs.Entries.{wordAt, pick, entryOf, entryAt, memberAt, leafType, fromEntry, fromMember}
+use Rattle.rows.specs.Entries.{wordAt, entryAt, memberAt, leafType, fromEntry, fromMember}
 use Rattle.rows.specs.declared.Entry.{Entry}
 use Rattle.rows.specs.declared.Entry.the-variants.{Leaf, Compound, Enumeration, VariableLength, Array, Unknown}
 use Rattle.rows.specs.declared.Member.{Member}
 use Rattle.rows.specs.declared.Member.the-variants.{Named, Unnamed}
 use Rattle.rows.proofs.Decode.{typeAt-entry, membersAt-entry}
+use Rattle.rows.proofs.Leaves.{leaf-law}
 use Rattle.table.specs.Survey.{surveyOf}
 use Rattle.table.specs.declared.Survey.{Survey}
 use Rattle.table.specs.declared.Surveyed.{Surveyed}
 use Rattle.table.specs.declared.Surveyed.the-variants.{Sound, Unsound}
 use Rattle.table.proofs.Surveys.{Told, told, untold}
-use Rattle.slots.proofs.Numbers.{sums-stop, last-entry, moved-stops, ends-stop}
+use Rattle.slots.proofs.Numbers.{times-stop, last-stops, sums-stop, moved-stops, ends-stop}
 use Rattle.slots.specs.Slots.{mostSlots, mostEnd, leafTally, hiddenTally, entriesTally, CountedAs, CountedIn}
 use Rattle.slots.specs.declared.Tally.{Tally}
 use Rattle.slots.specs.declared.Tallied.{Tallied}
 use Rattle.slots.specs.declared.Tallied.the-variants.{At, Lost}
-
-pub or-else-none : (x y : Option ℕ) → orElse x y ≡ none → (x ≡ none) × (y ≡ none)
-unfolding orElse
-or-else-none none y h = (refl, h)
-or-else-none (some c) y h = (h, cc)
-
--- ---- numbers that stop
-
-positive-times : (n c : ℕ) → 0 < n → 0 < c → (n ≤ n * c) × (c ≤ n * c)
-positive-times n c h k =
-    (le-mul-of-pos-right n k, omega (arith, mul-le-mul-right c h, one-mul c))
-
--- n entries of so many slots, both stopped before
-pub times-stop : (n c : ℕ) → mostSlots (min n 4294967296 * mostSlots c) ≡ mostSlots (n * c)
-times-stop zero c = ap (λ (k : ℕ). min k 1073741824) (zero-mul (mostSlots c) ∙ sym (zero-mul c))
-times-stop (suc n) zero = ap (λ (k : ℕ). min k 1073741824) (mul-zero (min (suc n) 4294967296) ∙ sym (mul-zero (suc n)))
-times-stop (suc n) (suc c) = go (decLe (suc n) 4294967296) (decLe (suc c) 1073741824)
-  where
-    more : (suc n ≤ suc n * suc c) × (suc c ≤ suc n * suc c)
-    more = positive-times (suc n) (suc c) (omega arith) (omega arith)
-
-    less : (min (suc n) 4294967296 ≤ min (suc n) 4294967296 * mostSlots (suc c)) × (mostSlots (suc c) ≤ min (suc n) 4294967296 * mostSlots (suc c))
-    less = positive-times (min (suc n) 4294967296) (mostSlots (suc c)) (omega arith) (omega arith)
-
-    go : Dec (suc n ≤ 4294967296) → Dec (suc c ≤ 1073741824) → mostSlots (min (suc n) 4294967296 * mostSlots (suc c)) ≡ mostSlots (suc n * suc c)
-    go (yes h) (yes k) =
-        let e : min (suc n) 4294967296 ≡ suc n = omega arith in
-        let f : mostSlots (suc c) ≡ suc c = omega arith in
-        rw (e, f)
-    go (yes h) (no k) = omega (arith, k, more, less)
-    go (no h) k = omega (arith, h, more, less)
-
--- the last of n entries, the end and the number stopped before; a stride is not 0
-pub last-stops : (stride end n : ℕ) → 0 < stride → mostEnd (lastEnd stride (mostEnd end) (min n 4294967296)) ≡ mostEnd (lastEnd stride end n)
-unfolding lastEnd
-last-stops stride zero n h = refl
-last-stops stride (suc end) zero h = last-none stride (mostEnd (suc end))
-  where
-    last-none : (stride end : ℕ) → mostEnd (lastEnd stride end 0) ≡ 0
-    last-none stride zero = refl
-    last-none stride (suc end) = refl
-last-stops stride (suc end) (suc n) h = go (decLe (suc n) 4294967296)
-  where
-    left : lastEnd stride (mostEnd (suc end)) (min (suc n) 4294967296) ≡ (min (suc n) 4294967296 - 1) * stride + mostEnd (suc end)
-    left = last-entry stride (mostEnd (suc end)) (min (suc n) 4294967296) (omega arith) (omega arith)
-
-    go : Dec (suc n ≤ 4294967296) → mostEnd (lastEnd stride (mostEnd (suc end)) (min (suc n) 4294967296)) ≡ mostEnd (n * stride + suc end)
-    go (yes k) =
-        let e : min (suc n) 4294967296 - 1 ≡ n = omega arith in
-        let f = left ∙ ap (λ (j : ℕ). j * stride + mostEnd (suc end)) e in
-        rw f (omega arith)
-    go (no k) =
-        let a = le-mul-of-pos-right (min (suc n) 4294967296 - 1) h in
-        let b = le-mul-of-pos-right n h in
-        rw left (omega (arith, a, b, k))
 
 -- ---- a leaf
 
@@ -98,41 +43,22 @@ one-slot : (b : Bool) (r p : ℕ)
 one-slot true r p = refl
 one-slot false r p = refl
 
--- what a leaf's row says of its type
-unfoldable LeafTold : (table pool : List ℕ) (r p : ℕ) → Entry → Type 0
-LeafTold table pool r p (Leaf k n l x) = CountedAs (found (leafType table pool r p k) (suc r) (p + l)) (At (leafTally k n x (suc r) (p + l)))
-LeafTold table pool r p (Compound n k) = Unit {0}
-LeafTold table pool r p (Enumeration n k) = Unit {0}
-LeafTold table pool r p (VariableLength i a k) = Unit {0}
-LeafTold table pool r p (Array k) = Unit {0}
-LeafTold table pool r p Unknown = Unit {0}
-
 module _ (table pool : List ℕ) (r p : ℕ) where
-  told-pick : (b : Bool) (e : Entry) → LeafTold table pool r p e → LeafTold table pool r p (pick b e)
-  unfolding pick LeafTold
-  told-pick true e h = h
-  told-pick false e h = tt
-
-  told-kind : (k : Kind) → LeafTold table pool r p (entryOf table pool r p k)
-  unfolding entryOf LeafTold leafType CountedAs leafTally holdsOtherReference holdsHiddenReference slotCount slotEnd
-  told-kind isFixedPoint = told-pick _ _ (λ z. refl)
-  told-kind isFloatingPoint = told-pick _ _ (λ z. refl)
-  told-kind isTime = told-pick _ _ (λ z. refl)
-  told-kind isString = told-pick _ _ (λ z. refl)
-  told-kind isBitField = told-pick _ _ (λ z. refl)
-  told-kind isOpaque = told-pick _ _ (λ z. refl)
-  told-kind isCompound = told-pick _ _ tt
-  told-kind isReference = told-pick _ _ (λ z. one-slot (isSlot (wordAt table r 1) (wordAt table r 5)) (suc r) (p + 0))
-  told-kind isEnumeration = told-pick _ _ tt
-  told-kind isVariableLength = told-pick _ _ tt
-  told-kind isArray = told-pick _ _ tt
-  told-kind isUnknown = tt
-
-  leaf-told : {k n l x : ℕ} {e : Entry} → e ≡ entryAt table pool r p → e ≡ Leaf k n l x → LeafTold table pool r p (Leaf k n l x)
-  unfolding entryAt
-  leaf-told {k = k} {n = n} {l = l} {x = x} q e =
-      let f : entryAt table pool r p ≡ Leaf k n l x = sym q ∙ e in
-      rw f at (told-kind (kindOf (wordAt table r 0)))
+  -- what a leaf's row says of its type
+  leaf-told : {k n l x : ℕ} {e : Entry} → e ≡ entryAt table pool r p → e ≡ Leaf k n l x → CountedAs (found (leafType table pool r p k) (suc r) (p + l)) (At (leafTally k n x (suc r) (p + l)))
+  unfolding CountedAs leafTally holdsOtherReference holdsHiddenReference slotCount slotEnd
+  leaf-told =
+      leaf-law table pool r p (λ k n l x t. CountedAs (found t (suc r) (p + l)) (At (leafTally k n x (suc r) (p + l)))) (
+      record {
+        of-fixedPoint = λ z. refl;
+        of-floatingPoint = λ z. refl;
+        of-time = λ z. refl;
+        of-string = λ z. refl;
+        of-bitField = λ z. refl;
+        of-opaque = λ i z. refl;
+        of-reference = λ z. one-slot (isSlot (wordAt table r 1) (wordAt table r 5)) (suc r) (p + 0);
+      }
+      )
 
 -- ---- a type below which no slot is
 
@@ -265,7 +191,7 @@ module _ (table pool : List ℕ) (row place levels : ℕ) where
     type-unknown h = rw (type-as h) tt
 
     pub type-leaf : {k n l code : ℕ} {y : Tally} → x ≡ Leaf k n l code → y ≡ leafTally k n code (row + 1) (place + l) → CountedAs (typeAt levels table pool row place) (At y)
-    unfolding fromEntry LeafTold
+    unfolding fromEntry
     type-leaf h g = rw (type-as h, g, add-one row) (leaf-told table pool row place q h)
 
     pub type-compound : {n k : ℕ} (z : Tallied) → x ≡ Compound n k → CountedIn (membersAt (typeAt (levels - 1) table pool) table pool k (row + 1) place) z

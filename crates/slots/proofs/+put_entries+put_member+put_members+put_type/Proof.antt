@@ -4,7 +4,8 @@ use borrow.Author.Needs.{needs}
 use Rattle.format.specs.Table.{typeAt, membersAt}
 use Rattle.rows.proofs.Decode.{compound-inside, array-inside, named-inside}
 use Rattle.slots.specs.Slots.{topOf}
-use Rattle.slots.proofs.Listing.{type-unknown, type-enumeration, type-variableLength, type-leaf-other, type-leaf-full, type-leaf, type-compound, type-array-deep, type-array-unsound, type-array-none, type-array, member-none, member-far, member-put, Puts, members-start, members-deep, members-unnamed, members-unsound, members-next, members-end, PutsEach, entries-start, entries-far, entries-next, entries-end}
+use Rattle.slots.proofs.Listing.{type-unknown, type-enumeration, type-variableLength, type-leaf-other, type-leaf-full, type-leaf, type-compound, type-array-deep, type-array-unsound, type-array-none, type-array, member-none, member-far, member-put}
+use Rattle.slots.proofs.ListingInside.{Puts, members-start, members-deep, members-unnamed, members-unsound, members-next, members-end, PutsEach, entries-start, entries-far, entries-next, entries-end}
 use borrow.Fn.Kinds.{In}
 use borrow.Fn.PlainCycle.{Measures, is, falls, and}
 use Rattle.slots.proofs.put_entries.Reads as put-entries
