@@ -1,40 +1,22 @@
--- Laws on stores, on numbers in a message, on names and on zeros.
+-- Laws on numbers in a message, on zeros, on masks and shifts, and the ways out of `ensure_len`.
 use mathlib.Core.Path.{_≡_, refl, sym, ap, _∙_}
 use mathlib.Core.List.{List, [], _∷_, _++_, append-nil}
-use mathlib.Core.Option.{Option, none, some}
 use Prim.Native.Nat.{ℕ, zero, suc, _+_, _-_, _*_, _/_, _%_, _^_, _<_, _≤_, min}
-use native.Mathlib.Nat.{add-zero, pow-suc, min-eq-left, min-eq-right}
+use native.Mathlib.Nat.{pow-suc, min-eq-left, min-eq-right}
 use native.Mathlib.Numerals.{add-one}
 use native.Mathlib.Omega.{arith}
-use lib.ListN.{length, getD, take, drop, set, length-replicate, length-drop}
-use lib.Seq.{take-all, sets, drop-cons, take-suc, length-take-le, drop-length, sets-eq}
+use lib.ListN.{length, getD, take, drop, set}
+use lib.Seq.{sets, drop-cons, drop-length, sets-eq}
 use lib.Bits.{bitAnd, bitOr, and-mask}
 use lib.Pow.{shl-exact}
 use borrow.Author.Tests.{le-leb, lt-leb, eq-eqb, ne-eqb}
-use Rattle.format.specs.Bytes.{numberFrom, littleEndian, firstNul, oneMore, zeros}
+use Rattle.format.specs.Bytes.{numberFrom, littleEndian, zeros}
 use Rattle.format.specs.Bits.{lowBits, highBits, joinBits, bitAt, floatFlags, floatOrder}
 use Rattle.format.proofs.Bits.{join-lt, bit-of}
+use Rattle.format.proofs.Bytes.{length-zeros}
+use Rattle.format.proofs.Lists.{sets-append}
 use Rattle.primitives.specs.Ensured.{ensured}
 use Rattle.primitives.specs.declared.Ensured.the-variants.{Enough, Lacking}
-
--- ---- stores
-
--- stores of vs and then of ws behind them are stores of both
-pub sets-append : (vs ws l : List ℕ) (i : ℕ) → sets l i (vs ++ ws) ≡ sets (sets l i vs) (i + length vs) ws
-sets-append [] ws l i = ap (λ (k : ℕ). sets l k ws) (sym (add-zero i))
-sets-append (v ∷ vs) ws l i = sets-append vs ws (set l i v) (suc i) ∙ ap (λ (k : ℕ). sets (sets (set l i v) (suc i) vs) k ws) (omega arith)
-
--- one store more of a copy
-pub sets-take : (d l : List ℕ) (i j : ℕ) → j < length d → set (sets l i (take j d)) (i + j) (getD d j 0) ≡ sets l i (take (j + 1) d)
-sets-take d l i j h =
-    let e : length (take j d) ≡ j = length-take-le j d (omega arith) in
-    ap (λ (k : ℕ). set (sets l i (take j d)) (i + k) (getD d j 0)) (sym e)
-    ∙ sym (sets-append (take j d) (getD d j 0 ∷ []) l i)
-    ∙ ap (λ (vs : List ℕ). sets l i vs) (sym (take-suc d j 0 h) ∙ ap (λ (k : ℕ). take k d) (sym (add-one j)))
-
--- the part of a slice from i to its end
-pub part-all : (d : List ℕ) (i : ℕ) → take (length d - i) (drop i d) ≡ drop i d
-part-all d i = take-all (length d - i) (drop i d) (omega (arith, length-drop i d))
 
 -- ---- numbers in a message
 
@@ -42,10 +24,6 @@ part-all d i = take-all (length d - i) (drop i d) (omega (arith, length-drop i d
 pub number-step : (d : List ℕ) (i k : ℕ) → i < length d → numberFrom (take (k + 1) (drop i d)) ≡ getD d i 0 + 256 * numberFrom (take k (drop (i + 1) d))
 unfolding numberFrom
 number-step d i k h = ap (λ (m : ℕ). numberFrom (take m (drop i d))) (add-one k) ∙ ap (λ (l : List ℕ). numberFrom (take (suc k) l)) (drop-cons d i 0 h) ∙ ap (λ (j : ℕ). getD d i 0 + 256 * numberFrom (take k (drop j d))) (sym (add-one i))
-
-pub number-none : (l : List ℕ) → numberFrom (take 0 l) ≡ 0
-unfolding numberFrom
-number-none l = refl
 
 -- the last i of width bytes are read, and the byte before them
 pub number-more : (d : List ℕ) (offset width i value : ℕ) → i < width → offset + width ≤ length d
@@ -85,65 +63,12 @@ pub little-ended : (l : List ℕ) (offset width i rest : ℕ) → width ≤ i �
 unfolding littleEndian
 little-ended l offset width i rest h = let z : width - i ≡ 0 = omega arith in rw z
 
-pub length-little : (width n : ℕ) → length (littleEndian width n) ≡ width
-unfolding littleEndian
-length-little zero n = refl
-length-little (suc k) n = ap suc (length-little k (n / 256))
-
--- ---- names
-
--- a place that was found k bytes further on
-abbrev pub shift : ℕ → Option ℕ → Option ℕ
-shift k none = none
-shift k (some m) = some (m + k)
-
-pub shift-none : (o : Option ℕ) (k : ℕ) → k ≡ 0 → o ≡ shift k o
-shift-none none k h = refl
-shift-none (some m) k h = ap some (omega arith)
-
-pub shift-more : (k : ℕ) (o : Option ℕ) → shift k (oneMore o) ≡ shift (suc k) o
-unfolding oneMore
-shift-more k none = refl
-shift-more k (some m) = ap some (omega arith)
-
-nul-zero : (b : ℕ) (l : List ℕ) → b ≡ 0 → firstNul (b ∷ l) ≡ some 0
-unfolding firstNul
-nul-zero zero l e = refl
-nul-zero (suc b) l e = absurd (omega arith)
-
-nul-more : (b : ℕ) (l : List ℕ) → (b ≡ 0 → ⊥) → firstNul (b ∷ l) ≡ oneMore (firstNul l)
-unfolding firstNul
-nul-more zero l e = absurd (e refl)
-nul-more (suc b) l e = refl
-
-pub nul-end : (d : List ℕ) (i : ℕ) → length d ≤ i → firstNul (drop i d) ≡ none
-unfolding firstNul
-nul-end [] zero h = refl
-nul-end [] (suc i) h = refl
-nul-end (x ∷ d) zero h = absurd (omega arith)
-nul-end (x ∷ d) (suc i) h = nul-end d i (omega arith)
-
-pub nul-here : (d : List ℕ) (i : ℕ) → i < length d → getD d i 0 ≡ 0 → firstNul (drop i d) ≡ some 0
-nul-here d i h z = ap firstNul (drop-cons d i 0 h) ∙ nul-zero (getD d i 0) (drop (suc i) d) z
-
-pub nul-next : (d : List ℕ) (i : ℕ) → i < length d → (getD d i 0 ≡ 0 → ⊥) → firstNul (drop i d) ≡ oneMore (firstNul (drop (i + 1) d))
-nul-next d i h z = ap firstNul (drop-cons d i 0 h) ∙ nul-more (getD d i 0) (drop (suc i) d) z ∙ ap (λ (k : ℕ). oneMore (firstNul (drop k d))) (sym (add-one i))
-
-pub nul-passed : (d : List ℕ) (at i : ℕ) → at ≤ i → i < length d → (getD d i 0 ≡ 0 → ⊥) → firstNul (drop at d) ≡ shift (i - at) (firstNul (drop i d)) → firstNul (drop at d) ≡ shift (i + 1 - at) (firstNul (drop (i + 1) d))
-nul-passed d at i h l z e =
-    let q : suc (i - at) ≡ i + 1 - at = omega arith in
-    e ∙ ap (shift (i - at)) (nul-next d i l z) ∙ shift-more (i - at) (firstNul (drop (i + 1) d)) ∙ ap (λ (k : ℕ). shift k (firstNul (drop (i + 1) d))) q
-
 -- ---- zeros up to the end
 
-zeros-snoc : (n : ℕ) → zeros n ++ (0 ∷ []) ≡ zeros (n + 1)
+pub zeros-snoc : (n : ℕ) → zeros n ++ (0 ∷ []) ≡ zeros (n + 1)
 unfolding zeros
 zeros-snoc zero = refl
 zeros-snoc (suc n) = ap (λ (l : List ℕ). 0 ∷ l) (zeros-snoc n) ∙ rw (add-one, add-one)
-
-pub length-zeros : (n : ℕ) → length (zeros n) ≡ n
-unfolding zeros
-length-zeros n = length-replicate n 0
 
 -- zeros from `from` up to i, one store a turn
 pub zeros-more : (e : List ℕ) (from i : ℕ) → from ≤ i → i < length e → set (sets e from (zeros (i - from))) i 0 ≡ sets e from (zeros (i + 1 - from))

@@ -4,7 +4,7 @@ use mathlib.Core.List.{List}
 use native.Mathlib.Omega.{arith}
 use lib.ListN.{length, take, drop, set, getD, length-drop}
 use lib.Seq.{sets, length-sets, getD-drop}
-use Rattle.primitives.proofs.Laws.{sets-take}
+use Rattle.format.proofs.Lists.{sets-take}
 use Rattle.primitives.proofs.copy_bytes.Statement.{statement}
 use Rattle.primitives.proofs.copy_bytes.Tie as tie
 

@@ -4,7 +4,7 @@ use mathlib.Core.List.{List}
 use native.Mathlib.Omega.{arith}
 use lib.ListN.{length, take, set, getD}
 use lib.Seq.{sets, length-sets, take-all}
-use Rattle.primitives.proofs.Laws.{sets-take}
+use Rattle.format.proofs.Lists.{sets-take}
 use Rattle.primitives.proofs.put_row.Statement.{statement}
 use Rattle.primitives.proofs.put_row.Tie as tie
 
