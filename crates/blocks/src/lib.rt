@@ -27,7 +27,7 @@ pub fn record_count(bytes: &[u8], record_size: u64) -> u64
 }
 
 // The record of a number, from 0, as the part of the block that holds it; the empty part at the block's start for a number past the last
-// whole record's.
+// whole record's, which document 01 leaves free.
 pub fn record_bytes<'a>(bytes: &'a [u8], record_size: u64, number: u64) -> &'a [u8]
     ensures is { λ r. ⌜ now r ≡ recordOf (now (bytes .entry)) «record_size» number ⌝ }
     ensures begins { λ r. ⌜ ptr r ≡ further (ptr (bytes .entry)) (recordPlace (now (bytes .entry)) «record_size» number) ⌝ }
@@ -65,7 +65,7 @@ pub fn record_at<'a>(block: Block<'a>, number: u64) -> &'a [u8]
     record_bytes(block.bytes, block.record_size, number)
 }
 
-// The references of each whole record of a block, as `stored_object_references` gives them.
+// The references of each whole record of a block, as `stored_object_references` gives them, with its refusals and its cost.
 pub fn block_references<'a>(
     block: Block<'a>,
     slots: &[u64],
@@ -77,7 +77,7 @@ pub fn block_references<'a>(
     references::stored_object_references(block.bytes, block.record_size, slots, places, values)
 }
 
-// Whether two records of a block are the same, by `same`. A number past the block stands for an empty record.
+// Whether two records of a block are the same, by `same`, with its refusals and its cost. A number past the block stands for an empty record.
 pub fn compare_records(
     table: &[u32],
     pool: &[u8],

@@ -5,7 +5,8 @@ fn main() {
     messages::document_cases();
     messages::row_and_level_cases();
     messages::short_cases();
-    messages::pool_and_name_cases();
+    messages::name_cases();
+    messages::piece_cases();
     messages::size_and_version_cases();
     messages::class_cases();
 }

@@ -9,6 +9,7 @@ fn plain(label: &[u8], message: &[u8]) {
     reading(label, message, 15, 64, 256);
 }
 
+// Document 01's own cases of reading.
 pub fn document_cases() {
     plain(b"empty", b"");
     plain(b"U1", b"\x10\x00\x00\x00\x01\x00\x00\x00\x00\x00\x08\x00");
@@ -91,6 +92,7 @@ fn fill(message: &mut [u8], count: usize, inner: &[u8]) -> usize
     start + inner.len()
 }
 
+// Too few rows, and too many levels.
 pub fn row_and_level_cases() {
     reading(b"empty, no row", b"", 15, 0, 256);
     reading(
@@ -126,6 +128,7 @@ pub fn row_and_level_cases() {
     );
 }
 
+// Messages that end too early, by the message that the count begins in.
 pub fn short_cases() {
     plain(
         b"a name without NUL",
@@ -162,7 +165,8 @@ pub fn short_cases() {
     );
 }
 
-pub fn pool_and_name_cases() {
+// Names that do not fit the pool, and names that are mended.
+pub fn name_cases() {
     reading(
         b"a name too long for the pool",
         b"\x36\x01\x00\x00\x04\x00\x00\x00abc\x00",
@@ -195,6 +199,10 @@ pub fn pool_and_name_cases() {
         64,
         2,
     );
+}
+
+// Tags, values and dimensions that do not fit the pool.
+pub fn piece_cases() {
     plain(
         b"a tag is not mended",
         b"\x15\x01\x00\x00\x01\x00\x00\x00\xff",
@@ -222,6 +230,7 @@ pub fn pool_and_name_cases() {
     );
 }
 
+// Sizes of 0, versions at the limit and above it, and codes.
 pub fn size_and_version_cases() {
     reading(
         b"class 12 of version 15 at limit 14",
@@ -269,6 +278,7 @@ pub fn size_and_version_cases() {
     plain(b"reference kind 2", b"\x17\x02\x00\x00\x08\x00\x00\x00");
 }
 
+// A type of each class.
 pub fn class_cases() {
     plain(
         b"float",

@@ -40,6 +40,7 @@ fn listed(label: &[u8], message: &[u8], room: usize) {
     }
 }
 
+// The lines of whole types.
 pub fn type_cases() {
     listed(
         b"P",
@@ -86,6 +87,7 @@ pub fn depth_case() {
     deep(&message);
 }
 
+// Enough room, a byte less, and a table that sets out no type.
 pub fn refused_cases() {
     listed(
         b"U1 in 39 bytes",

@@ -14,6 +14,7 @@ fn line(refusal: Refusal) {
     }
 }
 
+// Refusals 1 to 11.
 pub fn first_half() {
     line(Refusal::BadTable);
     line(Refusal::TooDeep);
@@ -28,6 +29,7 @@ pub fn first_half() {
     line(Refusal::PoolFull);
 }
 
+// Refusals 12 to 21.
 pub fn second_half() {
     line(Refusal::ZeroSize(11));
     line(Refusal::NoSuchEdition);

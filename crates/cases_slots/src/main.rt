@@ -4,6 +4,8 @@ mod types;
 
 fn main() {
     types::slot_cases();
+    types::unmapped_cases();
+    types::reference_cases();
     types::size_cases();
     calls::bad_tables();
 }

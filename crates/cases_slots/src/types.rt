@@ -4,6 +4,7 @@ use crate::calls::references;
 use crate::calls::sizes;
 use crate::calls::slots;
 
+// Types with slots and without, and immense arrays.
 pub fn slot_cases() {
     slots(
         b"array of two R",
@@ -27,6 +28,10 @@ pub fn slot_cases() {
         b"array of 4,294,967,295 U1",
         b"\x3a\x00\x00\x00\x00\x00\x00\x00\x01\xff\xff\xff\xff\x10\x00\x00\x00\x01\x00\x00\x00\x00\x00\x08\x00",
     );
+}
+
+// References that are no slots, and a member past the end of its compound.
+pub fn unmapped_cases() {
     slots(b"a region reference", b"\x17\x01\x00\x00\x0c\x00\x00\x00");
     slots(
         b"a sequence of R",
@@ -44,6 +49,10 @@ pub fn slot_cases() {
         b"a member past the end of its compound",
         b"\x36\x01\x00\x00\x04\x00\x00\x00\x61\x00\x00\x17\x00\x00\x00\x08\x00\x00\x00",
     );
+}
+
+// References of blocks of records.
+pub fn reference_cases() {
     references(
         b"a record of two R and a remainder",
         b"\x01\x00\x00\x00\x00\x00\x00\x00\x00\x01\x00\x00\x00\x00\x00\x00\x05\x00\x00\x00\x00\x00\x00\x00",
@@ -76,6 +85,7 @@ pub fn slot_cases() {
     );
 }
 
+// Sizes and address predicates.
 pub fn size_cases() {
     sizes(
         b"P",

@@ -3,7 +3,12 @@ mod calls;
 mod types;
 
 fn main() {
-    types::writing_cases();
-    types::unstorable_cases();
+    types::editions_of_p();
+    types::editions_of_an_array();
+    types::p_read_back();
+    types::array_read_back();
+    types::sizes_and_names();
+    types::orders_and_codes();
+    types::numbers_past_their_bits();
     types::tag_and_rank_cases();
 }

@@ -6,7 +6,8 @@ use crate::calls::writing_changed;
 use crate::calls::writing_tag;
 use crate::calls::written_and_read;
 
-pub fn writing_cases() {
+// P in each edition, and in two that there are not.
+pub fn editions_of_p() {
     writing(
         b"P in edition 3",
         b"\x36\x02\x00\x00\x04\x00\x00\x00\x61\x00\x00\x10\x00\x00\x00\x01\x00\x00\x00\x00\x00\x08\x00\x62\x00\x02\x10\x00\x00\x00\x02\x00\x00\x00\x00\x00\x10\x00",
@@ -32,6 +33,10 @@ pub fn writing_cases() {
         b"\x36\x02\x00\x00\x04\x00\x00\x00\x61\x00\x00\x10\x00\x00\x00\x01\x00\x00\x00\x00\x00\x08\x00\x62\x00\x02\x10\x00\x00\x00\x02\x00\x00\x00\x00\x00\x10\x00",
         4,
     );
+}
+
+// An array of two R in each edition.
+pub fn editions_of_an_array() {
     writing(
         b"array of two R in edition 3",
         b"\x3a\x00\x00\x00\x00\x00\x00\x00\x01\x02\x00\x00\x00\x17\x00\x00\x00\x08\x00\x00\x00",
@@ -47,6 +52,10 @@ pub fn writing_cases() {
         b"\x3a\x00\x00\x00\x00\x00\x00\x00\x01\x02\x00\x00\x00\x17\x00\x00\x00\x08\x00\x00\x00",
         1,
     );
+}
+
+// P written, then read under a limit.
+pub fn p_read_back() {
     written_and_read(
         b"P in edition 3 at limit 3",
         b"\x36\x02\x00\x00\x04\x00\x00\x00\x61\x00\x00\x10\x00\x00\x00\x01\x00\x00\x00\x00\x00\x08\x00\x62\x00\x02\x10\x00\x00\x00\x02\x00\x00\x00\x00\x00\x10\x00",
@@ -89,6 +98,10 @@ pub fn writing_cases() {
         4,
         15,
     );
+}
+
+// An array of two R written, then read under a limit.
+pub fn array_read_back() {
     written_and_read(
         b"array of two R in edition 3 at limit 15",
         b"\x3a\x00\x00\x00\x00\x00\x00\x00\x01\x02\x00\x00\x00\x17\x00\x00\x00\x08\x00\x00\x00",
@@ -109,7 +122,8 @@ pub fn writing_cases() {
     );
 }
 
-pub fn unstorable_cases() {
+// Sizes, names and an offset that cannot be stored.
+pub fn sizes_and_names() {
     writing_changed(
         b"a size of 0",
         b"\x10\x00\x00\x00\x01\x00\x00\x00\x00\x00\x08\x00",
@@ -150,6 +164,10 @@ pub fn unstorable_cases() {
         256,
         0,
     );
+}
+
+// Orders, padding and charset, and a table whose pool has a byte behind its tag.
+pub fn orders_and_codes() {
     writing_changed(
         b"VAX order in a fixed type",
         b"\x10\x00\x00\x00\x01\x00\x00\x00\x00\x00\x08\x00",
@@ -190,6 +208,10 @@ pub fn unstorable_cases() {
         256,
         0,
     );
+}
+
+// Numbers past their bits, a value shorter than its base, and a table with an unused word that is not 0.
+pub fn numbers_past_their_bits() {
     writing_changed(
         b"a bit offset past 65,535",
         b"\x10\x00\x00\x00\x01\x00\x00\x00\x00\x00\x08\x00",
@@ -232,6 +254,7 @@ pub fn unstorable_cases() {
     );
 }
 
+// Tags and ranks at 255 and past it, and a table that sets out no type.
 pub fn tag_and_rank_cases() {
     let short_tag = [1u8; 255];
     let tag = [1u8; 256];

@@ -363,7 +363,7 @@ fn put_refusal(refusal: Refusal, out: &mut [u8]) -> usize
     put_byte(b'\n', out, behind)
 }
 
-// Writes the line of a refusal to the start of `out`: `refused`, its number and its values. Refused: NoRoom.
+// Writes the line of a refusal to the start of `out`: `refused`, its number and its values. Refused: NoRoom. Cost: the length of the line, twice.
 pub fn list_refusal(refusal: Refusal, out: &mut [u8]) -> Listing
     ensures { λ r. ⌜ ListsRefusal refusal r (now (out .entry)) (now (out .exit)) ⌝ }
 {

@@ -171,7 +171,8 @@ fn read_type(
 }
 
 // Reads a message under a version limit into the rows of `table` and the bytes of `pool`; what is not used is zero, and all of both
-// where the message is refused.
+// where the message is refused. Refused, by the first met in message order: TooDeep, TooMany, Short, TooNew, BadClass, BadVersion, BadPadding,
+// BadCharset, BadReferenceKind, PoolFull, ZeroSize. Cost: one pass over the message and one over what is lent.
 pub fn read(data: &[u8], limit: u32, table: &mut [u32], pool: &mut [u8]) -> Reading
     ensures { λ r. ⌜ Reads limit (now («data» .entry)) (now (table .entry)) (now (pool .entry)) r (now (table .exit)) (now (pool .exit)) ⌝ }
 {

@@ -123,7 +123,7 @@ fn shorter(a: usize, b: usize) -> usize
 }
 
 // The references of each whole record in turn: places in the block, and the 8-byte values there. A remainder is ignored. Refused, in this
-// order: SlotOutside, NoRoom.
+// order: SlotOutside, NoRoom, whose room is the shorter of the two lent slices. Cost: one pass over the slots and one over the references.
 pub fn stored_object_references(
     block: &[u8],
     record_size: u64,

@@ -14,7 +14,7 @@ pub enum RoundTrip {
 }
 
 // Writes the type of a table in an edition into a lent buffer, and reads it back from that whole buffer, with whatever stands behind the
-// message, into a second table and pool under a limit.
+// message, into a second table and pool under a limit. Refused: as `write`, and then nothing is read; then as `read`. Cost: theirs.
 pub fn write_and_read(
     table: &[u32],
     pool: &[u8],

@@ -372,7 +372,8 @@ pub fn check(table: &[u32], pool: &[u8]) -> Checked
     }
 }
 
-// The size in bytes of one element: `type_size`. Refused: BadTable. Cost: one pass over the table and the pool's rest.
+// The size in bytes of one element: `type_size`. Refused: BadTable, for which document 01 sets nothing down in sizes and predicates. Cost: one
+// pass over the table and the pool's rest.
 pub fn type_size(table: &[u32], pool: &[u8]) -> Sized
     ensures { λ r. ⌜ SizedAs (sizing (now (table .entry)) (now (pool .entry))) r ⌝ }
 {
@@ -391,7 +392,7 @@ fn class_of(kind: u32) -> u8
     (kind - 1) as u8
 }
 
-// The same, not 0: `element_size`. Refused: BadTable, ZeroSize.
+// The same, not 0: `element_size`. Refused: BadTable, ZeroSize of the outermost type's class. Cost: as `type_size`.
 pub fn element_size(table: &[u32], pool: &[u8]) -> Sized
     ensures { λ r. ⌜ SizedAs (elementSizing (now (table .entry)) (now (pool .entry))) r ⌝ }
 {
@@ -407,7 +408,7 @@ pub fn element_size(table: &[u32], pool: &[u8]) -> Sized
     }
 }
 
-// Whether a type of the class in a message's first byte could hold an object address: classes 6 to 10.
+// Whether a type of the class in a message's first byte could hold an object address: classes 6 to 10, and not 11, as in the Rust.
 pub fn class_may_hold_object_address(byte: u8) -> bool
     ensures { λ r. ⌜ r ≡ classMayHoldObjectAddress byte ⌝ }
 {
@@ -418,7 +419,7 @@ pub fn class_may_hold_object_address(byte: u8) -> bool
     }
 }
 
-// Whether the type holds a reference at any level. Refused: BadTable.
+// Whether the type holds a reference at any level. Refused: BadTable. Cost: as `type_size`.
 pub fn datatype_holds_object_address(table: &[u32], pool: &[u8]) -> Held
     ensures { λ r. ⌜ HeldAs (objectAddressHeld (now (table .entry)) (now (pool .entry))) r ⌝ }
 {
@@ -429,7 +430,7 @@ pub fn datatype_holds_object_address(table: &[u32], pool: &[u8]) -> Held
     }
 }
 
-// Whether the type holds a reference or a variable-length type at any level. Refused: BadTable.
+// Whether the type holds a reference or a variable-length type at any level. Refused: BadTable. Cost: as `type_size`.
 pub fn datatype_holds_file_address(table: &[u32], pool: &[u8]) -> Held
     ensures { λ r. ⌜ HeldAs (fileAddressHeld (now (table .entry)) (now (pool .entry))) r ⌝ }
 {
@@ -441,7 +442,7 @@ pub fn datatype_holds_file_address(table: &[u32], pool: &[u8]) -> Held
 }
 
 // Where in the pool the name of the member lies whose row this is; the empty part at the pool's start for a bad table, a row that is no
-// member's and a row past the type.
+// member's and a row past the type. An enumeration's members count as a compound's, which document 01 leaves free. Cost: as `type_size`.
 pub fn name_part(table: &[u32], pool: &[u8], row: usize) -> NamePart
     ensures { λ r. ⌜ PartIs (now (table .entry)) (now (pool .entry)) row r ⌝ }
 {
@@ -472,6 +473,7 @@ pub fn name_part(table: &[u32], pool: &[u8], row: usize) -> NamePart
 }
 
 // The name of the member whose row this is, as the part of the pool that holds it; the empty part at the pool's start where there is none.
+// Which rows and what cost: as `name_part`.
 pub fn member_name<'a>(table: &[u32], pool: &'a [u8], row: usize) -> &'a [u8]
     ensures is { λ r. ⌜ now r ≡ nameOf (now (table .entry)) (now (pool .entry)) row ⌝ }
     ensures begins { λ r. ⌜ ptr r ≡ further (ptr (pool .entry)) (namePlace (now (table .entry)) (now (pool .entry)) row) ⌝ }
