@@ -25,7 +25,7 @@ use Rattle.rows.specs.declared.Member.{Member}
 use Rattle.rows.specs.declared.Member.the-variants.{Named, Unnamed}
 use Rattle.rows.proofs.Decode.{typeAt-entry, membersAt-entry}
 use Rattle.rows.proofs.Leaves.{leaf-law}
-use Rattle.table.specs.Survey.{zeroCode, zeroNote, firstOf, surveyOf, surveyIn, spotOf, enumSpotOf}
+use Rattle.table.specs.Survey.{leafSurvey, zeroCode, zeroNote, firstOf, surveyOf, surveyIn, spotOf, enumSpotOf}
 use Rattle.table.specs.declared.Survey.{Survey}
 use Rattle.table.specs.declared.Surveyed.{Surveyed}
 use Rattle.table.specs.declared.Surveyed.the-variants.{Sound, Unsound}
@@ -197,10 +197,9 @@ module _ (table pool : List ℕ) (row place levels : ℕ) where
     unfolding fromEntry surveyOf
     type-unknown h = rw (type-as h)
 
-    pub type-leaf : {k n l code note : ℕ} {region : Bool} → x ≡ Leaf k n l code → region ≡ (eqb k 7 && eqb code 1) → note ≡ zeroNote (k + 1) n
-        → Sound (record { row = row + 1; place = place + l; size = n; zero = note; outside = false; heap = region; object = eqb k 7; file = eqb k 7 }) ≡ surveyOf (typeAt levels table pool row place)
-    unfolding fromEntry LeafTold
-    type-leaf h g e = rw (type-as h, e, g, add-one, add-one) (sym (leaf-told table pool row place q h .1))
+    pub type-leaf : {k n l code : ℕ} {s : Survey} → x ≡ Leaf k n l code → s ≡ leafSurvey row place k n l code → Sound s ≡ surveyOf (typeAt levels table pool row place)
+    unfolding fromEntry LeafTold leafSurvey
+    type-leaf h e = rw (type-as h, e, add-one, add-one) (sym (leaf-told table pool row place q h .1))
 
     pub type-compound : {n k : ℕ} {z : Surveyed} → x ≡ Compound n k → z ≡ surveyIn n (membersAt (typeAt (levels - 1) table pool) table pool k (row + 1) place)
         → z ≡ surveyOf (typeAt levels table pool row place)

@@ -1,5 +1,5 @@
 -- What the walk over a table answers, as a function of the type that is found there; and the answers of the public calls.
-use Prim.Native.Nat.{ℕ, zero, suc, _*_}
+use Prim.Native.Nat.{ℕ, zero, suc, _+_, _*_}
 use mathlib.Core.Path.{_≡_}
 use mathlib.Core.Bool.{Bool, true, false, cond, _&&_}
 use mathlib.Core.List.{List, [], _∷_}
@@ -43,6 +43,11 @@ unfoldable pub surveyOf : Found Datatype → Surveyed
 surveyOf (found t r p) =
     Sound (record { row = r; place = p; size = typeSize t; zero = zeroCode (firstZero t); outside = outside t; heap = heapHeld t; object = holdsObjectAddress t; file = holdsFileAddress t })
 surveyOf bad = Unsound
+
+-- of a leaf's row
+unfoldable pub leafSurvey : (row place class size length code : ℕ) → Survey
+leafSurvey r p k n l x =
+    record { row = r + 1; place = p + l; size = n; zero = zeroNote (k + 1) n; outside = false; heap = eqb k 7 && eqb x 1; object = eqb k 7; file = eqb k 7 }
 
 -- of the members of a compound of size n, with the compound's own size noted
 unfoldable pub surveyIn : (size : ℕ) → Found Members → Surveyed

@@ -18,7 +18,7 @@ ghost use Rattle.format.specs.Bytes.{dimensionsFrom};
 ghost use Rattle.format.specs.Datatype.{product};
 ghost use Rattle.format.specs.Sizes.{sizing, elementSizing, classMayHoldObjectAddress, objectAddressHeld, fileAddressHeld};
 ghost use Rattle.format.specs.Table.{typeAt, membersAt};
-ghost use Rattle.table.specs.Survey.{surveyOf, surveyIn, enumSpotOf, endsAt, Checks, firstOf, zeroNote, SizedAs, HeldAs};
+ghost use Rattle.table.specs.Survey.{surveyOf, surveyIn, leafSurvey, enumSpotOf, endsAt, Checks, firstOf, zeroNote, SizedAs, HeldAs};
 ghost use Rattle.table.specs.Names.{nameOf, namePlace, further, PartIs};
 ghost use denote.Ref.{ptr};
 
@@ -181,6 +181,24 @@ pub fn skip_enum_members(table: &[u32], pool: &[u8], row: usize, place: usize, c
     })
 }
 
+fn leaf_survey(row: usize, place: usize, class: u32, size: u32, length: u32, code: u32) -> Survey
+    requires { ⌜ (row + 1 < 18446744073709551616) × ((place + length < 18446744073709551616) × (class ≤ 7)) ⌝ }
+    ensures { λ r. ⌜ r ≡ leafSurvey row place class size length code ⌝ }
+{
+    let reference = class == 7;
+    let next = place + length as usize;
+    Survey {
+        row: row + 1,
+        place: next,
+        size: size,
+        zero: zero_note(class + 1, size),
+        outside: false,
+        heap: region(class, code),
+        object: reference,
+        file: reference,
+    }
+}
+
 // The type at a row, its pool bytes at a place, with so many levels left. Costs one pass over its rows.
 pub fn survey_type(table: &[u32], pool: &[u8], row: usize, place: usize, levels: usize) -> Surveyed
     ensures { λ r. ⌜ r ≡ surveyOf (typeAt levels (now (table .entry)) (now (pool .entry)) row place) ⌝ }
@@ -192,17 +210,7 @@ pub fn survey_type(table: &[u32], pool: &[u8], row: usize, place: usize, levels:
     match entry {
         Entry::Unknown => Surveyed::Unsound,
         Entry::Leaf(class, size, length, code) => {
-            let reference = class == 7;
-            Surveyed::Sound(Survey {
-                row: row + 1,
-                place: place + length as usize,
-                size: size,
-                zero: zero_note(class + 1, size),
-                outside: false,
-                heap: region(class, code),
-                object: reference,
-                file: reference,
-            })
+            Surveyed::Sound(leaf_survey(row, place, class, size, length, code))
         }
         Entry::Compound(size, count) => survey_members(
             table,
@@ -280,6 +288,22 @@ pub fn survey_type(table: &[u32], pool: &[u8], row: usize, place: usize, levels:
     }
 }
 
+// The same, of a member: a leaf is surveyed without a call of `survey_type`.
+fn survey_inner(table: &[u32], pool: &[u8], row: usize, place: usize, levels: usize) -> Surveyed
+    ensures { λ r. ⌜ r ≡ surveyOf (typeAt levels (now (table .entry)) (now (pool .entry)) row place) ⌝ }
+{
+    if levels == 0 {
+        return Surveyed::Unsound;
+    }
+    let entry = entry_at(table, pool, row, place);
+    match entry {
+        Entry::Leaf(class, size, length, code) => {
+            Surveyed::Sound(leaf_survey(row, place, class, size, length, code))
+        }
+        _ => survey_type(table, pool, row, place, levels),
+    }
+}
+
 // The members of a compound of a size.
 fn survey_members(
     table: &[u32],
@@ -307,7 +331,7 @@ fn survey_members(
                 return Surveyed::Unsound;
             }
             Member::Named(offset, length) => {
-                let got = survey_type(table, pool, r + 1, p + length as usize, levels);
+                let got = survey_inner(table, pool, r + 1, p + length as usize, levels);
                 match got {
                     Surveyed::Unsound => {
                         return Surveyed::Unsound;
