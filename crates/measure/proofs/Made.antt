@@ -12,7 +12,7 @@ use Rattle.format.specs.Message.{storableVariable}
 use Rattle.format.specs.Table.{allBelow}
 use Rattle.format.proofs.Bytes.{all-bytes, bytes-take, bytes-drop}
 use Rattle.format.proofs.Zeros.{dimensions-below}
-use Rattle.measure.specs.Measure.{mostLength, offsetFits, arrayHead, withMember, compoundMeasure, enumerationMeasure, variableMeasure, arrayMeasure}
+use Rattle.measure.specs.Measure.{mostLength, offsetFits, arrayHead, leafStorable, leafLength, leafMeasure, withMember, compoundMeasure, enumerationMeasure, variableMeasure, arrayMeasure}
 use Rattle.measure.specs.declared.Measure.{Measure}
 
 pub variable-sequence : (i a c : ℕ) {z : Bool} → i ≡ 0 → z ≡ (eqb a 0 && eqb c 0) → z ≡ storableVariable i a c
@@ -28,6 +28,12 @@ pub with-member-made : (s m : Measure) (v : Bool) (o h : ℕ) {w x y z q : Bool}
     → record { row = m .row; place = m .place; size = s .size; storable = z; carried = q; length = k } ≡ withMember s v o h m
 unfolding withMember
 with-member-made s m v o h a b c d e f g = rw (e, d, c, b, a, g .0, f .0)
+
+pub leaf-made : (table : List ℕ) (r p c n l : ℕ) {x : Bool} {y z : ℕ} → (x ≡ leafStorable table r c n l) × ((n < 4294967296) × (getD table (r * 16 + 13) 0 < 4294967296)) → y ≡ leafLength c l
+    → (z ≡ mostLength y) × (z ≤ 4294967296)
+    → record { row = r + 1; place = p + l; size = n; storable = x; carried = true; length = z } ≡ leafMeasure table r p c n l
+unfolding leafMeasure
+leaf-made table r p c n l a b d = rw (a .0, d .0, b)
 
 pub compound-made : (n k : ℕ) (m : Measure) {x y : Bool} {l : ℕ} → x ≡ (ltb k 65536 && m .storable) → y ≡ (ltb 0 n && x) → (l ≡ mostLength (8 + m .length)) × (l ≤ 4294967296)
     → record { row = m .row; place = m .place; size = n; storable = y; carried = m .carried; length = l } ≡ compoundMeasure n k m

@@ -23,7 +23,7 @@ use Rattle.rows.specs.declared.Entry.the-variants.{Leaf, Compound, Enumeration,
 use Rattle.rows.specs.declared.Member.{Member}
 use Rattle.rows.specs.declared.Member.the-variants.{Named, Unnamed}
 use Rattle.rows.proofs.Decode.{typeAt-entry, membersAt-entry, enumNamesAt-entry}
-use Rattle.measure.specs.Measure.{mostLength, measureOf, measureIn, measureEnum, enumMeasureOf, leafStorable, leafLength, offsetFits, memberHead, arrayHead, withMember, compoundMeasure, enumerationMeasure, variableMeasure, arrayMeasure}
+use Rattle.measure.specs.Measure.{mostLength, measureOf, measureIn, measureEnum, enumMeasureOf, leafStorable, leafLength, offsetFits, memberHead, arrayHead, leafMeasure, withMember, compoundMeasure, enumerationMeasure, variableMeasure, arrayMeasure}
 use Rattle.measure.specs.declared.Measure.{Measure}
 use Rattle.measure.specs.declared.Measured.{Measured}
 use Rattle.measure.specs.declared.Measured.the-variants.{At, Lost}
@@ -198,11 +198,10 @@ module _ (e : ℕ) (table pool : List ℕ) (row place levels : ℕ) where
     unfolding fromEntry measureOf
     type-unknown h = rw (type-as h)
 
-    pub type-leaf : {k n l code long most : ℕ} {fits : Bool} → x ≡ Leaf k n l code
-        → (fits ≡ leafStorable table row k n l) × ((n < 4294967296) × (getD table (row * 16 + 13) 0 < 4294967296)) → long ≡ leafLength k l → (most ≡ mostLength long) × (most ≤ 4294967296)
-        → At (record { row = row + 1; place = place + l; size = n; storable = fits; carried = true; length = most }) ≡ measureOf e (typeAt levels table pool row place)
-    unfolding fromEntry
-    type-leaf h f g i = rw (type-as h, i .0, g, f .0, add-one row) (sym (leaf-is e table pool row place q h (f .1 .0) (f .1 .1)))
+    pub type-leaf : {k n l code : ℕ} {m : Measure} → x ≡ Leaf k n l code → (m ≡ leafMeasure table row place k n l) × ((n < 4294967296) × (getD table (row * 16 + 13) 0 < 4294967296))
+        → At m ≡ measureOf e (typeAt levels table pool row place)
+    unfolding fromEntry leafMeasure
+    type-leaf h f = rw (type-as h, f .0, add-one row) (sym (leaf-is e table pool row place q h (f .1 .0) (f .1 .1)))
 
     module _ {n k : ℕ} {z : Measured} (h : x ≡ Compound n k) (f : z ≡ measureIn e n (membersAt (typeAt (levels - 1) table pool) table pool k (row + 1) place)) where
       members-there : z ≡ measureIn e n (membersAt (typeAt (levels - 1) table pool) table pool k (suc row) place)

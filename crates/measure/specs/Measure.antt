@@ -83,6 +83,9 @@ withMember s v o h m =
       length = mostLength (s .length + mostLength (h + m .length));
     }
 
+unfoldable pub leafMeasure : (table : List ℕ) (row place class size length : ℕ) → Measure
+leafMeasure table r p c n l = record { row = r + 1; place = p + l; size = n; storable = leafStorable table r c n l; carried = true; length = mostLength (leafLength c l) }
+
 unfoldable pub compoundMeasure : (size count : ℕ) → Measure → Measure
 compoundMeasure n k m =
     record {

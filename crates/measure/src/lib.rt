@@ -18,7 +18,7 @@ ghost use lib.ListN.{length, take, drop, getD};
 ghost use Rattle.format.specs.Bytes.{dimensionsFrom};
 ghost use Rattle.format.specs.Message.{storableVariable};
 ghost use Rattle.format.specs.Table.{allBelow, typeAt, membersAt};
-ghost use Rattle.measure.specs.Measure.{measureOf, measureIn, enumMeasureOf, partsFit, leafStorable, leafLength, mostLength, offsetFits, nameLengthOf, arrayHead, memberHead, withMember, compoundMeasure, enumerationMeasure, variableMeasure, arrayMeasure};
+ghost use Rattle.measure.specs.Measure.{measureOf, measureIn, enumMeasureOf, partsFit, leafStorable, leafLength, mostLength, offsetFits, nameLengthOf, arrayHead, memberHead, leafMeasure, withMember, compoundMeasure, enumerationMeasure, variableMeasure, arrayMeasure};
 
 // The next row and pool place, the size, whether the type can be stored and the edition carries it, and the message's length, which stops at
 // 4,294,967,296.
@@ -185,6 +185,29 @@ fn with_member(sum: Measure, valid: bool, offset: u32, head: u64, member: Measur
     }
 }
 
+fn leaf_measure(
+    table: &[u32],
+    row: usize,
+    place: usize,
+    class: u32,
+    size: u32,
+    long: u32,
+) -> Measure
+    requires { ⌜ (row * 16 + 16 ≤ length (now table)) × (place + long < 18446744073709551616) ⌝ }
+    ensures is { λ r. ⌜ r ≡ leafMeasure (now (table .entry)) row place class size long ⌝ }
+    ensures words { λ r. ⌜ (size < 4294967296) × (getD (now (table .entry)) (row * 16 + 13) 0 < 4294967296) ⌝ }
+{
+    let next = place + long as usize;
+    Measure {
+        row: row + 1,
+        place: next,
+        size: size,
+        storable: leaf_storable(table, row, class, size, long),
+        carried: true,
+        length: most(leaf_length(class, long)),
+    }
+}
+
 fn compound_measure(size: u32, count: u32, members: Measure) -> Measure
     ensures { λ r. ⌜ (r ≡ compoundMeasure size count members) × (size < 4294967296) ⌝ }
 {
@@ -326,14 +349,9 @@ pub fn measure_type(
     let entry = entry_at(table, pool, row, place);
     match entry {
         Entry::Unknown => Measured::Lost,
-        Entry::Leaf(class, size, long, _) => Measured::At(Measure {
-            row: row + 1,
-            place: place + long as usize,
-            size: size,
-            storable: leaf_storable(table, row, class, size, long),
-            carried: true,
-            length: most(leaf_length(class, long)),
-        }),
+        Entry::Leaf(class, size, long, _) => {
+            Measured::At(leaf_measure(table, row, place, class, size, long))
+        }
         Entry::Compound(size, count) => {
             let got = measure_members(
                 table,
@@ -401,6 +419,29 @@ pub fn measure_type(
     }
 }
 
+// The same, of a member: a leaf is measured without a call of `measure_type`.
+fn measure_inner(
+    table: &[u32],
+    pool: &[u8],
+    row: usize,
+    place: usize,
+    levels: usize,
+    edition: u8,
+) -> Measured
+    ensures { λ r. ⌜ r ≡ measureOf edition (typeAt levels (now (table .entry)) (now (pool .entry)) row place) ⌝ }
+{
+    if levels == 0 {
+        return Measured::Lost;
+    }
+    let entry = entry_at(table, pool, row, place);
+    match entry {
+        Entry::Leaf(class, size, long, _) => {
+            Measured::At(leaf_measure(table, row, place, class, size, long))
+        }
+        _ => measure_type(table, pool, row, place, levels, edition),
+    }
+}
+
 // The members of a compound of a size.
 fn measure_members(
     table: &[u32],
@@ -433,7 +474,7 @@ fn measure_members(
             }
             Member::Named(offset, name) => {
                 let end = p + name as usize;
-                let got = measure_type(table, pool, r + 1, end, levels, edition);
+                let got = measure_inner(table, pool, r + 1, end, levels, edition);
                 match got {
                     Measured::Lost => {
                         return Measured::Lost;

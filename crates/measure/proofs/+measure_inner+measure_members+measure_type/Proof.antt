@@ -9,35 +9,52 @@ use Rattle.measure.proofs.Measures.{gathered, type-none, type-unknown, 
 use Prim.Native.Nat.{ℕ, _<_}
 use borrow.Fn.Kinds.{In}
 use borrow.Fn.PlainCycle.{Measures, is, falls, and}
+use Rattle.measure.proofs.measure_inner.Reads as measure-inner
+use Rattle.measure.proofs.measure_inner.Kinds as measure-inner-kinds
+use Rattle.measure.proofs.+measure_inner+measure_members+measure_type.Lts-measure_inner as measure-inner-lts
 use Rattle.measure.proofs.measure_members.Reads as measure-members
 use Rattle.measure.proofs.measure_members.Kinds as measure-members-kinds
-use Rattle.measure.proofs.+measure_members+measure_type.Lts-measure_members as measure-members-lts
+use Rattle.measure.proofs.+measure_inner+measure_members+measure_type.Lts-measure_members as measure-members-lts
 use Rattle.measure.proofs.measure_type.Reads as measure-type
 use Rattle.measure.proofs.measure_type.Kinds as measure-type-kinds
-use Rattle.measure.proofs.+measure_members+measure_type.Lts-measure_type as measure-type-lts
+use Rattle.measure.proofs.+measure_inner+measure_members+measure_type.Lts-measure_type as measure-type-lts
 use Rattle.measure.proofs.array_measure.Reads as array-measure-reads
 use Rattle.measure.proofs.compound_measure.Reads as compound-measure-reads
 use Rattle.measure.proofs.enumeration_measure.Reads as enumeration-measure-reads
-use Rattle.measure.proofs.leaf_length.Reads as leaf-length-reads
-use Rattle.measure.proofs.leaf_storable.Reads as leaf-storable-reads
+use Rattle.measure.proofs.leaf_measure.Reads as leaf-measure-reads
 use Rattle.measure.proofs.measure_enum_members.Reads as measure-enum-members-reads
 use Rattle.measure.proofs.member_head.Reads as member-head-reads
-use Rattle.measure.proofs.most.Reads as most-reads
 use Rattle.measure.proofs.variable_measure.Reads as variable-measure-reads
 use Rattle.measure.proofs.with_member.Reads as with-member-reads
 use Rattle.names.proofs.valid_name.Reads as valid-name-reads
 use Rattle.rows.proofs.entry_at.Reads as entry-at-reads
 use Rattle.rows.proofs.member_at.Reads as member-at-reads
-use Rattle.measure.proofs.+measure_members+measure_type.{statement}
-use Rattle.measure.proofs.+measure_members+measure_type.Tie.{close}
+use Rattle.measure.proofs.+measure_inner+measure_members+measure_type.{statement}
+use Rattle.measure.proofs.+measure_inner+measure_members+measure_type.Tie.{close}
+
+abbrev μ-measure-inner : Measures 2 measure-inner-kinds.ps ℕ
+μ-measure-inner κs a =
+    a .1 .1 .1 .1 .0 * 3 + 1
 
 abbrev μ-measure-members : Measures 2 measure-members-kinds.ps ℕ
 μ-measure-members κs a =
-    a .1 .1 .1 .1 .1 .1 .0 * 2 + 1
+    a .1 .1 .1 .1 .1 .1 .0 * 3 + 2
 
 abbrev μ-measure-type : Measures 2 measure-type-kinds.ps ℕ
 μ-measure-type κs a =
-    a .1 .1 .1 .1 .0 * 2
+    a .1 .1 .1 .1 .0 * 3
+
+abbrev measure-inner-at : ℕ → In 2 measure-inner-kinds.ps
+measure-inner-at t =
+    and 2 measure-inner-kinds.ps (is 2 measure-inner-kinds.ps μ-measure-inner t) measure-inner.Pre
+
+abbrev measure-inner-below : ℕ → In 2 measure-inner-kinds.ps
+measure-inner-below t =
+    and
+    2
+    measure-inner-kinds.ps
+    (falls 2 measure-inner-kinds.ps _<_ μ-measure-inner t)
+    measure-inner.Pre
 
 abbrev measure-members-at : ℕ → In 2 measure-members-kinds.ps
 measure-members-at t =
@@ -67,6 +84,36 @@ measure-type-below t =
     (falls 2 measure-type-kinds.ps _<_ μ-measure-type t)
     measure-type.Pre
 
+abbrev measure-inner-calls : ℕ → measure-inner-lts.Claims
+measure-inner-calls t = (entry-at-reads.Asked, entry-at-reads.Learnt, leaf-measure-reads.Asked, leaf-measure-reads.Learnt, measure-type-below t, measure-type.Post)
+
+abbrev measure-members-calls : ℕ → measure-members-lts.Claims
+measure-members-calls t = (member-at-reads.Asked, member-at-reads.Learnt, measure-inner-below t, measure-inner.Post, valid-name-reads.Asked, valid-name-reads.Learnt, member-head-reads.Asked, member-head-reads.Learnt, with-member-reads.Asked, with-member-reads.Learnt)
+
+abbrev measure-type-calls : ℕ → measure-type-lts.Claims
+measure-type-calls t = (entry-at-reads.Asked, entry-at-reads.Learnt, leaf-measure-reads.Asked, leaf-measure-reads.Learnt, measure-members-below t, measure-members.Post, compound-measure-reads.Asked, compound-measure-reads.Learnt, measure-type-below t, measure-type.Post, measure-enum-members-reads.Asked, measure-enum-members-reads.Learnt, enumeration-measure-reads.Asked, enumeration-measure-reads.Learnt, variable-measure-reads.Asked, variable-measure-reads.Learnt, array-measure-reads.Asked, array-measure-reads.Learnt)
+
+measure-inner-returns : (t : ℕ) → measure-inner-lts.Need-returns (measure-inner-calls t) (measure-inner-at t) measure-inner.Post
+measure-inner-returns t c = search type-none
+
+measure-inner-entry-at-requires : (t : ℕ) → measure-inner-lts.Need-entry-at-requires (measure-inner-calls t) (measure-inner-at t) measure-inner.Post
+measure-inner-entry-at-requires t c κs = search needs
+
+measure-inner-enum-known-entry : (t : ℕ) → measure-inner-lts.Need-enum-known-entry (measure-inner-calls t) (measure-inner-at t) measure-inner.Post
+measure-inner-enum-known-entry t c = search needs
+
+measure-inner-leaf-measure-requires : (t : ℕ) → measure-inner-lts.Need-leaf-measure-requires (measure-inner-calls t) (measure-inner-at t) measure-inner.Post
+measure-inner-leaf-measure-requires t c κs = let i = leaf-inside _ _ _ _ ((c .before .before .before .entry-at) .ensures .1) ((c .before .entry) .given .1) in (i .0, omega arith)
+
+measure-inner-measure-type-requires : (t : ℕ) → measure-inner-lts.Need-measure-type-requires (measure-inner-calls t) (measure-inner-at t) measure-inner.Post
+measure-inner-measure-type-requires t c κs = search needs
+
+measure-inner-returns-2 : (t : ℕ) → measure-inner-lts.Need-returns-2 (measure-inner-calls t) (measure-inner-at t) measure-inner.Post
+measure-inner-returns-2 t c = search type-leaf
+
+measure-inner-returns-3 : (t : ℕ) → measure-inner-lts.Need-returns-3 (measure-inner-calls t) (measure-inner-at t) measure-inner.Post
+measure-inner-returns-3 t c = search needs
+
 abbrev measure-members-Inv-loop : measure-members-lts.InvT-loop
 measure-members-Inv-loop table pool row place count size levels edition left₀ sum₀ left sum =
     (sum .size ≡ size) × ((sum .length ≤ 4294967296) × (measureIn edition size (membersAt (typeAt levels table pool) table pool count row place) ≡ gathered edition sum (membersAt (typeAt levels table pool) table pool left (sum .row) (sum .place))))
@@ -74,12 +121,6 @@ measure-members-Inv-loop table pool row place count size levels edition left₀ 
 abbrev measure-members-μ-loop : measure-members-lts.MeasureT-loop
 measure-members-μ-loop table pool row place count size levels edition left₀ sum₀ left sum =
     left
-
-abbrev measure-members-calls : ℕ → measure-members-lts.Claims
-measure-members-calls t = (member-at-reads.Asked, member-at-reads.Learnt, measure-type-below t, measure-type.Post, valid-name-reads.Asked, valid-name-reads.Learnt, member-head-reads.Asked, member-head-reads.Learnt, with-member-reads.Asked, with-member-reads.Learnt)
-
-abbrev measure-type-calls : ℕ → measure-type-lts.Claims
-measure-type-calls t = (entry-at-reads.Asked, entry-at-reads.Learnt, leaf-storable-reads.Asked, leaf-storable-reads.Learnt, leaf-length-reads.Asked, leaf-length-reads.Learnt, most-reads.Asked, most-reads.Learnt, measure-members-below t, measure-members.Post, compound-measure-reads.Asked, compound-measure-reads.Learnt, measure-type-below t, measure-type.Post, measure-enum-members-reads.Asked, measure-enum-members-reads.Learnt, enumeration-measure-reads.Asked, enumeration-measure-reads.Learnt, variable-measure-reads.Asked, variable-measure-reads.Learnt, array-measure-reads.Asked, array-measure-reads.Learnt)
 
 measure-members-loop-holds : (t : ℕ) → measure-members-lts.Need-loop-holds (measure-members-calls t) (measure-members-at t) measure-members.Post measure-members-Inv-loop measure-members-μ-loop
 measure-members-loop-holds t c = (refl, (omega arith, members-start _ _ _ _ _))
@@ -102,11 +143,11 @@ measure-members-cast-end t c = search needs
 measure-members-add-end : (t : ℕ) → measure-members-lts.Need-add-end (measure-members-calls t) (measure-members-at t) measure-members.Post measure-members-Inv-loop measure-members-μ-loop
 measure-members-add-end t c = let i = named-inside _ _ _ _ ((c .before .member) .given .1) ((c .before .before .before .member-at) .ensures .1) in omega arith
 
-measure-members-add-measure-type : (t : ℕ) → measure-members-lts.Need-add-measure-type (measure-members-calls t) (measure-members-at t) measure-members.Post measure-members-Inv-loop measure-members-μ-loop
-measure-members-add-measure-type t c = let i = named-inside _ _ _ _ ((c .before .member) .given .1) ((c .before .before .before .member-at) .ensures .1) in omega arith
+measure-members-add-measure-inner : (t : ℕ) → measure-members-lts.Need-add-measure-inner (measure-members-calls t) (measure-members-at t) measure-members.Post measure-members-Inv-loop measure-members-μ-loop
+measure-members-add-measure-inner t c = let i = named-inside _ _ _ _ ((c .before .member) .given .1) ((c .before .before .before .member-at) .ensures .1) in omega arith
 
-measure-members-measure-type-requires : (t : ℕ) → measure-members-lts.Need-measure-type-requires (measure-members-calls t) (measure-members-at t) measure-members.Post measure-members-Inv-loop measure-members-μ-loop
-measure-members-measure-type-requires t c κs = search needs
+measure-members-measure-inner-requires : (t : ℕ) → measure-members-lts.Need-measure-inner-requires (measure-members-calls t) (measure-members-at t) measure-members.Post measure-members-Inv-loop measure-members-μ-loop
+measure-members-measure-inner-requires t c κs = search needs
 
 measure-members-enum-told-2 : (t : ℕ) → measure-members-lts.Need-enum-told-2 (measure-members-calls t) (measure-members-at t) measure-members.Post measure-members-Inv-loop measure-members-μ-loop
 measure-members-enum-told-2 t c = search needs
@@ -133,7 +174,7 @@ measure-members-loop-less : (t : ℕ) → measure-members-lts.Need-loop-less (me
 measure-members-loop-less t c = search needs
 
 measure-members-loop-again : (t : ℕ) → measure-members-lts.Need-loop-again (measure-members-calls t) (measure-members-at t) measure-members.Post measure-members-Inv-loop measure-members-μ-loop
-measure-members-loop-again t c = let i = named-inside _ _ _ _ ((c .before .before .before .before .before .before .before .before .member) .given .1) ((c .before .before .before .before .before .before .before .before .before .before .member-at) .ensures .1) in (member-size _ _ _ _ _ ((c .with-member) .ensures) ((c .before .before .before .before .before .before .before .before .before .before .before .before .loop) .inv .0), (member-short _ _ _ _ _ ((c .with-member) .ensures), members-next _ _ _ _ _ _ ((c .before .before .before .before .before .before .before .before .before .before .before .before .loop) .inv .1 .1) (omega arith) ((c .before .before .before .before .before .before .before .before .before .before .member-at) .ensures .0) ((c .before .before .before .before .before .before .before .before .member) .given .1) ((c .before .before .before .before .before .before .measure-type) .ensures) (i .1) ((c .before .before .before .before .before .before .before .before .before .before .before .before .loop) .inv .0) ((c .before .before .before .before .got) .given .1) ((c .before .before .valid-name) .ensures) ((c .before .member-head) .ensures) ((c .with-member) .ensures)))
+measure-members-loop-again t c = let i = named-inside _ _ _ _ ((c .before .before .before .before .before .before .before .before .member) .given .1) ((c .before .before .before .before .before .before .before .before .before .before .member-at) .ensures .1) in (member-size _ _ _ _ _ ((c .with-member) .ensures) ((c .before .before .before .before .before .before .before .before .before .before .before .before .loop) .inv .0), (member-short _ _ _ _ _ ((c .with-member) .ensures), members-next _ _ _ _ _ _ ((c .before .before .before .before .before .before .before .before .before .before .before .before .loop) .inv .1 .1) (omega arith) ((c .before .before .before .before .before .before .before .before .before .before .member-at) .ensures .0) ((c .before .before .before .before .before .before .before .before .member) .given .1) ((c .before .before .before .before .before .before .measure-inner) .ensures) (i .1) ((c .before .before .before .before .before .before .before .before .before .before .before .before .loop) .inv .0) ((c .before .before .before .before .got) .given .1) ((c .before .before .valid-name) .ensures) ((c .before .member-head) .ensures) ((c .with-member) .ensures)))
 
 measure-members-returns-3 : (t : ℕ) → measure-members-lts.Need-returns-3 (measure-members-calls t) (measure-members-at t) measure-members.Post measure-members-Inv-loop measure-members-μ-loop
 measure-members-returns-3 t c = search members-end
@@ -150,23 +191,8 @@ measure-type-enum-told t c = search needs
 measure-type-enum-known-entry : (t : ℕ) → measure-type-lts.Need-enum-known-entry (measure-type-calls t) (measure-type-at t) measure-type.Post
 measure-type-enum-known-entry t c = search needs
 
-measure-type-add-t31 : (t : ℕ) → measure-type-lts.Need-add-t31 (measure-type-calls t) (measure-type-at t) measure-type.Post
-measure-type-add-t31 t c = let i = leaf-inside _ _ _ _ ((c .before .before .before .entry-at) .ensures .1) ((c .before .entry) .given .1) in omega arith
-
-measure-type-cast-t32 : (t : ℕ) → measure-type-lts.Need-cast-t32 (measure-type-calls t) (measure-type-at t) measure-type.Post
-measure-type-cast-t32 t c = search needs
-
-measure-type-add-t33 : (t : ℕ) → measure-type-lts.Need-add-t33 (measure-type-calls t) (measure-type-at t) measure-type.Post
-measure-type-add-t33 t c = let i = leaf-inside _ _ _ _ ((c .before .before .before .entry-at) .ensures .1) ((c .before .entry) .given .1) in omega arith
-
-measure-type-leaf-storable-requires : (t : ℕ) → measure-type-lts.Need-leaf-storable-requires (measure-type-calls t) (measure-type-at t) measure-type.Post
-measure-type-leaf-storable-requires t c κs = let i = leaf-inside _ _ _ _ ((c .before .before .before .entry-at) .ensures .1) ((c .before .entry) .given .1) in i .0
-
-measure-type-leaf-length-requires : (t : ℕ) → measure-type-lts.Need-leaf-length-requires (measure-type-calls t) (measure-type-at t) measure-type.Post
-measure-type-leaf-length-requires t c κs = search needs
-
-measure-type-most-requires : (t : ℕ) → measure-type-lts.Need-most-requires (measure-type-calls t) (measure-type-at t) measure-type.Post
-measure-type-most-requires t c κs = search needs
+measure-type-leaf-measure-requires : (t : ℕ) → measure-type-lts.Need-leaf-measure-requires (measure-type-calls t) (measure-type-at t) measure-type.Post
+measure-type-leaf-measure-requires t c κs = let i = leaf-inside _ _ _ _ ((c .before .before .before .entry-at) .ensures .1) ((c .before .entry) .given .1) in (i .0, omega arith)
 
 measure-type-enum-known-entry-2 : (t : ℕ) → measure-type-lts.Need-enum-known-entry-2 (measure-type-calls t) (measure-type-at t) measure-type.Post
 measure-type-enum-known-entry-2 t c = search needs
@@ -207,7 +233,27 @@ measure-type-enum-told-3 t c = search needs
 measure-type-enum-known-got-2 : (t : ℕ) → measure-type-lts.Need-enum-known-got-2 (measure-type-calls t) (measure-type-at t) measure-type.Post
 measure-type-enum-known-got-2 t c = search needs
 
-measure-type-measure-enum-members-requires : (t : ℕ) → measure-type-lts.Need-measure-enum-members-requires (measure-type-calls t) (measure-type-at t) measure-type.Post
+measure-type-measure-enum-members-requires :
+    (t : ℕ) → measure-type-lts.Need-measure-enum-members-requires (
+      entry-at-reads.Asked,
+      entry-at-reads.Learnt,
+      leaf-measure-reads.Asked,
+      leaf-measure-reads.Learnt,
+      measure-members-below t,
+      measure-members.Post,
+      compound-measure-reads.Asked,
+      compound-measure-reads.Learnt,
+      measure-type-below t,
+      measure-type.Post,
+      measure-enum-members-reads.Asked,
+      measure-enum-members-reads.Learnt,
+      enumeration-measure-reads.Asked,
+      enumeration-measure-reads.Learnt,
+      variable-measure-reads.Asked,
+      variable-measure-reads.Learnt,
+      array-measure-reads.Asked,
+      array-measure-reads.Learnt,
+    ) (measure-type-at t) measure-type.Post
 measure-type-measure-enum-members-requires t c κs = search needs
 
 measure-type-enum-told-4 : (t : ℕ) → measure-type-lts.Need-enum-told-4 (measure-type-calls t) (measure-type-at t) measure-type.Post
@@ -216,7 +262,27 @@ measure-type-enum-told-4 t c = search needs
 measure-type-enum-known-listed : (t : ℕ) → measure-type-lts.Need-enum-known-listed (measure-type-calls t) (measure-type-at t) measure-type.Post
 measure-type-enum-known-listed t c = search needs
 
-measure-type-enumeration-measure-requires : (t : ℕ) → measure-type-lts.Need-enumeration-measure-requires (measure-type-calls t) (measure-type-at t) measure-type.Post
+measure-type-enumeration-measure-requires :
+    (t : ℕ) → measure-type-lts.Need-enumeration-measure-requires (
+      entry-at-reads.Asked,
+      entry-at-reads.Learnt,
+      leaf-measure-reads.Asked,
+      leaf-measure-reads.Learnt,
+      measure-members-below t,
+      measure-members.Post,
+      compound-measure-reads.Asked,
+      compound-measure-reads.Learnt,
+      measure-type-below t,
+      measure-type.Post,
+      measure-enum-members-reads.Asked,
+      measure-enum-members-reads.Learnt,
+      enumeration-measure-reads.Asked,
+      enumeration-measure-reads.Learnt,
+      variable-measure-reads.Asked,
+      variable-measure-reads.Learnt,
+      array-measure-reads.Asked,
+      array-measure-reads.Learnt,
+    ) (measure-type-at t) measure-type.Post
 measure-type-enumeration-measure-requires t c κs = search needs
 
 measure-type-enum-known-entry-4 : (t : ℕ) → measure-type-lts.Need-enum-known-entry-4 (measure-type-calls t) (measure-type-at t) measure-type.Post
@@ -303,9 +369,19 @@ measure-type-returns-11 t c = search type-array-lost
 measure-type-returns-12 : (t : ℕ) → measure-type-lts.Need-returns-12 (measure-type-calls t) (measure-type-at t) measure-type.Post
 measure-type-returns-12 t c = search type-array
 
-pub +measure-members+measure-type-spec : {M : Type 1} → statement M
-+measure-members+measure-type-spec =
-    close μ-measure-members μ-measure-type (λ t. measure-members-lts.spec (measure-members-calls t)
+pub +measure-inner+measure-members+measure-type-spec : {M : Type 1} → statement M
++measure-inner+measure-members+measure-type-spec =
+    close μ-measure-inner μ-measure-members μ-measure-type (λ t. measure-inner-lts.spec (measure-inner-calls t)
+    (measure-inner-at t)
+    measure-inner.Post
+    (measure-inner-returns t)
+    (measure-inner-entry-at-requires t)
+    (measure-inner-enum-known-entry t)
+    (measure-inner-leaf-measure-requires t)
+    (measure-inner-measure-type-requires t)
+    (measure-inner-returns-2 t)
+    (measure-inner-returns-3 t))
+    (λ t. measure-members-lts.spec (measure-members-calls t)
     (measure-members-at t)
     measure-members.Post
     measure-members-Inv-loop
@@ -317,8 +393,8 @@ pub +measure-members+measure-type-spec : {M : Type 1} → statement M
     (measure-members-enum-known-member t)
     (measure-members-cast-end t)
     (measure-members-add-end t)
-    (measure-members-add-measure-type t)
-    (measure-members-measure-type-requires t)
+    (measure-members-add-measure-inner t)
+    (measure-members-measure-inner-requires t)
     (measure-members-enum-told-2 t)
     (measure-members-returns-2 t)
     (measure-members-enum-known-got t)
@@ -336,12 +412,7 @@ pub +measure-members+measure-type-spec : {M : Type 1} → statement M
     (measure-type-entry-at-requires t)
     (measure-type-enum-told t)
     (measure-type-enum-known-entry t)
-    (measure-type-add-t31 t)
-    (measure-type-cast-t32 t)
-    (measure-type-add-t33 t)
-    (measure-type-leaf-storable-requires t)
-    (measure-type-leaf-length-requires t)
-    (measure-type-most-requires t)
+    (measure-type-leaf-measure-requires t)
     (measure-type-enum-known-entry-2 t)
     (measure-type-add-measure-members t)
     (measure-type-sub-measure-members t)
