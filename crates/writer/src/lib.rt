@@ -77,7 +77,7 @@ fn put_members(
                     }
                     Placed::Behind(behind) => {
                         let from = p + name as usize;
-                        let put = put_type(table, pool, r + 1, from, levels, edition, out, behind);
+                        let put = put_inner(table, pool, r + 1, from, levels, edition, out, behind);
                         match put {
                             Put::Lost => {
                                 return Put::Lost;
@@ -99,6 +99,41 @@ fn put_members(
         place: p,
         at: a,
     })
+}
+
+// As `put_type`, of a member: a leaf is put without a call of it.
+fn put_inner(
+    table: &[u32],
+    pool: &[u8],
+    row: usize,
+    place: usize,
+    levels: usize,
+    edition: u8,
+    out: &mut [u8],
+    at: usize,
+) -> Put
+    requires { ⌜ edition ≤ 3 ⌝ }
+    ensures { λ r. ⌜ PutsType edition at (typeAt levels (now (table .entry)) (now (pool .entry)) row place) r (now (out .entry)) (now (out .exit)) ⌝ }
+{
+    if levels == 0 {
+        return Put::Lost;
+    }
+    let entry = known_entry_at(table, pool, row, place);
+    match entry {
+        Entry::Leaf(class, size, length, code) => put_leaf(
+            table,
+            pool,
+            row,
+            place,
+            class,
+            size,
+            length,
+            code,
+            out,
+            at,
+        ),
+        _ => put_type(table, pool, row, place, levels, edition, out, at),
+    }
 }
 
 // The type at a row, its pool bytes at a place, with so many levels left, into `out` at a place. Lost where there is none, it does not fit

@@ -6,15 +6,18 @@ use Rattle.format.specs.Table.{typeAt}
 use Rattle.rows.proofs.Decode.{named-inside, leaf-inside, compound-inside, enumeration-inside, variableLength-inside, array-inside}
 use Rattle.writer.proofs.Compounds.{MembersLeft, members-begun, members-ended, members-unnamed, members-full, members-lost, members-next}
 use Rattle.writer.proofs.Types.{type-shallow, type-unknown, type-leaf, type-compound-full, type-compound, type-enumeration-full, type-enumeration-lost, type-enumeration, type-variable-full, type-variable, type-array-full, type-array}
-use Prim.Native.Nat.{ℕ, _<_}
 use borrow.Fn.Kinds.{In}
 use borrow.Fn.PlainCycle.{Measures, is, falls, and}
+use Prim.Native.Nat.{ℕ, _<_}
+use Rattle.writer.proofs.put_inner.Reads as put-inner
+use Rattle.writer.proofs.put_inner.Kinds as put-inner-kinds
+use Rattle.writer.proofs.+put_inner+put_members+put_type.Lts-put_inner as put-inner-lts
 use Rattle.writer.proofs.put_members.Reads as put-members
 use Rattle.writer.proofs.put_members.Kinds as put-members-kinds
-use Rattle.writer.proofs.+put_members+put_type.Lts-put_members as put-members-lts
+use Rattle.writer.proofs.+put_inner+put_members+put_type.Lts-put_members as put-members-lts
 use Rattle.writer.proofs.put_type.Reads as put-type
 use Rattle.writer.proofs.put_type.Kinds as put-type-kinds
-use Rattle.writer.proofs.+put_members+put_type.Lts-put_type as put-type-lts
+use Rattle.writer.proofs.+put_inner+put_members+put_type.Lts-put_type as put-type-lts
 use Rattle.rows.proofs.known_entry_at.Reads as known-entry-at-reads
 use Rattle.rows.proofs.known_member_at.Reads as known-member-at-reads
 use Rattle.writer.proofs.size_at.Reads as size-at-reads
@@ -24,14 +27,24 @@ use Rattle.writer_parts.proofs.put_group_header.Reads as put-group-header-reads
 use Rattle.writer_parts.proofs.put_leaf.Reads as put-leaf-reads
 use Rattle.writer_parts.proofs.put_member_head.Reads as put-member-head-reads
 use Rattle.writer_parts.proofs.put_variable_header.Reads as put-variable-header-reads
-use Rattle.writer.proofs.+put_members+put_type.{statement}
-use Rattle.writer.proofs.+put_members+put_type.Tie.{close}
+use Rattle.writer.proofs.+put_inner+put_members+put_type.{statement}
+use Rattle.writer.proofs.+put_inner+put_members+put_type.Tie.{close}
+
+abbrev μ-put-inner : Measures 3 put-inner-kinds.ps ℕ
+μ-put-inner κs a = a .1 .1 .1 .1 .0 * 3 + 1
 
 abbrev μ-put-members : Measures 3 put-members-kinds.ps ℕ
-μ-put-members κs a = a .1 .1 .1 .1 .1 .1 .0 * 2 + 1
+μ-put-members κs a = a .1 .1 .1 .1 .1 .1 .0 * 3 + 2
 
 abbrev μ-put-type : Measures 3 put-type-kinds.ps ℕ
-μ-put-type κs a = a .1 .1 .1 .1 .0 * 2
+μ-put-type κs a = a .1 .1 .1 .1 .0 * 3
+
+abbrev put-inner-at : ℕ → In 3 put-inner-kinds.ps
+put-inner-at t = and 3 put-inner-kinds.ps (is 3 put-inner-kinds.ps μ-put-inner t) put-inner.Pre
+
+abbrev put-inner-below : ℕ → In 3 put-inner-kinds.ps
+put-inner-below t =
+    and 3 put-inner-kinds.ps (falls 3 put-inner-kinds.ps _<_ μ-put-inner t) put-inner.Pre
 
 abbrev put-members-at : ℕ → In 3 put-members-kinds.ps
 put-members-at t =
@@ -48,6 +61,42 @@ abbrev put-type-below : ℕ → In 3 put-type-kinds.ps
 put-type-below t =
     and 3 put-type-kinds.ps (falls 3 put-type-kinds.ps _<_ μ-put-type t) put-type.Pre
 
+abbrev put-inner-calls : ℕ → put-inner-lts.Claims
+put-inner-calls t = (known-entry-at-reads.Asked, known-entry-at-reads.Learnt, put-leaf-reads.Asked, put-leaf-reads.Learnt, put-type-below t, put-type.Post)
+
+abbrev put-members-calls : ℕ → put-members-lts.Claims
+put-members-calls t = (known-member-at-reads.Asked, known-member-at-reads.Learnt, put-member-head-reads.Asked, put-member-head-reads.Learnt, put-inner-below t, put-inner.Post)
+
+abbrev put-type-calls : ℕ → put-type-lts.Claims
+put-type-calls t = (known-entry-at-reads.Asked, known-entry-at-reads.Learnt, put-leaf-reads.Asked, put-leaf-reads.Learnt, put-group-header-reads.Asked, put-group-header-reads.Learnt, put-members-below t, put-members.Post, put-type-below t, put-type.Post, put-enum-members-reads.Asked, put-enum-members-reads.Learnt, put-variable-header-reads.Asked, put-variable-header-reads.Learnt, size-at-reads.Asked, size-at-reads.Learnt, put-array-head-reads.Asked, put-array-head-reads.Learnt)
+
+put-inner-returns : (t : ℕ) → put-inner-lts.Need-returns (put-inner-calls t) (put-inner-at t) put-inner.Post
+put-inner-returns t c = search type-shallow
+
+put-inner-known-entry-at-requires : (t : ℕ) → put-inner-lts.Need-known-entry-at-requires (put-inner-calls t) (put-inner-at t) put-inner.Post
+put-inner-known-entry-at-requires t c κs = search needs
+
+put-inner-enum-known-entry : (t : ℕ) → put-inner-lts.Need-enum-known-entry (put-inner-calls t) (put-inner-at t) put-inner.Post
+put-inner-enum-known-entry t c = search needs
+
+put-inner-put-leaf-requires : (t : ℕ) → put-inner-lts.Need-put-leaf-requires (put-inner-calls t) (put-inner-at t) put-inner.Post
+put-inner-put-leaf-requires t c κs = leaf-inside _ _ _ _ ((c .before .before .before .before .known-entry-at) .ensures .1) ((c .before .before .entry) .given .1)
+
+put-inner-put-type-requires : (t : ℕ) → put-inner-lts.Need-put-type-requires (put-inner-calls t) (put-inner-at t) put-inner.Post
+put-inner-put-type-requires t c κs = search needs
+
+put-inner-same-length : (t : ℕ) → put-inner-lts.Need-same-length (put-inner-calls t) (put-inner-at t) put-inner.Post
+put-inner-same-length t c = search needs
+
+put-inner-returns-2 : (t : ℕ) → put-inner-lts.Need-returns-2 (put-inner-calls t) (put-inner-at t) put-inner.Post
+put-inner-returns-2 t c = search type-leaf
+
+put-inner-same-length-2 : (t : ℕ) → put-inner-lts.Need-same-length-2 (put-inner-calls t) (put-inner-at t) put-inner.Post
+put-inner-same-length-2 t c = search needs
+
+put-inner-returns-3 : (t : ℕ) → put-inner-lts.Need-returns-3 (put-inner-calls t) (put-inner-at t) put-inner.Post
+put-inner-returns-3 t c = search needs
+
 abbrev put-members-Inv-loop : put-members-lts.InvT-loop
 put-members-Inv-loop table pool row place count size levels edition out₀ at r₀ p₀ a₀ left₀ out r p a left =
     MembersLeft (typeAt levels table pool) table pool edition size count row place at out₀ left r p a out
@@ -55,12 +104,6 @@ put-members-Inv-loop table pool row place count size levels edition out₀ at r�
 abbrev put-members-μ-loop : put-members-lts.MeasureT-loop
 put-members-μ-loop table pool row place count size levels edition out₀ at r₀ p₀ a₀ left₀ out r p a left =
     left
-
-abbrev put-members-calls : ℕ → put-members-lts.Claims
-put-members-calls t = (known-member-at-reads.Asked, known-member-at-reads.Learnt, put-member-head-reads.Asked, put-member-head-reads.Learnt, put-type-below t, put-type.Post)
-
-abbrev put-type-calls : ℕ → put-type-lts.Claims
-put-type-calls t = (known-entry-at-reads.Asked, known-entry-at-reads.Learnt, put-leaf-reads.Asked, put-leaf-reads.Learnt, put-group-header-reads.Asked, put-group-header-reads.Learnt, put-members-below t, put-members.Post, put-type-below t, put-type.Post, put-enum-members-reads.Asked, put-enum-members-reads.Learnt, put-variable-header-reads.Asked, put-variable-header-reads.Learnt, size-at-reads.Asked, size-at-reads.Learnt, put-array-head-reads.Asked, put-array-head-reads.Learnt)
 
 put-members-loop-holds : (t : ℕ) → put-members-lts.Need-loop-holds (put-members-calls t) (put-members-at t) put-members.Post put-members-Inv-loop put-members-μ-loop
 put-members-loop-holds t c = search members-begun
@@ -101,11 +144,11 @@ put-members-cast-from t c = search needs
 put-members-add-from : (t : ℕ) → put-members-lts.Need-add-from (put-members-calls t) (put-members-at t) put-members.Post put-members-Inv-loop put-members-μ-loop
 put-members-add-from t c = omega (arith, named-inside _ _ _ _ ((c .before .before .before .before .before .before .before .before .member) .given .1) ((c .before .before .before .before .before .before .before .before .before .before .known-member-at) .ensures .1))
 
-put-members-add-put-type : (t : ℕ) → put-members-lts.Need-add-put-type (put-members-calls t) (put-members-at t) put-members.Post put-members-Inv-loop put-members-μ-loop
-put-members-add-put-type t c = omega (arith, named-inside _ _ _ _ ((c .before .before .before .before .before .before .before .before .member) .given .1) ((c .before .before .before .before .before .before .before .before .before .before .known-member-at) .ensures .1))
+put-members-add-put-inner : (t : ℕ) → put-members-lts.Need-add-put-inner (put-members-calls t) (put-members-at t) put-members.Post put-members-Inv-loop put-members-μ-loop
+put-members-add-put-inner t c = omega (arith, named-inside _ _ _ _ ((c .before .before .before .before .before .before .before .before .member) .given .1) ((c .before .before .before .before .before .before .before .before .before .before .known-member-at) .ensures .1))
 
-put-members-put-type-requires : (t : ℕ) → put-members-lts.Need-put-type-requires (put-members-calls t) (put-members-at t) put-members.Post put-members-Inv-loop put-members-μ-loop
-put-members-put-type-requires t c κs = search needs
+put-members-put-inner-requires : (t : ℕ) → put-members-lts.Need-put-inner-requires (put-members-calls t) (put-members-at t) put-members.Post put-members-Inv-loop put-members-μ-loop
+put-members-put-inner-requires t c κs = search needs
 
 put-members-enum-told-3 : (t : ℕ) → put-members-lts.Need-enum-told-3 (put-members-calls t) (put-members-at t) put-members.Post put-members-Inv-loop put-members-μ-loop
 put-members-enum-told-3 t c = search needs
@@ -312,15 +355,21 @@ put-type-returns-12 t c =
     let small : (i : ℕ) → getD ((c .before .before .before .before .before .before .before .before .before .before .before .before .before .before .before .before .before .before .before .before) .args .pool .now) i 0 < 256 = λ i. omega (arith, (c .before .before .before .before .before .before .before .before .before .before .before .before .before .before .before .before .before .before .shared-slice-known2) .given i) in
     search (type-array, small)
 
-pub +put-members+put-type-spec : {M : Type 1} → statement M
-+put-members+put-type-spec = close μ-put-members μ-put-type (λ t. put-members-lts.spec (
-  known-member-at-reads.Asked,
-  known-member-at-reads.Learnt,
-  put-member-head-reads.Asked,
-  put-member-head-reads.Learnt,
-  put-type-below t,
-  put-type.Post,
-)
+pub +put-inner+put-members+put-type-spec : {M : Type 1} → statement M
++put-inner+put-members+put-type-spec =
+    close μ-put-inner μ-put-members μ-put-type (λ t. put-inner-lts.spec (put-inner-calls t)
+    (put-inner-at t)
+    put-inner.Post
+    (put-inner-returns t)
+    (put-inner-known-entry-at-requires t)
+    (put-inner-enum-known-entry t)
+    (put-inner-put-leaf-requires t)
+    (put-inner-put-type-requires t)
+    (put-inner-same-length t)
+    (put-inner-returns-2 t)
+    (put-inner-same-length-2 t)
+    (put-inner-returns-3 t))
+    (λ t. put-members-lts.spec (put-members-calls t)
     (put-members-at t)
     put-members.Post
     put-members-Inv-loop
@@ -338,8 +387,8 @@ pub +put-members+put-type-spec : {M : Type 1} → statement M
     (put-members-enum-known-headed t)
     (put-members-cast-from t)
     (put-members-add-from t)
-    (put-members-add-put-type t)
-    (put-members-put-type-requires t)
+    (put-members-add-put-inner t)
+    (put-members-put-inner-requires t)
     (put-members-enum-told-3 t)
     (put-members-same-length-3 t)
     (put-members-returns-3 t)
@@ -349,26 +398,7 @@ pub +put-members+put-type-spec : {M : Type 1} → statement M
     (put-members-loop-again t)
     (put-members-same-length-4 t)
     (put-members-returns-4 t))
-    λ t. put-type-lts.spec (
-      known-entry-at-reads.Asked,
-      known-entry-at-reads.Learnt,
-      put-leaf-reads.Asked,
-      put-leaf-reads.Learnt,
-      put-group-header-reads.Asked,
-      put-group-header-reads.Learnt,
-      put-members-below t,
-      put-members.Post,
-      put-type-below t,
-      put-type.Post,
-      put-enum-members-reads.Asked,
-      put-enum-members-reads.Learnt,
-      put-variable-header-reads.Asked,
-      put-variable-header-reads.Learnt,
-      size-at-reads.Asked,
-      size-at-reads.Learnt,
-      put-array-head-reads.Asked,
-      put-array-head-reads.Learnt,
-    )
+    λ t. put-type-lts.spec (put-type-calls t)
     (put-type-at t)
     put-type.Post
     (put-type-returns t)
