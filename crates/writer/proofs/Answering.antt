@@ -1,6 +1,6 @@
 -- The answers of `write`, refusal by refusal, and what it leaves in `out`.
-use Prim.Native.Nat.{ℕ, _+_, _<_, _≤_}
-use mathlib.Core.Path.{_≡_, sym, ap, _∙_}
+use Prim.Native.Nat.{ℕ, _+_, _*_, _<_, _≤_}
+use mathlib.Core.Path.{_≡_, refl, sym, ap, _∙_}
 use mathlib.Core.Logic.{inl, inr}
 use mathlib.Core.Bool.{Bool, true, false, not}
 use mathlib.Core.List.{List, [], _∷_, _++_}
@@ -151,7 +151,7 @@ module _ (table pool : List ℕ) (e : ℕ) {y : Measured} (q : y ≡ measureOf e
               pub write-written : {v : Written} → z ≡ At v → Writes table pool e (AnswerWritten (m .length)) out out′
               write-written f =
                   given (writing-given table pool e (length out) t is lo hi is-storable is-carried (omega (arith, exact))) (exact ∙ sym (length-message e t))
-                  (stood .written fits ∙ sets-front (message e t) out (omega arith))
+                  (stood .written fits ∙ sets-front (message e t) out (omega (arith, fits)))
 
 -- ---- an edition that there is not
 

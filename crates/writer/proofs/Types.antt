@@ -31,7 +31,7 @@ use Rattle.writer_parts.specs.declared.Put.{Put}
 use Rattle.writer_parts.specs.declared.Put.the-variants.{At, Lost}
 use Rattle.writer_parts.specs.declared.Written.{Written}
 use Rattle.writer_parts.proofs.Placing.{stands-behind, lost-behind, row-known, placed, unplaced, where-fits}
-use Rattle.writer_parts.proofs.Leaves.{leaf-codes, leaf-message}
+use Rattle.writer_parts.proofs.Leaves.{leaf-class, leaf-codes, leaf-message}
 use Rattle.writer_parts.proofs.Enums.{enum-count}
 use Rattle.table.specs.Survey.{surveyOf}
 use Rattle.table.specs.declared.Survey.{Survey}
