@@ -3,6 +3,7 @@ use Prim.Native.Nat.{ℕ, suc, _+_, _-_, _<_}
 use mathlib.Core.Path.{_≡_, refl, sym, ap, _∙_}
 use mathlib.Core.Bool.{Bool, true, false, cond}
 use mathlib.Core.List.{List}
+use mathlib.Core.Logic.{_⊎_, inl, inr, ⊎-elim}
 use mathlib.Core.Option.{Option, none, some}
 use native.Mathlib.Omega.{arith}
 use lib.ListN.{length, getD}
@@ -12,7 +13,7 @@ use Rattle.format.specs.Datatype.{Datatype, fixedPoint, floatingPoint, time, st
 use Rattle.format.specs.Outcome.{Outcome, gives, refuses, outcomeNumber, outcomeValues}
 use Rattle.format.specs.Ownership.{owned, outside, heapHeld, agree, comparing}
 use Rattle.format.specs.Slots.{firstZero, memberFirstZero, orElse, zeroClass}
-use Rattle.format.specs.Table.{found, typeAt}
+use Rattle.format.specs.Table.{Found, found, bad, typeAt}
 use Rattle.format.proofs.Ownership.{owned-inside, agree-holds, agree-differs, comparing-refused, comparing-zero, comparing-outside, comparing-heap, comparing-length, comparing-records}
 use Rattle.table.specs.Survey.{zeroCode, Sets, Checks}
 use Rattle.table.specs.declared.Survey.{Survey}
@@ -20,7 +21,7 @@ use Rattle.table.specs.declared.Checked.{Checked}
 use Rattle.table.specs.declared.Checked.the-variants.{Bad}
 use Rattle.table.specs.declared.Spot.{Spot}
 use Rattle.table.proofs.Surveys.{Says, told, Told}
-use Rattle.compare.specs.Agreeing.{equalRange, Agreement, Answers, Agrees, comparisonNumber, comparisonValues, comparisonOf, sameOrDiffers, Compares}
+use Rattle.compare.specs.Agreeing.{equalRange, Agreement, Apartness, Answers, Agrees, SameFields, comparisonNumber, comparisonValues, comparisonOf, sameOrDiffers, Compares}
 use Rattle.compare.specs.declared.Agreed.{Agreed}
 use Rattle.compare.specs.declared.Agreed.the-variants.{Apart, Together, Lost}
 use Rattle.compare.specs.declared.Comparison.{Comparison}
@@ -72,6 +73,27 @@ some-zero : (x : Option ℕ) → (zeroCode x ≡ 0 → ⊥) → x ≡ some (zero
 unfolding zeroCode
 some-zero none h = absurd (h refl)
 some-zero (some c) h = let e : suc c - 1 ≡ c = omega arith in rw e
+
+-- ---- the walk over the fields
+
+module _ (y : Found Datatype) (a b : List ℕ) (got : Agreed) (w : Agrees y a b 0 got) where
+  fields : (x : Comparison)
+      → ((t : Datatype) (next : Spot) → Answers (owned t) a b 0 next got → ((x ≡ Same) × Agreement (owned t) a b 0) ⊎ ((x ≡ Differs) × Apartness (owned t) a b 0))
+      → SameFields y a b x
+  fields x h = go y w
+    where
+      go : (y : Found Datatype) → Agrees y a b 0 got → SameFields y a b x
+      go (found t r p) v = unfold SameFields Agrees in λ d l. h t (record { row = r; place = p }) (v d (omega arith))
+      go bad v = unfold SameFields in tt
+
+  pub fields-together : {next : Spot} → got ≡ Together next → SameFields y a b Same
+  fields-together {next = next} e = fields Same (λ t n v. inl (refl, v .together next e .0))
+
+  pub fields-apart : got ≡ Apart → SameFields y a b Differs
+  fields-apart e = fields Differs (λ t n v. inr (refl, v .apart e))
+
+  pub fields-lost : (r : Comparison) → got ≡ Lost → SameFields y a b r
+  fields-lost r e = fields r (λ t n v. absurd (v .kept e))
 
 -- ---- the ways out
 
@@ -150,21 +172,14 @@ module _ (table pool : List ℕ) {s : Survey} (g : Sets table pool s) where
             same-equal q t = same-if (λ i l w. range-says a b 0 (s .size) (sym q ∙ t) i (omega (arith, size-is)))
 
             -- by the walk over its fields
-            module _ (got : Agreed) (w : Agrees (typeAt 32 table pool 0 0) a b 0 got) where
-              answer : Answers (owned (g .type)) a b 0 (record { row = s .row; place = s .place }) got
-              unfolding Agrees
-              answer = rw (g .stands) at w (record { sized = sized; inside = outside-is o; plain = heap-is p }) (omega (arith, size-is))
-
-              pub same-together : {next : Spot} → got ≡ Together next → Compares (comparing table pool a b) Same
-              unfolding Agreement
-              same-together {next = next} f = same-if (λ i l v. answer .together next f .0 i v)
-
-              pub same-apart : got ≡ Apart → Compares (comparing table pool a b) Differs
-              unfolding comparisonOf
-              same-apart f =
-                  let d = answer .apart f in
-                  let j : 0 + d .place ≡ d .place = omega arith in
-                  compares _ (rw (given, agree-differs (g .type) a b (record { place = d .place; inside = owned-inside (g .type) (d .place) (outside-is o) (d .is-owned); is-owned = d .is-owned; differs = rw j at (d .differs) })))
-
-              pub same-lost : (z : Comparison) → got ≡ Lost → Compares (comparing table pool a b) z
-              same-lost z f = absurd (answer .kept f)
+            pub same-walked : {r : Comparison} → SameFields (typeAt 32 table pool 0 0) a b r → Compares (comparing table pool a b) r
+            unfolding SameFields Agreement comparisonOf
+            same-walked w =
+                ⊎-elim
+                (λ u. rw (u .0) (same-if (λ i l v. u .1 i v)))
+                (λ u.
+                let d = u .1 in
+                let j : 0 + d .place ≡ d .place = omega arith in
+                rw (u .0)
+                (compares _ (rw (given, agree-differs (g .type) a b (record { place = d .place; inside = owned-inside (g .type) (d .place) (outside-is o) (d .is-owned); is-owned = d .is-owned; differs = rw j at (d .differs) })))))
+                (rw (g .stands) at w (record { sized = sized; inside = outside-is o; plain = heap-is p }) (omega (arith, size-is)))

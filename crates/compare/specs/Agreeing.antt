@@ -3,6 +3,7 @@ use Prim.Native.Nat.{ℕ, zero, suc, _+_, _-_, _*_, _<_, _≤_}
 use mathlib.Core.Path.{_≡_}
 use mathlib.Core.Bool.{Bool, true, false, _&&_}
 use mathlib.Core.List.{List, [], _∷_}
+use mathlib.Core.Logic.{_⊎_}
 use mathlib.Core.Option.{none}
 use lib.ListN.{length, getD}
 use lib.Dec.{ltb, eqb}
@@ -120,6 +121,12 @@ unfoldable pub comparisonOf : Outcome Bool → Comparison
 comparisonOf (gives true) = Same
 comparisonOf (gives false) = Differs
 comparisonOf (refuses e) = Refused e
+
+-- what the walk over the fields of an admitted type answers of two records of its size
+unfoldable pub SameFields : Found Datatype → (a b : List ℕ) → Comparison → Type 0
+SameFields (found t r p) a b x =
+    Admitted t → typeSize t ≤ length a → ((x ≡ Same) × Agreement (owned t) a b 0) ⊎ ((x ≡ Differs) × Apartness (owned t) a b 0)
+SameFields bad a b x = Unit {0}
 
 -- 0 for same, 1 for differs
 unfoldable pub sameOrDiffers : Bool → ℕ

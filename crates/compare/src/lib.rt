@@ -7,6 +7,7 @@ use rows::known_member_at;
 use table::Checked;
 use table::Found;
 use table::Spot;
+use table::Survey;
 use table::Surveyed;
 use table::check;
 use table::scaled;
@@ -20,7 +21,8 @@ ghost use Rattle.format.specs.Ownership.{comparing};
 ghost use Rattle.format.specs.Table.{typeAt, membersAt};
 ghost use Rattle.rows.specs.Entries.{fromEntry};
 ghost use Rattle.rows.specs.declared.Entry.the-variants.{Enumeration};
-ghost use Rattle.compare.specs.Agreeing.{topOf, equalRange, isField, Standing, Read, Agrees, AgreesIn, AgreesEach, AgreesBytes, Compares};
+ghost use Rattle.table.specs.Survey.{Sets};
+ghost use Rattle.compare.specs.Agreeing.{topOf, equalRange, isField, Standing, Read, Agrees, AgreesIn, AgreesEach, AgreesBytes, SameFields, Compares};
 
 // The rows of the open levels, outermost first: its top is the row at hand.
 pub struct Path {
@@ -387,6 +389,51 @@ fn agree_entries(
     Agreed::Together(next)
 }
 
+// Two records of a type's size that differ somewhere, by the walk over its fields.
+fn same_fields(table: &[u32], pool: &[u8], a: &[u8], b: &[u8]) -> Comparison
+    requires { ⌜ length (now b) ≡ length (now a) ⌝ }
+    ensures { λ r. ⌜ SameFields (typeAt 32 (now (table .entry)) (now (pool .entry)) 0 0) (now (a .entry)) (now (b .entry)) r ⌝ }
+{
+    let path = Path {
+        rows: [0; 32],
+        depth: 1,
+    };
+    let entry = known_entry_at(table, pool, 0, 0);
+    let got = agree_type(table, pool, path, 0, entry, a, b, 0);
+    match got {
+        Agreed::Together(_) => Comparison::Same,
+        Agreed::Apart => Comparison::Differs,
+        Agreed::Lost => Comparison::Differs,
+    }
+}
+
+// Two records of a type that the check has surveyed.
+fn same_checked(table: &[u32], pool: &[u8], a: &[u8], b: &[u8], s: Survey) -> Comparison
+    requires { ⌜ Sets (now table) (now pool) s ⌝ }
+    ensures { λ r. ⌜ Compares (comparing (now (table .entry)) (now (pool .entry)) (now (a .entry)) (now (b .entry))) r ⌝ }
+{
+    if s.zero != 0 {
+        return Comparison::Refused(Refusal::ZeroSize((s.zero - 1) as u8));
+    }
+    if s.outside {
+        return Comparison::Refused(Refusal::OutsideRecord);
+    }
+    if s.heap {
+        return Comparison::Refused(Refusal::HeapHeld);
+    }
+    let size = s.size as usize;
+    if a.len() != size {
+        return Comparison::Refused(Refusal::WrongLength);
+    }
+    if b.len() != size {
+        return Comparison::Refused(Refusal::WrongLength);
+    }
+    if equal_range(a, b, 0, size) {
+        return Comparison::Same;
+    }
+    same_fields(table, pool, a, b)
+}
+
 // Whether two records of the type that a table and pool set out agree on each byte that a field owns. Refused, in this order: BadTable,
 // ZeroSize, OutsideRecord, HeapHeld, WrongLength. Cost: the check of the table and, where the records differ at all, one walk over the fields.
 pub fn same(table: &[u32], pool: &[u8], a: &[u8], b: &[u8]) -> Comparison
@@ -395,37 +442,6 @@ pub fn same(table: &[u32], pool: &[u8], a: &[u8], b: &[u8]) -> Comparison
     let checked = check(table, pool);
     match checked {
         Checked::Bad => Comparison::Refused(Refusal::BadTable),
-        Checked::Good(s) => {
-            if s.zero != 0 {
-                return Comparison::Refused(Refusal::ZeroSize((s.zero - 1) as u8));
-            }
-            if s.outside {
-                return Comparison::Refused(Refusal::OutsideRecord);
-            }
-            if s.heap {
-                return Comparison::Refused(Refusal::HeapHeld);
-            }
-            let size = s.size as usize;
-            if a.len() != size {
-                return Comparison::Refused(Refusal::WrongLength);
-            }
-            if b.len() != size {
-                return Comparison::Refused(Refusal::WrongLength);
-            }
-            if equal_range(a, b, 0, size) {
-                return Comparison::Same;
-            }
-            let path = Path {
-                rows: [0; 32],
-                depth: 1,
-            };
-            let entry = known_entry_at(table, pool, 0, 0);
-            let got = agree_type(table, pool, path, 0, entry, a, b, 0);
-            match got {
-                Agreed::Together(_) => Comparison::Same,
-                Agreed::Apart => Comparison::Differs,
-                Agreed::Lost => Comparison::Differs,
-            }
-        }
+        Checked::Good(s) => same_checked(table, pool, a, b, s),
     }
 }

@@ -1,0 +1,58 @@
+use native.Mathlib.Omega.{arith}
+use Rattle.compare.proofs.Comparing.{zero-fits, same-zero, same-outside, same-heap, same-length, same-length-b, same-equal, same-walked}
+use borrow.Author.Needs.{needs}
+use Rattle.compare.proofs.same_checked.Statement.{statement}
+use Rattle.compare.proofs.same_checked.Tie as tie
+
+sub-t8 : tie.Need-sub-t8
+sub-t8 c = search needs
+
+cast-t9 : tie.Need-cast-t9
+cast-t9 c = let i = zero-fits _ _ (c .before .before .before .before .before .before .before .pre) (c .before .if1 .taken) in omega arith
+
+returns : tie.Need-returns
+returns c = search same-zero
+
+returns-2 : tie.Need-returns-2
+returns-2 c = search same-outside
+
+returns-3 : tie.Need-returns-3
+returns-3 c = search same-heap
+
+cast-size : tie.Need-cast-size
+cast-size c = search needs
+
+returns-4 : tie.Need-returns-4
+returns-4 c = search same-length
+
+returns-5 : tie.Need-returns-5
+returns-5 c = search same-length-b
+
+equal-range-requires : tie.Need-equal-range-requires
+equal-range-requires c κs = search needs
+
+returns-6 : tie.Need-returns-6
+returns-6 c = search same-equal
+
+same-fields-requires : tie.Need-same-fields-requires
+same-fields-requires c κs = search needs
+
+returns-7 : tie.Need-returns-7
+returns-7 c = search same-walked
+
+pub same-checked-spec : {M : Type 1} → statement M
+same-checked-spec =
+    tie.close
+    (tie.spec
+    sub-t8
+    cast-t9
+    returns
+    returns-2
+    returns-3
+    cast-size
+    returns-4
+    returns-5
+    equal-range-requires
+    returns-6
+    same-fields-requires
+    returns-7)
