@@ -1,18 +1,17 @@
 -- `same`: one law for each way out of it.
 use Prim.Native.Nat.{ℕ, suc, _+_, _-_, _<_}
 use mathlib.Core.Path.{_≡_, refl, sym, ap, _∙_}
-use mathlib.Core.Bool.{Bool, true, false, cond}
+use mathlib.Core.Bool.{Bool, true, false}
 use mathlib.Core.List.{List}
 use mathlib.Core.Logic.{_⊎_, inl, inr, ⊎-elim}
 use mathlib.Core.Option.{Option, none, some}
 use native.Mathlib.Omega.{arith}
 use lib.ListN.{length, getD}
-use lib.Dec.{eqb}
 use Rattle.refusal.specs.declared.Refusal.the-variants.{BadTable, ZeroSize, OutsideRecord, HeapHeld, WrongLength}
-use Rattle.format.specs.Datatype.{Datatype, fixedPoint, floatingPoint, time, string, bitField, opaque, compound, reference, enumeration, variableLength, array, Members, noMembers, member, typeSize}
+use Rattle.format.specs.Datatype.{Datatype, typeSize}
 use Rattle.format.specs.Outcome.{Outcome, gives, refuses, outcomeNumber, outcomeValues}
 use Rattle.format.specs.Ownership.{owned, outside, heapHeld, agree, comparing}
-use Rattle.format.specs.Slots.{firstZero, memberFirstZero, orElse, zeroClass}
+use Rattle.format.specs.Slots.{firstZero}
 use Rattle.format.specs.Table.{Found, found, bad, typeAt}
 use Rattle.format.proofs.Ownership.{owned-inside, agree-holds, agree-differs, comparing-refused, comparing-zero, comparing-outside, comparing-heap, comparing-length, comparing-records}
 use Rattle.table.specs.Survey.{zeroCode, Sets, Checks}
@@ -20,54 +19,14 @@ use Rattle.table.specs.declared.Survey.{Survey}
 use Rattle.table.specs.declared.Checked.{Checked}
 use Rattle.table.specs.declared.Checked.the-variants.{Bad}
 use Rattle.table.specs.declared.Spot.{Spot}
-use Rattle.table.proofs.Surveys.{Says, told, Told}
+use Rattle.table.proofs.Surveys.{Says, told, Told, zero-code}
+use Rattle.table.proofs.ZeroClass.{zero-low}
 use Rattle.compare.specs.Agreeing.{equalRange, Agreement, Apartness, Answers, Agrees, SameFields, comparisonNumber, comparisonValues, comparisonOf, sameOrDiffers, Compares}
 use Rattle.compare.specs.declared.Agreed.{Agreed}
 use Rattle.compare.specs.declared.Agreed.the-variants.{Apart, Together, Lost}
 use Rattle.compare.specs.declared.Comparison.{Comparison}
 use Rattle.compare.specs.declared.Comparison.the-variants.{Same, Differs, Refused}
 use Rattle.compare.proofs.Ranges.{range-says}
-
--- ---- the class of a size 0
-
-class-below : (k n c : ℕ) → k < 11 → zeroClass k n ≡ some c → c < 11
-unfolding zeroClass
-class-below k n c h e = go (eqb n 0) e
-  where
-    go : (b : Bool) → cond b (some k) none ≡ some c → c < 11
-    go true f = let g : k ≡ c = cc in omega arith
-    go false f = let z : _≡_ {A = ℕ} 0 1 = cc in absurd (omega arith)
-
-else-below : (x y : Option ℕ) (c : ℕ) → ((d : ℕ) → x ≡ some d → d < 11) → ((d : ℕ) → y ≡ some d → d < 11) → orElse x y ≡ some c → c < 11
-unfolding orElse
-else-below none y c h g e = g c e
-else-below (some d) y c h g e = h c e
-
-mutual
-  unfolding firstZero
-
-  pub zero-below : (t : Datatype) (c : ℕ) → firstZero t ≡ some c → c < 11
-  zero-below (fixedPoint n o s f q) c e = class-below 0 n c (omega arith) e
-  zero-below (floatingPoint n o f q el es ml ms x) c e = class-below 1 n c (omega arith) e
-  zero-below (time n o q) c e = class-below 2 n c (omega arith) e
-  zero-below (string n a d) c e = class-below 3 n c (omega arith) e
-  zero-below (bitField n o f q) c e = class-below 4 n c (omega arith) e
-  zero-below (opaque n g) c e = class-below 5 n c (omega arith) e
-  zero-below (compound n ms) c e = else-below (zeroClass 6 n) (memberFirstZero ms) c (λ d. class-below 6 n d (omega arith)) (λ d f. member-zero-below ms d f) e
-  zero-below (reference n k) c e = class-below 7 n c (omega arith) e
-  zero-below (enumeration n t ms) c e = else-below (zeroClass 8 n) (firstZero t) c (λ d. class-below 8 n d (omega arith)) (λ d f. zero-below t d f) e
-  zero-below (variableLength i a d t) c e = zero-below t c e
-  zero-below (array ds t) c e =
-      else-below (zeroClass 10 (typeSize (array ds t))) (firstZero t) c (λ d. class-below 10 (typeSize (array ds t)) d (omega arith)) (λ d f. zero-below t d f) e
-
-  member-zero-below : (ms : Members) (c : ℕ) → memberFirstZero ms ≡ some c → c < 11
-  member-zero-below noMembers c e = let z : _≡_ {A = ℕ} 0 1 = cc in absurd (omega arith)
-  member-zero-below (member b o t ms) c e = else-below (firstZero t) (memberFirstZero ms) c (λ d f. zero-below t d f) (λ d f. member-zero-below ms d f) e
-
-no-zero : (x : Option ℕ) → zeroCode x ≡ 0 → x ≡ none
-unfolding zeroCode
-no-zero none e = refl
-no-zero (some c) e = absurd (omega arith)
 
 some-zero : (x : Option ℕ) → (zeroCode x ≡ 0 → ⊥) → x ≡ some (zeroCode x - 1)
 unfolding zeroCode
@@ -120,7 +79,7 @@ module _ (table pool : List ℕ) {s : Survey} (g : Sets table pool s) where
   zero-some n = some-zero _ (λ z. n (zero-is ∙ z)) ∙ ap (λ (k : ℕ). some (k - 1)) (sym zero-is)
 
   pub zero-fits : (s .zero ≡ 0 → ⊥) → s .zero - 1 < 11
-  zero-fits n = zero-below (g .type) (s .zero - 1) (zero-some n)
+  zero-fits n = omega (arith, zero-low (g .type), zero-is, n)
 
   size-is : s .size ≡ typeSize (g .type)
   size-is = ap (λ (u : Survey). u .size) (says .is)
@@ -138,7 +97,7 @@ module _ (table pool : List ℕ) {s : Survey} (g : Sets table pool s) where
 
     module _ (z : s .zero ≡ 0) where
       sized : firstZero (g .type) ≡ none
-      sized = no-zero _ (sym zero-is ∙ z)
+      sized = zero-code _ (sym zero-is ∙ z)
 
       pub same-outside : s .outside ≡ true → Compares (comparing table pool a b) (Refused OutsideRecord)
       unfolding comparisonOf

@@ -1,19 +1,19 @@
 -- The answers of `embedded_reference_slots`.
 use Prim.Native.Nat.{ℕ, suc, _+_, _-_, _/_, _<_, _≤_, min}
 use mathlib.Core.Path.{_≡_, refl, sym, ap, _∙_}
-use mathlib.Core.Bool.{Bool, true, false, cond, _||_, or-true}
+use mathlib.Core.Bool.{Bool, true, false, _||_, or-true}
 use mathlib.Core.List.{List, [], _∷_}
 use mathlib.Core.Option.{Option, none, some}
 use native.Mathlib.Omega.{arith}
 use native.Mathlib.Nat.{div-mul-le-self}
 use lib.ListN.{length}
-use lib.Dec.{ltb, eqb}
+use lib.Dec.{ltb}
 use borrow.Author.Tests.{lt-ltb, le-ltb, le-leb, lt-leb, ltb-false}
 use Rattle.refusal.specs.declared.Refusal.{Refusal}
 use Rattle.refusal.specs.declared.Refusal.the-variants.{BadTable, ZeroSize, Unmapped, NoRoom}
-use Rattle.format.specs.Datatype.{Datatype, fixedPoint, floatingPoint, time, string, bitField, opaque, compound, reference, enumeration, variableLength, array, Members, noMembers, member, typeSize}
+use Rattle.format.specs.Datatype.{typeSize}
 use Rattle.format.specs.Outcome.{Outcome, gives, refuses, whenGiven, unless, needed, outputAfter, outcomeNumber, outcomeValues}
-use Rattle.format.specs.Slots.{slots, slotCount, slotEnd, shifted, holdsOtherReference, holdsHiddenReference, someOutside, unmapped, orElse, zeroClass, firstZero, memberFirstZero, unlessZero, slotting, findingSlots}
+use Rattle.format.specs.Slots.{slots, slotCount, slotEnd, shifted, holdsOtherReference, holdsHiddenReference, someOutside, unmapped, firstZero, unlessZero, slotting, findingSlots}
 use Rattle.format.specs.Table.{typeAt}
 use Rattle.format.proofs.Booleans.{or-neither}
 use Rattle.format.proofs.Lists.{sets-front}
@@ -23,6 +23,7 @@ use Rattle.table.specs.declared.Survey.{Survey}
 use Rattle.table.specs.declared.Checked.{Checked}
 use Rattle.table.specs.declared.Checked.the-variants.{Good, Bad}
 use Rattle.table.proofs.Surveys.{zero-code}
+use Rattle.table.proofs.ZeroClass.{zero-low}
 use Rattle.slots.specs.Slots.{mostSlots, mostEnd, CountedAs, AllBelow, Fits, Listed, PutAs, slotsNumber, slotsValues, answerOf, SlotsAre}
 use Rattle.slots.specs.declared.Tally.{Tally}
 use Rattle.slots.specs.declared.Tallied.{Tallied}
@@ -30,45 +31,6 @@ use Rattle.slots.specs.declared.Tallied.the-variants.{At, Lost}
 use Rattle.slots.specs.declared.Slots.{Slots}
 use Rattle.slots.specs.declared.Slots.the-variants.{Found as SlotsFound, Refused}
 use Rattle.slots.proofs.Shifting.{shifted-zero}
-
--- ---- a class is at most 10
-
-low-class : (c n : ℕ) → c ≤ 10 → zeroCode (zeroClass c n) ≤ 11
-unfolding zeroClass
-low-class c n h = go (eqb n 0)
-  where
-    go : (b : Bool) → zeroCode (cond b (some c) none) ≤ 11
-    go true = unfold zeroCode in omega arith
-    go false = unfold zeroCode in omega arith
-
-low-else : (x y : Option ℕ) → zeroCode x ≤ 11 → zeroCode y ≤ 11 → zeroCode (orElse x y) ≤ 11
-unfolding orElse
-low-else none y h k = k
-low-else (some c) y h k = h
-
-no-class : zeroCode none ≤ 11
-unfolding zeroCode
-no-class = omega arith
-
-mutual
-  unfolding firstZero
-
-  low-zero : (t : Datatype) → zeroCode (firstZero t) ≤ 11
-  low-zero (fixedPoint n o s f q) = low-class 0 n (omega arith)
-  low-zero (floatingPoint n o f q el es ml ms b) = low-class 1 n (omega arith)
-  low-zero (time n o q) = low-class 2 n (omega arith)
-  low-zero (string n a d) = low-class 3 n (omega arith)
-  low-zero (bitField n o f q) = low-class 4 n (omega arith)
-  low-zero (opaque n g) = low-class 5 n (omega arith)
-  low-zero (compound n ms) = low-else (zeroClass 6 n) (memberFirstZero ms) (low-class 6 n (omega arith)) (low-member-zero ms)
-  low-zero (reference n k) = low-class 7 n (omega arith)
-  low-zero (enumeration n t ms) = low-else (zeroClass 8 n) (firstZero t) (low-class 8 n (omega arith)) (low-zero t)
-  low-zero (variableLength i a d t) = low-zero t
-  low-zero (array ds t) = low-else (zeroClass 10 (typeSize (array ds t))) (firstZero t) (low-class 10 (typeSize (array ds t)) (omega arith)) (low-zero t)
-
-  low-member-zero : (ms : Members) → zeroCode (memberFirstZero ms) ≤ 11
-  low-member-zero noMembers = no-class
-  low-member-zero (member b o t ms) = low-else (firstZero t) (memberFirstZero ms) (low-zero t) (low-member-zero ms)
 
 -- ---- the answers
 
@@ -115,7 +77,7 @@ module _ (table pool out : List ℕ) {k : Checked} (h : Checks table pool k) whe
     zeroed = let g = given .says in cc
 
     pub zero-fits : s .zero ≤ 11
-    zero-fits = rw zeroed (low-zero (given .type))
+    zero-fits = rw zeroed (zero-low (given .type))
 
     finding : findingSlots table pool (length out) ≡ slotting (length out) (given .type)
     unfolding findingSlots whenGiven

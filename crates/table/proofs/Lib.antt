@@ -3,3 +3,4 @@ pub mod Surveys
 pub mod Checking
 pub mod Answers
 pub mod Naming
+pub mod ZeroClass
