@@ -419,7 +419,7 @@ pub fn measure_type(
     }
 }
 
-// The same, of a member: a leaf is measured without a call of `measure_type`.
+// The same, of a member: a leaf is measured without a call of `measure_type`, which reads any other row again.
 fn measure_inner(
     table: &[u32],
     pool: &[u8],

@@ -101,7 +101,7 @@ fn put_members(
     })
 }
 
-// As `put_type`, of a member: a leaf is put without a call of it.
+// As `put_type`, of a member: a leaf is put without a call of it, which reads any other row again.
 fn put_inner(
     table: &[u32],
     pool: &[u8],

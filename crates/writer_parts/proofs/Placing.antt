@@ -121,6 +121,10 @@ module _ (out out′ : List ℕ) (at : ℕ) where
     pub zeros-full : {m : ℕ} → m ≡ length out - at → m < n → Places (zeros n) at Full out out′
     zeros-full t h = full t (length-zeros n) h
 
+    pub zero-stored : n ≡ 1 → out′ ≡ set out at 0 → Places (zeros n) at (Behind (at + 1)) out out′
+    unfolding zeros
+    zero-stored e w = rw e (stored (length-zeros 1) w)
+
     pub zeros-stored : (i : ℕ) → i ≤ n → n ≤ i → out′ ≡ sets out at (zeros i) → Places (zeros n) at (Behind (at + n)) out out′
     zeros-stored i h k w = let e : i ≡ n = omega arith in stored (length-zeros n) (w ∙ rw e)
 

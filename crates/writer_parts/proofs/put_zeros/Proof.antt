@@ -5,12 +5,9 @@ use borrow.Author.Needs.{needs}
 use lib.ListN.{length}
 use lib.Seq.{sets, length-sets}
 use Rattle.format.specs.Bytes.{zeros}
-use Rattle.writer_parts.proofs.Placing.{zeros-full, zeros-stored, zeros-next, zeros-begun}
+use Rattle.writer_parts.proofs.Placing.{zeros-full, zero-stored, zeros-stored, zeros-next, zeros-begun}
 use Rattle.writer_parts.proofs.put_zeros.Statement.{statement}
 use Rattle.writer_parts.proofs.put_zeros.Tie as tie
-use Rattle.writer_parts.proofs.put_zeros.Reads as reads
-use Rattle.writer_parts.proofs.put_zeros.Lts as lts
-use Rattle.writer_parts.proofs.room.Reads as room-reads
 
 abbrev Inv-loop : tie.InvT-loop
 Inv-loop out₀ at n i₀ out i = (i ≤ n) × (out ≡ sets out₀ at (zeros i))
@@ -24,14 +21,26 @@ room-requires c κs = search needs
 returns : tie.Need-returns Inv-loop μ-loop
 returns c = search zeros-full
 
+slice-write-out : tie.Need-slice-write-out Inv-loop μ-loop
+slice-write-out c = search needs
+
+add-t9 : tie.Need-add-t9 Inv-loop μ-loop
+add-t9 c = search needs
+
+same-length : tie.Need-same-length Inv-loop μ-loop
+same-length c = search needs
+
+returns-2 : tie.Need-returns-2 Inv-loop μ-loop
+returns-2 c = search zero-stored
+
 loop-holds : tie.Need-loop-holds Inv-loop μ-loop
 loop-holds c = (omega arith, zeros-begun _ _ _ refl)
 
 add-out : tie.Need-add-out Inv-loop μ-loop
 add-out c = search needs
 
-slice-write-out : tie.Need-slice-write-out Inv-loop μ-loop
-slice-write-out c = omega (arith, ap length ((c .before .loop) .inv .1), length-sets ((c .before .before .before .before .before) .args .out .now) ((c .before .before .before .before .before) .args .at) (zeros ((c .before .loop) .i)))
+slice-write-out-2 : tie.Need-slice-write-out-2 Inv-loop μ-loop
+slice-write-out-2 c = omega (arith, ap length ((c .before .loop) .inv .1), length-sets ((c .before .before .before .before .before .before) .args .out .now) ((c .before .before .before .before .before .before) .args .at) (zeros ((c .before .loop) .i)))
 
 add-i : tie.Need-add-i Inv-loop μ-loop
 add-i c = search needs
@@ -45,11 +54,11 @@ loop-again c = (omega arith, zeros-next _ _ _ ((c .before .loop) .inv .1))
 add-t5 : tie.Need-add-t5 Inv-loop μ-loop
 add-t5 c = search needs
 
-same-length : tie.Need-same-length Inv-loop μ-loop
-same-length c = ap length ((c .before .loop) .inv .1) ∙ simp length-sets
+same-length-2 : tie.Need-same-length-2 Inv-loop μ-loop
+same-length-2 c = ap length ((c .before .loop) .inv .1) ∙ simp length-sets
 
-returns-2 : tie.Need-returns-2 Inv-loop μ-loop
-returns-2 c = search zeros-stored
+returns-3 : tie.Need-returns-3 Inv-loop μ-loop
+returns-3 c = search zeros-stored
 
 pub put-zeros-spec : {M : Type 1} → statement M
 put-zeros-spec =
@@ -59,12 +68,16 @@ put-zeros-spec =
     μ-loop
     room-requires
     returns
+    slice-write-out
+    add-t9
+    same-length
+    returns-2
     loop-holds
     add-out
-    slice-write-out
+    slice-write-out-2
     add-i
     loop-less
     loop-again
     add-t5
-    same-length
-    returns-2)
+    same-length-2
+    returns-3)
