@@ -110,38 +110,14 @@ agree-type-calls t = (agree-field-reads.Asked, agree-field-reads.Learnt, agree-e
 agree-entries-loop-holds : (t : ℕ) → agree-entries-lts.Need-loop-holds (agree-entries-calls t) (agree-entries-at t) agree-entries.Post agree-entries-Inv-loop agree-entries-μ-loop
 agree-entries-loop-holds t c = (omega arith, (omega arith, (omega arith, done-none _ _ _ _ _)))
 
-agree-entries-sub-if1 : (t : ℕ) → agree-entries-lts.Need-sub-if1 (agree-entries-calls t) (agree-entries-at t) agree-entries.Post agree-entries-Inv-loop agree-entries-μ-loop
-agree-entries-sub-if1 t c = search needs
-
 agree-entries-returns : (t : ℕ) → agree-entries-lts.Need-returns (agree-entries-calls t) (agree-entries-at t) agree-entries.Post agree-entries-Inv-loop agree-entries-μ-loop
 agree-entries-returns t c = search entries-past
-
-agree-entries-agree-type-requires : (t : ℕ) → agree-entries-lts.Need-agree-type-requires (agree-entries-calls t) (agree-entries-at t) agree-entries.Post agree-entries-Inv-loop agree-entries-μ-loop
-agree-entries-agree-type-requires t c κs = search needs
-
-agree-entries-enum-told : (t : ℕ) → agree-entries-lts.Need-enum-told (agree-entries-calls t) (agree-entries-at t) agree-entries.Post agree-entries-Inv-loop agree-entries-μ-loop
-agree-entries-enum-told t c = search needs
 
 agree-entries-returns-2 : (t : ℕ) → agree-entries-lts.Need-returns-2 (agree-entries-calls t) (agree-entries-at t) agree-entries.Post agree-entries-Inv-loop agree-entries-μ-loop
 agree-entries-returns-2 t c = search entries-lost
 
-agree-entries-enum-told-2 : (t : ℕ) → agree-entries-lts.Need-enum-told-2 (agree-entries-calls t) (agree-entries-at t) agree-entries.Post agree-entries-Inv-loop agree-entries-μ-loop
-agree-entries-enum-told-2 t c = search needs
-
 agree-entries-returns-3 : (t : ℕ) → agree-entries-lts.Need-returns-3 (agree-entries-calls t) (agree-entries-at t) agree-entries.Post agree-entries-Inv-loop agree-entries-μ-loop
 agree-entries-returns-3 t c = search entries-apart
-
-agree-entries-enum-told-3 : (t : ℕ) → agree-entries-lts.Need-enum-told-3 (agree-entries-calls t) (agree-entries-at t) agree-entries.Post agree-entries-Inv-loop agree-entries-μ-loop
-agree-entries-enum-told-3 t c = search needs
-
-agree-entries-add-start : (t : ℕ) → agree-entries-lts.Need-add-start (agree-entries-calls t) (agree-entries-at t) agree-entries.Post agree-entries-Inv-loop agree-entries-μ-loop
-agree-entries-add-start t c = search needs
-
-agree-entries-add-done : (t : ℕ) → agree-entries-lts.Need-add-done (agree-entries-calls t) (agree-entries-at t) agree-entries.Post agree-entries-Inv-loop agree-entries-μ-loop
-agree-entries-add-done t c = search needs
-
-agree-entries-loop-less : (t : ℕ) → agree-entries-lts.Need-loop-less (agree-entries-calls t) (agree-entries-at t) agree-entries.Post agree-entries-Inv-loop agree-entries-μ-loop
-agree-entries-loop-less t c = search needs
 
 agree-entries-loop-again : (t : ℕ) → agree-entries-lts.Need-loop-again (agree-entries-calls t) (agree-entries-at t) agree-entries.Post agree-entries-Inv-loop agree-entries-μ-loop
 agree-entries-loop-again t c =
@@ -152,32 +128,11 @@ agree-entries-loop-again t c =
 agree-entries-returns-4 : (t : ℕ) → agree-entries-lts.Need-returns-4 (agree-entries-calls t) (agree-entries-at t) agree-entries.Post agree-entries-Inv-loop agree-entries-μ-loop
 agree-entries-returns-4 t c = search entries-end
 
-agree-member-known-entry-at-requires : (t : ℕ) → agree-member-lts.Need-known-entry-at-requires (agree-member-calls t) (agree-known-member-at t) agree-member.Post
-agree-member-known-entry-at-requires t c κs = search needs
-
-agree-member-enum-known-entry : (t : ℕ) → agree-member-lts.Need-enum-known-entry (agree-member-calls t) (agree-known-member-at t) agree-member.Post
-agree-member-enum-known-entry t c = search needs
-
-agree-member-cast-agree-field : (t : ℕ) → agree-member-lts.Need-cast-agree-field (agree-member-calls t) (agree-known-member-at t) agree-member.Post
-agree-member-cast-agree-field t c = search needs
-
 agree-member-add-t17 : (t : ℕ) → agree-member-lts.Need-add-t17 (agree-member-calls t) (agree-known-member-at t) agree-member.Post
 agree-member-add-t17 t c = omega (arith, leaf-inside _ _ _ _ (c .before .before .before .known-entry-at .ensures .1) (c .before .entry .given .1))
 
-agree-member-cast-t18 : (t : ℕ) → agree-member-lts.Need-cast-t18 (agree-member-calls t) (agree-known-member-at t) agree-member.Post
-agree-member-cast-t18 t c = search needs
-
 agree-member-add-t19 : (t : ℕ) → agree-member-lts.Need-add-t19 (agree-member-calls t) (agree-known-member-at t) agree-member.Post
 agree-member-add-t19 t c = omega (arith, leaf-inside _ _ _ _ (c .before .before .before .known-entry-at .ensures .1) (c .before .entry .given .1))
-
-agree-member-agree-field-requires : (t : ℕ) → agree-member-lts.Need-agree-field-requires (agree-member-calls t) (agree-known-member-at t) agree-member.Post
-agree-member-agree-field-requires t c κs = search needs
-
-agree-member-enum-known-entry-2 : (t : ℕ) → agree-member-lts.Need-enum-known-entry-2 (agree-member-calls t) (agree-known-member-at t) agree-member.Post
-agree-member-enum-known-entry-2 t c = search needs
-
-agree-member-sub-agree-enumeration : (t : ℕ) → agree-member-lts.Need-sub-agree-enumeration (agree-member-calls t) (agree-known-member-at t) agree-member.Post
-agree-member-sub-agree-enumeration t c = search needs
 
 agree-member-agree-enumeration-requires :
     (t : ℕ) → agree-member-lts.Need-agree-enumeration-requires (
@@ -193,9 +148,6 @@ agree-member-agree-enumeration-requires :
       agree-type.Post,
     ) (agree-known-member-at t) agree-member.Post
 agree-member-agree-enumeration-requires t c κs = (enumeration-inside _ _ _ _ (c .before .before .before .known-entry-at .ensures .1) (c .before .entry2 .given .1), c .before .before .before .before .before .before .before .before .pre .1 .1)
-
-agree-member-enter-requires : (t : ℕ) → agree-member-lts.Need-enter-requires (agree-member-calls t) (agree-known-member-at t) agree-member.Post
-agree-member-enter-requires t c κs = search needs
 
 agree-member-agree-type-requires : (t : ℕ) → agree-member-lts.Need-agree-type-requires (agree-member-calls t) (agree-known-member-at t) agree-member.Post
 agree-member-agree-type-requires t c κs =
@@ -225,23 +177,8 @@ agree-members-loop-holds t c = leads-same _ _ _ _
 agree-members-returns : (t : ℕ) → agree-members-lts.Need-returns (agree-members-calls t) (agree-members-at t) agree-members.Post agree-members-Inv-loop agree-members-μ-loop
 agree-members-returns t c = search members-deep
 
-agree-members-known-member-at-requires : (t : ℕ) → agree-members-lts.Need-known-member-at-requires (agree-members-calls t) (agree-members-at t) agree-members.Post agree-members-Inv-loop agree-members-μ-loop
-agree-members-known-member-at-requires t c κs = search needs
-
-agree-members-enum-told : (t : ℕ) → agree-members-lts.Need-enum-told (agree-members-calls t) (agree-members-at t) agree-members.Post agree-members-Inv-loop agree-members-μ-loop
-agree-members-enum-told t c = search needs
-
 agree-members-returns-2 : (t : ℕ) → agree-members-lts.Need-returns-2 (agree-members-calls t) (agree-members-at t) agree-members.Post agree-members-Inv-loop agree-members-μ-loop
 agree-members-returns-2 t c = search members-unnamed
-
-agree-members-enum-known-member : (t : ℕ) → agree-members-lts.Need-enum-known-member (agree-members-calls t) (agree-members-at t) agree-members.Post agree-members-Inv-loop agree-members-μ-loop
-agree-members-enum-known-member t c = search needs
-
-agree-members-sub-if2 : (t : ℕ) → agree-members-lts.Need-sub-if2 (agree-members-calls t) (agree-members-at t) agree-members.Post agree-members-Inv-loop agree-members-μ-loop
-agree-members-sub-if2 t c = search needs
-
-agree-members-cast-if2 : (t : ℕ) → agree-members-lts.Need-cast-if2 (agree-members-calls t) (agree-members-at t) agree-members.Post agree-members-Inv-loop agree-members-μ-loop
-agree-members-cast-if2 t c = search needs
 
 agree-members-returns-3 : (t : ℕ) → agree-members-lts.Need-returns-3 (agree-members-calls t) (agree-members-at t) agree-members.Post agree-members-Inv-loop agree-members-μ-loop
 agree-members-returns-3 t c = search members-past
@@ -249,41 +186,14 @@ agree-members-returns-3 t c = search members-past
 agree-members-add-agree-member : (t : ℕ) → agree-members-lts.Need-add-agree-member (agree-members-calls t) (agree-members-at t) agree-members.Post agree-members-Inv-loop agree-members-μ-loop
 agree-members-add-agree-member t c = let i = named-inside _ _ _ _ (c .before .before .member .given .1) (c .before .before .before .before .known-member-at .ensures .1) in omega arith
 
-agree-members-cast-agree-member : (t : ℕ) → agree-members-lts.Need-cast-agree-member (agree-members-calls t) (agree-members-at t) agree-members.Post agree-members-Inv-loop agree-members-μ-loop
-agree-members-cast-agree-member t c = search needs
-
 agree-members-add-agree-member-2 : (t : ℕ) → agree-members-lts.Need-add-agree-member-2 (agree-members-calls t) (agree-members-at t) agree-members.Post agree-members-Inv-loop agree-members-μ-loop
 agree-members-add-agree-member-2 t c = let i = named-inside _ _ _ _ (c .before .before .member .given .1) (c .before .before .before .before .known-member-at .ensures .1) in omega arith
-
-agree-members-cast-agree-member-2 : (t : ℕ) → agree-members-lts.Need-cast-agree-member-2 (agree-members-calls t) (agree-members-at t) agree-members.Post agree-members-Inv-loop agree-members-μ-loop
-agree-members-cast-agree-member-2 t c = search needs
-
-agree-members-add-agree-member-3 : (t : ℕ) → agree-members-lts.Need-add-agree-member-3 (agree-members-calls t) (agree-members-at t) agree-members.Post agree-members-Inv-loop agree-members-μ-loop
-agree-members-add-agree-member-3 t c = search needs
-
-agree-members-agree-member-requires : (t : ℕ) → agree-members-lts.Need-agree-member-requires (agree-members-calls t) (agree-members-at t) agree-members.Post agree-members-Inv-loop agree-members-μ-loop
-agree-members-agree-member-requires t c κs = search needs
-
-agree-members-enum-told-2 : (t : ℕ) → agree-members-lts.Need-enum-told-2 (agree-members-calls t) (agree-members-at t) agree-members.Post agree-members-Inv-loop agree-members-μ-loop
-agree-members-enum-told-2 t c = search needs
 
 agree-members-returns-4 : (t : ℕ) → agree-members-lts.Need-returns-4 (agree-members-calls t) (agree-members-at t) agree-members.Post agree-members-Inv-loop agree-members-μ-loop
 agree-members-returns-4 t c = search members-lost
 
-agree-members-enum-told-3 : (t : ℕ) → agree-members-lts.Need-enum-told-3 (agree-members-calls t) (agree-members-at t) agree-members.Post agree-members-Inv-loop agree-members-μ-loop
-agree-members-enum-told-3 t c = search needs
-
 agree-members-returns-5 : (t : ℕ) → agree-members-lts.Need-returns-5 (agree-members-calls t) (agree-members-at t) agree-members.Post agree-members-Inv-loop agree-members-μ-loop
 agree-members-returns-5 t c = search members-apart
-
-agree-members-enum-known-got : (t : ℕ) → agree-members-lts.Need-enum-known-got (agree-members-calls t) (agree-members-at t) agree-members.Post agree-members-Inv-loop agree-members-μ-loop
-agree-members-enum-known-got t c = search needs
-
-agree-members-sub-left : (t : ℕ) → agree-members-lts.Need-sub-left (agree-members-calls t) (agree-members-at t) agree-members.Post agree-members-Inv-loop agree-members-μ-loop
-agree-members-sub-left t c = search needs
-
-agree-members-loop-less : (t : ℕ) → agree-members-lts.Need-loop-less (agree-members-calls t) (agree-members-at t) agree-members.Post agree-members-Inv-loop agree-members-μ-loop
-agree-members-loop-less t c = search needs
 
 agree-members-loop-again : (t : ℕ) → agree-members-lts.Need-loop-again (agree-members-calls t) (agree-members-at t) agree-members.Post agree-members-Inv-loop agree-members-μ-loop
 agree-members-loop-again t c = search members-next
@@ -291,88 +201,25 @@ agree-members-loop-again t c = search members-next
 agree-members-returns-6 : (t : ℕ) → agree-members-lts.Need-returns-6 (agree-members-calls t) (agree-members-at t) agree-members.Post agree-members-Inv-loop agree-members-μ-loop
 agree-members-returns-6 t c = search members-end
 
-agree-type-sub-row : (t : ℕ) → agree-type-lts.Need-sub-row (agree-type-calls t) (agree-type-at t) agree-type.Post
-agree-type-sub-row t c = search needs
-
-agree-type-mul-row : (t : ℕ) → agree-type-lts.Need-mul-row (agree-type-calls t) (agree-type-at t) agree-type.Post
-agree-type-mul-row t c = search needs
-
-agree-type-array-read-row : (t : ℕ) → agree-type-lts.Need-array-read-row (agree-type-calls t) (agree-type-at t) agree-type.Post
-agree-type-array-read-row t c = search needs
-
-agree-type-enum-told : (t : ℕ) → agree-type-lts.Need-enum-told (agree-type-calls t) (agree-type-at t) agree-type.Post
-agree-type-enum-told t c = search needs
-
-agree-type-enum-told-2 : (t : ℕ) → agree-type-lts.Need-enum-told-2 (agree-type-calls t) (agree-type-at t) agree-type.Post
-agree-type-enum-told-2 t c = search needs
-
-agree-type-enum-known-entry : (t : ℕ) → agree-type-lts.Need-enum-known-entry (agree-type-calls t) (agree-type-at t) agree-type.Post
-agree-type-enum-known-entry t c = search needs
-
-agree-type-cast-agree-field : (t : ℕ) → agree-type-lts.Need-cast-agree-field (agree-type-calls t) (agree-type-at t) agree-type.Post
-agree-type-cast-agree-field t c = search needs
-
 agree-type-add-t33 : (t : ℕ) → agree-type-lts.Need-add-t33 (agree-type-calls t) (agree-type-at t) agree-type.Post
 agree-type-add-t33 t c = omega (arith, leaf-inside _ _ _ _ (c .before .before .before .before .before .before .before .before .pre .1 .1 .inside) (c .before .entry .given .1))
 
-agree-type-cast-t34 : (t : ℕ) → agree-type-lts.Need-cast-t34 (agree-type-calls t) (agree-type-at t) agree-type.Post
-agree-type-cast-t34 t c = search needs
-
 agree-type-add-t35 : (t : ℕ) → agree-type-lts.Need-add-t35 (agree-type-calls t) (agree-type-at t) agree-type.Post
 agree-type-add-t35 t c = omega (arith, leaf-inside _ _ _ _ (c .before .before .before .before .before .before .before .before .pre .1 .1 .inside) (c .before .entry .given .1))
-
-agree-type-agree-field-requires : (t : ℕ) → agree-type-lts.Need-agree-field-requires (agree-type-calls t) (agree-type-at t) agree-type.Post
-agree-type-agree-field-requires t c κs = search needs
-
-agree-type-enum-known-entry-2 : (t : ℕ) → agree-type-lts.Need-enum-known-entry-2 (agree-type-calls t) (agree-type-at t) agree-type.Post
-agree-type-enum-known-entry-2 t c = search needs
-
-agree-type-sub-agree-enumeration : (t : ℕ) → agree-type-lts.Need-sub-agree-enumeration (agree-type-calls t) (agree-type-at t) agree-type.Post
-agree-type-sub-agree-enumeration t c = search needs
 
 agree-type-agree-enumeration-requires : (t : ℕ) → agree-type-lts.Need-agree-enumeration-requires (agree-type-calls t) (agree-type-at t) agree-type.Post
 agree-type-agree-enumeration-requires t c κs =
     let p = c .before .before .before .before .before .before .before .before .pre .1 in
     (enumeration-inside _ _ _ _ (p .1 .inside) (c .before .entry2 .given .1), (p .0 .begins, p .0 .lengths))
 
-agree-type-enum-known-entry-3 : (t : ℕ) → agree-type-lts.Need-enum-known-entry-3 (agree-type-calls t) (agree-type-at t) agree-type.Post
-agree-type-enum-known-entry-3 t c = search needs
-
 agree-type-add-agree-members : (t : ℕ) → agree-type-lts.Need-add-agree-members (agree-type-calls t) (agree-type-at t) agree-type.Post
 agree-type-add-agree-members t c = omega (arith, compound-inside _ _ _ _ (c .before .before .before .before .before .before .before .before .pre .1 .1 .inside) (c .before .entry3 .given .1))
-
-agree-type-agree-members-requires : (t : ℕ) → agree-type-lts.Need-agree-members-requires (agree-type-calls t) (agree-type-at t) agree-type.Post
-agree-type-agree-members-requires t c κs = search needs
-
-agree-type-enum-known-entry-4 : (t : ℕ) → agree-type-lts.Need-enum-known-entry-4 (agree-type-calls t) (agree-type-at t) agree-type.Post
-agree-type-enum-known-entry-4 t c = search needs
 
 agree-type-add-below : (t : ℕ) → agree-type-lts.Need-add-below (agree-type-calls t) (agree-type-at t) agree-type.Post
 agree-type-add-below t c = let i = array-inside _ _ _ _ (c .before .before .before .before .before .before .before .before .pre .1 .1 .inside) (c .before .entry4 .given .1) in omega arith
 
-agree-type-cast-inner : (t : ℕ) → agree-type-lts.Need-cast-inner (agree-type-calls t) (agree-type-at t) agree-type.Post
-agree-type-cast-inner t c = search needs
-
-agree-type-mul-inner : (t : ℕ) → agree-type-lts.Need-mul-inner (agree-type-calls t) (agree-type-at t) agree-type.Post
-agree-type-mul-inner t c = search needs
-
 agree-type-add-inner : (t : ℕ) → agree-type-lts.Need-add-inner (agree-type-calls t) (agree-type-at t) agree-type.Post
 agree-type-add-inner t c = let i = array-inside _ _ _ _ (c .before .before .before .before .before .before .before .before .pre .1 .1 .inside) (c .before .entry4 .given .1) in omega arith
-
-agree-type-sub-survey-type : (t : ℕ) → agree-type-lts.Need-sub-survey-type (agree-type-calls t) (agree-type-at t) agree-type.Post
-agree-type-sub-survey-type t c = search needs
-
-agree-type-survey-type-requires : (t : ℕ) → agree-type-lts.Need-survey-type-requires (agree-type-calls t) (agree-type-at t) agree-type.Post
-agree-type-survey-type-requires t c κs = search needs
-
-agree-type-enum-told-3 : (t : ℕ) → agree-type-lts.Need-enum-told-3 (agree-type-calls t) (agree-type-at t) agree-type.Post
-agree-type-enum-told-3 t c = search needs
-
-agree-type-enum-known-base : (t : ℕ) → agree-type-lts.Need-enum-known-base (agree-type-calls t) (agree-type-at t) agree-type.Post
-agree-type-enum-known-base t c = search needs
-
-agree-type-cast-size : (t : ℕ) → agree-type-lts.Need-cast-size (agree-type-calls t) (agree-type-at t) agree-type.Post
-agree-type-cast-size t c = search needs
 
 agree-type-returns : (t : ℕ) → agree-type-lts.Need-returns (agree-type-calls t) (agree-type-at t) agree-type.Post
 agree-type-returns t c =
@@ -381,12 +228,6 @@ agree-type-returns t c =
 
 agree-type-scaled-requires : (t : ℕ) → agree-type-lts.Need-scaled-requires (agree-type-calls t) (agree-type-at t) agree-type.Post
 agree-type-scaled-requires t c κs = array-inside _ _ _ _ (c .before .before .before .before .before .before .before .before .before .before .before .before .before .before .pre .1 .1 .inside) (c .before .before .before .before .before .before .before .entry4 .given .1) .1
-
-agree-type-known-entry-at-requires : (t : ℕ) → agree-type-lts.Need-known-entry-at-requires (agree-type-calls t) (agree-type-at t) agree-type.Post
-agree-type-known-entry-at-requires t c κs = search needs
-
-agree-type-is-field-requires : (t : ℕ) → agree-type-lts.Need-is-field-requires (agree-type-calls t) (agree-type-at t) agree-type.Post
-agree-type-is-field-requires t c κs = search needs
 
 agree-type-agree-field-requires-2 : (t : ℕ) → agree-type-lts.Need-agree-field-requires-2 (agree-type-calls t) (agree-type-at t) agree-type.Post
 agree-type-agree-field-requires-2 t c κs =
@@ -400,9 +241,6 @@ agree-type-returns-2 t c =
 
 agree-type-enter-requires : (t : ℕ) → agree-type-lts.Need-enter-requires (agree-type-calls t) (agree-type-at t) agree-type.Post
 agree-type-enter-requires t c κs = sound-level _ _ _ _ _ (c .before .before .before .before .before .before .before .before .before .survey-type .ensures) (c .before .before .before .before .before .before .before .base .given .1)
-
-agree-type-div-agree-entries : (t : ℕ) → agree-type-lts.Need-div-agree-entries (agree-type-calls t) (agree-type-at t) agree-type.Post
-agree-type-div-agree-entries t c = search needs
 
 agree-type-agree-entries-requires : (t : ℕ) → agree-type-lts.Need-agree-entries-requires (agree-type-calls t) (agree-type-at t) agree-type.Post
 agree-type-agree-entries-requires t c κs =
@@ -437,148 +275,114 @@ agree-type-returns-9 t c =
 
 pub +agree-entries+agree-member+agree-members+agree-type-spec : {M : Type 1} → statement M
 +agree-entries+agree-member+agree-members+agree-type-spec =
-    close μ-agree-entries μ-agree-member μ-agree-members μ-agree-type (λ t. agree-entries-lts.spec (
-      agree-type-below t,
-      agree-type.Post,
-    )
+    close μ-agree-entries μ-agree-member μ-agree-members μ-agree-type (λ t. agree-entries-lts.spec
+    (agree-entries-calls t)
     (agree-entries-at t)
     agree-entries.Post
     agree-entries-Inv-loop
     agree-entries-μ-loop
     (agree-entries-loop-holds t)
-    (agree-entries-sub-if1 t)
+    (λ c. search needs)  -- agree-entries-sub-if1
     (agree-entries-returns t)
-    (agree-entries-agree-type-requires t)
-    (agree-entries-enum-told t)
+    (λ c κs. search needs)  -- agree-entries-agree-type-requires
+    (λ c. search needs)  -- agree-entries-enum-told
     (agree-entries-returns-2 t)
-    (agree-entries-enum-told-2 t)
+    (λ c. search needs)  -- agree-entries-enum-told-2
     (agree-entries-returns-3 t)
-    (agree-entries-enum-told-3 t)
-    (agree-entries-add-start t)
-    (agree-entries-add-done t)
-    (agree-entries-loop-less t)
+    (λ c. search needs)  -- agree-entries-enum-told-3
+    (λ c. search needs)  -- agree-entries-add-start
+    (λ c. search needs)  -- agree-entries-add-done
+    (λ c. search needs)  -- agree-entries-loop-less
     (agree-entries-loop-again t)
     (agree-entries-returns-4 t))
-    (λ t. agree-member-lts.spec (
-      known-entry-at-reads.Asked,
-      known-entry-at-reads.Learnt,
-      agree-field-reads.Asked,
-      agree-field-reads.Learnt,
-      agree-enumeration-reads.Asked,
-      agree-enumeration-reads.Learnt,
-      enter-reads.Asked,
-      enter-reads.Learnt,
-      agree-type-below t,
-      agree-type.Post,
-    )
+    (λ t. agree-member-lts.spec
+    (agree-member-calls t)
     (agree-known-member-at t)
     agree-member.Post
-    (agree-member-known-entry-at-requires t)
-    (agree-member-enum-known-entry t)
-    (agree-member-cast-agree-field t)
+    (λ c κs. search needs)  -- agree-member-known-entry-at-requires
+    (λ c. search needs)  -- agree-member-enum-known-entry
+    (λ c. search needs)  -- agree-member-cast-agree-field
     (agree-member-add-t17 t)
-    (agree-member-cast-t18 t)
+    (λ c. search needs)  -- agree-member-cast-t18
     (agree-member-add-t19 t)
-    (agree-member-agree-field-requires t)
-    (agree-member-enum-known-entry-2 t)
-    (agree-member-sub-agree-enumeration t)
+    (λ c κs. search needs)  -- agree-member-agree-field-requires
+    (λ c. search needs)  -- agree-member-enum-known-entry-2
+    (λ c. search needs)  -- agree-member-sub-agree-enumeration
     (agree-member-agree-enumeration-requires t)
-    (agree-member-enter-requires t)
+    (λ c κs. search needs)  -- agree-member-enter-requires
     (agree-member-agree-type-requires t)
     (agree-member-returns t)
     (agree-member-returns-2 t)
     (agree-member-returns-3 t))
-    (λ t. agree-members-lts.spec (
-      known-member-at-reads.Asked,
-      known-member-at-reads.Learnt,
-      agree-member-below t,
-      agree-member.Post,
-    )
+    (λ t. agree-members-lts.spec
+    (agree-members-calls t)
     (agree-members-at t)
     agree-members.Post
     agree-members-Inv-loop
     agree-members-μ-loop
     (agree-members-loop-holds t)
     (agree-members-returns t)
-    (agree-members-known-member-at-requires t)
-    (agree-members-enum-told t)
+    (λ c κs. search needs)  -- agree-members-known-member-at-requires
+    (λ c. search needs)  -- agree-members-enum-told
     (agree-members-returns-2 t)
-    (agree-members-enum-known-member t)
-    (agree-members-sub-if2 t)
-    (agree-members-cast-if2 t)
+    (λ c. search needs)  -- agree-members-enum-known-member
+    (λ c. search needs)  -- agree-members-sub-if2
+    (λ c. search needs)  -- agree-members-cast-if2
     (agree-members-returns-3 t)
     (agree-members-add-agree-member t)
-    (agree-members-cast-agree-member t)
+    (λ c. search needs)  -- agree-members-cast-agree-member
     (agree-members-add-agree-member-2 t)
-    (agree-members-cast-agree-member-2 t)
-    (agree-members-add-agree-member-3 t)
-    (agree-members-agree-member-requires t)
-    (agree-members-enum-told-2 t)
+    (λ c. search needs)  -- agree-members-cast-agree-member-2
+    (λ c. search needs)  -- agree-members-add-agree-member-3
+    (λ c κs. search needs)  -- agree-members-agree-member-requires
+    (λ c. search needs)  -- agree-members-enum-told-2
     (agree-members-returns-4 t)
-    (agree-members-enum-told-3 t)
+    (λ c. search needs)  -- agree-members-enum-told-3
     (agree-members-returns-5 t)
-    (agree-members-enum-known-got t)
-    (agree-members-sub-left t)
-    (agree-members-loop-less t)
+    (λ c. search needs)  -- agree-members-enum-known-got
+    (λ c. search needs)  -- agree-members-sub-left
+    (λ c. search needs)  -- agree-members-loop-less
     (agree-members-loop-again t)
     (agree-members-returns-6 t))
-    λ t. agree-type-lts.spec (
-      agree-field-reads.Asked,
-      agree-field-reads.Learnt,
-      agree-enumeration-reads.Asked,
-      agree-enumeration-reads.Learnt,
-      agree-members-below t,
-      agree-members.Post,
-      survey-type-reads.Asked,
-      survey-type-reads.Learnt,
-      scaled-reads.Asked,
-      scaled-reads.Learnt,
-      known-entry-at-reads.Asked,
-      known-entry-at-reads.Learnt,
-      is-field-reads.Asked,
-      is-field-reads.Learnt,
-      enter-reads.Asked,
-      enter-reads.Learnt,
-      agree-entries-below t,
-      agree-entries.Post,
-    )
+    λ t. agree-type-lts.spec
+    (agree-type-calls t)
     (agree-type-at t)
     agree-type.Post
-    (agree-type-sub-row t)
-    (agree-type-mul-row t)
-    (agree-type-array-read-row t)
-    (agree-type-enum-told t)
-    (agree-type-enum-told-2 t)
-    (agree-type-enum-known-entry t)
-    (agree-type-cast-agree-field t)
+    (λ c. search needs)  -- agree-type-sub-row
+    (λ c. search needs)  -- agree-type-mul-row
+    (λ c. search needs)  -- agree-type-array-read-row
+    (λ c. search needs)  -- agree-type-enum-told
+    (λ c. search needs)  -- agree-type-enum-told-2
+    (λ c. search needs)  -- agree-type-enum-known-entry
+    (λ c. search needs)  -- agree-type-cast-agree-field
     (agree-type-add-t33 t)
-    (agree-type-cast-t34 t)
+    (λ c. search needs)  -- agree-type-cast-t34
     (agree-type-add-t35 t)
-    (agree-type-agree-field-requires t)
-    (agree-type-enum-known-entry-2 t)
-    (agree-type-sub-agree-enumeration t)
+    (λ c κs. search needs)  -- agree-type-agree-field-requires
+    (λ c. search needs)  -- agree-type-enum-known-entry-2
+    (λ c. search needs)  -- agree-type-sub-agree-enumeration
     (agree-type-agree-enumeration-requires t)
-    (agree-type-enum-known-entry-3 t)
+    (λ c. search needs)  -- agree-type-enum-known-entry-3
     (agree-type-add-agree-members t)
-    (agree-type-agree-members-requires t)
-    (agree-type-enum-known-entry-4 t)
+    (λ c κs. search needs)  -- agree-type-agree-members-requires
+    (λ c. search needs)  -- agree-type-enum-known-entry-4
     (agree-type-add-below t)
-    (agree-type-cast-inner t)
-    (agree-type-mul-inner t)
+    (λ c. search needs)  -- agree-type-cast-inner
+    (λ c. search needs)  -- agree-type-mul-inner
     (agree-type-add-inner t)
-    (agree-type-sub-survey-type t)
-    (agree-type-survey-type-requires t)
-    (agree-type-enum-told-3 t)
-    (agree-type-enum-known-base t)
-    (agree-type-cast-size t)
+    (λ c. search needs)  -- agree-type-sub-survey-type
+    (λ c κs. search needs)  -- agree-type-survey-type-requires
+    (λ c. search needs)  -- agree-type-enum-told-3
+    (λ c. search needs)  -- agree-type-enum-known-base
+    (λ c. search needs)  -- agree-type-cast-size
     (agree-type-returns t)
     (agree-type-scaled-requires t)
-    (agree-type-known-entry-at-requires t)
-    (agree-type-is-field-requires t)
+    (λ c κs. search needs)  -- agree-type-known-entry-at-requires
+    (λ c κs. search needs)  -- agree-type-is-field-requires
     (agree-type-agree-field-requires-2 t)
     (agree-type-returns-2 t)
     (agree-type-enter-requires t)
-    (agree-type-div-agree-entries t)
+    (λ c. search needs)  -- agree-type-div-agree-entries
     (agree-type-agree-entries-requires t)
     (agree-type-returns-3 t)
     (agree-type-returns-4 t)

@@ -3,14 +3,8 @@ use Rattle.compare.proofs.Ranges.{field-past, field-same, field-differs
 use Rattle.compare.proofs.agree_field.Statement.{statement}
 use Rattle.compare.proofs.agree_field.Tie as tie
 
-sub-if1 : tie.Need-sub-if1
-sub-if1 c = search needs
-
 returns : tie.Need-returns
 returns c = search field-past
-
-equal-range-requires : tie.Need-equal-range-requires
-equal-range-requires c κs = search needs
 
 returns-2 : tie.Need-returns-2
 returns-2 c = search field-same
@@ -19,4 +13,10 @@ returns-3 : tie.Need-returns-3
 returns-3 c = search field-differs
 
 pub agree-field-spec : {M : Type 1} → statement M
-agree-field-spec = tie.close (tie.spec sub-if1 returns equal-range-requires returns-2 returns-3)
+agree-field-spec = tie.close
+    (tie.spec
+    (λ c. search needs)  -- sub-if1
+    returns
+    (λ c κs. search needs)  -- equal-range-requires
+    returns-2
+    returns-3)

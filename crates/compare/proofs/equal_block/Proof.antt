@@ -17,24 +17,6 @@ loop-holds : tie.Need-loop-holds Inv-loop μ-loop
 unfolding equalRange
 loop-holds c = (omega arith, refl)
 
-add-all : tie.Need-add-all Inv-loop μ-loop
-add-all c = omega arith
-
-shared-slice-read-all : tie.Need-shared-slice-read-all Inv-loop μ-loop
-shared-slice-read-all c = omega arith
-
-add-all-2 : tie.Need-add-all-2 Inv-loop μ-loop
-add-all-2 c = omega arith
-
-shared-slice-read-all-2 : tie.Need-shared-slice-read-all-2 Inv-loop μ-loop
-shared-slice-read-all-2 c = omega arith
-
-add-i : tie.Need-add-i Inv-loop μ-loop
-add-i c = omega arith
-
-loop-less : tie.Need-loop-less Inv-loop μ-loop
-loop-less c = omega arith
-
 loop-again : tie.Need-loop-again Inv-loop μ-loop
 loop-again c = (omega arith, bits-next _ _ _ _ (c .before .before .before .loop .all) (c .before .before .before .loop .inv .1))
 
@@ -50,11 +32,11 @@ equal-block-spec =
     Inv-loop
     μ-loop
     loop-holds
-    add-all
-    shared-slice-read-all
-    add-all-2
-    shared-slice-read-all-2
-    add-i
-    loop-less
+    (λ c. omega arith)  -- add-all
+    (λ c. omega arith)  -- shared-slice-read-all
+    (λ c. omega arith)  -- add-all-2
+    (λ c. omega arith)  -- shared-slice-read-all-2
+    (λ c. omega arith)  -- add-i
+    (λ c. omega arith)  -- loop-less
     loop-again
     returns)

@@ -21,20 +21,8 @@ abbrev μ-loop2 : tie.MeasureT-loop2
 loop-holds : tie.Need-loop-holds Inv-loop μ-loop Inv-loop2 μ-loop2
 loop-holds c = (omega arith, range-start _ _ _ _)
 
-sub-loop : tie.Need-sub-loop Inv-loop μ-loop Inv-loop2 μ-loop2
-sub-loop c = omega arith
-
-add-equal-block : tie.Need-add-equal-block Inv-loop μ-loop Inv-loop2 μ-loop2
-add-equal-block c = omega arith
-
 equal-block-requires : tie.Need-equal-block-requires Inv-loop μ-loop Inv-loop2 μ-loop2
 equal-block-requires c κs = (omega arith, omega arith)
-
-add-i : tie.Need-add-i Inv-loop μ-loop Inv-loop2 μ-loop2
-add-i c = omega arith
-
-loop-less : tie.Need-loop-less Inv-loop μ-loop Inv-loop2 μ-loop2
-loop-less c = omega arith
 
 loop-again : tie.Need-loop-again Inv-loop μ-loop Inv-loop2 μ-loop2
 loop-again c = (omega arith, range-past _ _ _ _ _ (c .before .before .before .loop .inv .1) 128 (c .before .equal-block .ensures) (c .if1 .taken) (omega arith))
@@ -45,26 +33,8 @@ returns c = range-not _ _ _ _ _ (c .before .before .before .loop .inv .1) 128 (c
 loop2-holds : tie.Need-loop2-holds Inv-loop μ-loop Inv-loop2 μ-loop2
 loop2-holds c = (omega arith, c .before .loop .inv .1)
 
-add-if2 : tie.Need-add-if2 Inv-loop μ-loop Inv-loop2 μ-loop2
-add-if2 c = omega arith
-
-shared-slice-read-if2 : tie.Need-shared-slice-read-if2 Inv-loop μ-loop Inv-loop2 μ-loop2
-shared-slice-read-if2 c = omega arith
-
-add-if2-2 : tie.Need-add-if2-2 Inv-loop μ-loop Inv-loop2 μ-loop2
-add-if2-2 c = omega arith
-
-shared-slice-read-if2-2 : tie.Need-shared-slice-read-if2-2 Inv-loop μ-loop Inv-loop2 μ-loop2
-shared-slice-read-if2-2 c = omega arith
-
 returns-2 : tie.Need-returns-2 Inv-loop μ-loop Inv-loop2 μ-loop2
 returns-2 c = range-stop _ _ _ _ _ (c .before .before .before .before .loop2 .inv .1) (c .if2 .taken) (omega arith)
-
-add-i-2 : tie.Need-add-i-2 Inv-loop μ-loop Inv-loop2 μ-loop2
-add-i-2 c = omega arith
-
-loop2-less : tie.Need-loop2-less Inv-loop μ-loop Inv-loop2 μ-loop2
-loop2-less c = omega arith
 
 loop2-again : tie.Need-loop2-again Inv-loop μ-loop Inv-loop2 μ-loop2
 loop2-again c = (omega arith, range-more _ _ _ _ _ (c .before .before .before .before .loop2 .inv .1) (c .if2 .left) (omega arith))
@@ -81,20 +51,20 @@ equal-range-spec =
     Inv-loop2
     μ-loop2
     loop-holds
-    sub-loop
-    add-equal-block
+    (λ c. omega arith)  -- sub-loop
+    (λ c. omega arith)  -- add-equal-block
     equal-block-requires
-    add-i
-    loop-less
+    (λ c. omega arith)  -- add-i
+    (λ c. omega arith)  -- loop-less
     loop-again
     returns
     loop2-holds
-    add-if2
-    shared-slice-read-if2
-    add-if2-2
-    shared-slice-read-if2-2
+    (λ c. omega arith)  -- add-if2
+    (λ c. omega arith)  -- shared-slice-read-if2
+    (λ c. omega arith)  -- add-if2-2
+    (λ c. omega arith)  -- shared-slice-read-if2-2
     returns-2
-    add-i-2
-    loop2-less
+    (λ c. omega arith)  -- add-i-2
+    (λ c. omega arith)  -- loop2-less
     loop2-again
     returns-3)

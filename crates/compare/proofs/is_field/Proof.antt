@@ -3,24 +3,6 @@ use Rattle.compare.proofs.Fields.{leaf-is, enumeration-is, compound-is-
 use Rattle.compare.proofs.is_field.Statement.{statement}
 use Rattle.compare.proofs.is_field.Tie as tie
 
-enum-told : tie.Need-enum-told
-enum-told c = search needs
-
-enum-told-2 : tie.Need-enum-told-2
-enum-told-2 c = search needs
-
-enum-told-3 : tie.Need-enum-told-3
-enum-told-3 c = search needs
-
-enum-told-4 : tie.Need-enum-told-4
-enum-told-4 c = search needs
-
-enum-told-5 : tie.Need-enum-told-5
-enum-told-5 c = search needs
-
-enum-told-6 : tie.Need-enum-told-6
-enum-told-6 c = search needs
-
 returns : tie.Need-returns
 returns c = search leaf-is
 
@@ -43,12 +25,12 @@ pub is-field-spec : {M : Type 1} → statement M
 is-field-spec =
     tie.close
     (tie.spec
-    enum-told
-    enum-told-2
-    enum-told-3
-    enum-told-4
-    enum-told-5
-    enum-told-6
+    (λ c. search needs)  -- enum-told
+    (λ c. search needs)  -- enum-told-2
+    (λ c. search needs)  -- enum-told-3
+    (λ c. search needs)  -- enum-told-4
+    (λ c. search needs)  -- enum-told-5
+    (λ c. search needs)  -- enum-told-6
     returns
     returns-2
     returns-3

@@ -4,9 +4,6 @@ use borrow.Author.Needs.{needs}
 use Rattle.compare.proofs.same_checked.Statement.{statement}
 use Rattle.compare.proofs.same_checked.Tie as tie
 
-sub-t8 : tie.Need-sub-t8
-sub-t8 c = search needs
-
 cast-t9 : tie.Need-cast-t9
 cast-t9 c = let i = zero-fits _ _ (c .before .before .before .before .before .before .before .pre) (c .before .if1 .taken) in omega arith
 
@@ -19,23 +16,14 @@ returns-2 c = search same-outside
 returns-3 : tie.Need-returns-3
 returns-3 c = search same-heap
 
-cast-size : tie.Need-cast-size
-cast-size c = search needs
-
 returns-4 : tie.Need-returns-4
 returns-4 c = search same-length
 
 returns-5 : tie.Need-returns-5
 returns-5 c = search same-length-b
 
-equal-range-requires : tie.Need-equal-range-requires
-equal-range-requires c κs = search needs
-
 returns-6 : tie.Need-returns-6
 returns-6 c = search same-equal
-
-same-fields-requires : tie.Need-same-fields-requires
-same-fields-requires c κs = search needs
 
 returns-7 : tie.Need-returns-7
 returns-7 c = search same-walked
@@ -44,15 +32,15 @@ pub same-checked-spec : {M : Type 1} → statement M
 same-checked-spec =
     tie.close
     (tie.spec
-    sub-t8
+    (λ c. search needs)  -- sub-t8
     cast-t9
     returns
     returns-2
     returns-3
-    cast-size
+    (λ c. search needs)  -- cast-size
     returns-4
     returns-5
-    equal-range-requires
+    (λ c κs. search needs)  -- equal-range-requires
     returns-6
-    same-fields-requires
+    (λ c κs. search needs)  -- same-fields-requires
     returns-7)

@@ -96,23 +96,11 @@ measure-type-calls t = (entry-at-reads.Asked, entry-at-reads.Learnt, leaf-measur
 measure-inner-returns : (t : ℕ) → measure-inner-lts.Need-returns (measure-inner-calls t) (measure-inner-at t) measure-inner.Post
 measure-inner-returns t c = search type-none
 
-measure-inner-entry-at-requires : (t : ℕ) → measure-inner-lts.Need-entry-at-requires (measure-inner-calls t) (measure-inner-at t) measure-inner.Post
-measure-inner-entry-at-requires t c κs = search needs
-
-measure-inner-enum-known-entry : (t : ℕ) → measure-inner-lts.Need-enum-known-entry (measure-inner-calls t) (measure-inner-at t) measure-inner.Post
-measure-inner-enum-known-entry t c = search needs
-
 measure-inner-leaf-measure-requires : (t : ℕ) → measure-inner-lts.Need-leaf-measure-requires (measure-inner-calls t) (measure-inner-at t) measure-inner.Post
 measure-inner-leaf-measure-requires t c κs = let i = leaf-inside _ _ _ _ ((c .before .before .before .entry-at) .ensures .1) ((c .before .entry) .given .1) in (i .0, omega arith)
 
-measure-inner-measure-type-requires : (t : ℕ) → measure-inner-lts.Need-measure-type-requires (measure-inner-calls t) (measure-inner-at t) measure-inner.Post
-measure-inner-measure-type-requires t c κs = search needs
-
 measure-inner-returns-2 : (t : ℕ) → measure-inner-lts.Need-returns-2 (measure-inner-calls t) (measure-inner-at t) measure-inner.Post
 measure-inner-returns-2 t c = search type-leaf
-
-measure-inner-returns-3 : (t : ℕ) → measure-inner-lts.Need-returns-3 (measure-inner-calls t) (measure-inner-at t) measure-inner.Post
-measure-inner-returns-3 t c = search needs
 
 abbrev measure-members-Inv-loop : measure-members-lts.InvT-loop
 measure-members-Inv-loop table pool row place count size levels edition left₀ sum₀ left sum =
@@ -125,20 +113,8 @@ measure-members-μ-loop table pool row place count size levels edition left₀ s
 measure-members-loop-holds : (t : ℕ) → measure-members-lts.Need-loop-holds (measure-members-calls t) (measure-members-at t) measure-members.Post measure-members-Inv-loop measure-members-μ-loop
 measure-members-loop-holds t c = (refl, (omega arith, members-start _ _ _ _ _))
 
-measure-members-member-at-requires : (t : ℕ) → measure-members-lts.Need-member-at-requires (measure-members-calls t) (measure-members-at t) measure-members.Post measure-members-Inv-loop measure-members-μ-loop
-measure-members-member-at-requires t c κs = search needs
-
-measure-members-enum-told : (t : ℕ) → measure-members-lts.Need-enum-told (measure-members-calls t) (measure-members-at t) measure-members.Post measure-members-Inv-loop measure-members-μ-loop
-measure-members-enum-told t c = search needs
-
 measure-members-returns : (t : ℕ) → measure-members-lts.Need-returns (measure-members-calls t) (measure-members-at t) measure-members.Post measure-members-Inv-loop measure-members-μ-loop
 measure-members-returns t c = search members-unnamed
-
-measure-members-enum-known-member : (t : ℕ) → measure-members-lts.Need-enum-known-member (measure-members-calls t) (measure-members-at t) measure-members.Post measure-members-Inv-loop measure-members-μ-loop
-measure-members-enum-known-member t c = search needs
-
-measure-members-cast-end : (t : ℕ) → measure-members-lts.Need-cast-end (measure-members-calls t) (measure-members-at t) measure-members.Post measure-members-Inv-loop measure-members-μ-loop
-measure-members-cast-end t c = search needs
 
 measure-members-add-end : (t : ℕ) → measure-members-lts.Need-add-end (measure-members-calls t) (measure-members-at t) measure-members.Post measure-members-Inv-loop measure-members-μ-loop
 measure-members-add-end t c = let i = named-inside _ _ _ _ ((c .before .member) .given .1) ((c .before .before .before .member-at) .ensures .1) in omega arith
@@ -146,32 +122,11 @@ measure-members-add-end t c = let i = named-inside _ _ _ _ ((c .before .member) 
 measure-members-add-measure-inner : (t : ℕ) → measure-members-lts.Need-add-measure-inner (measure-members-calls t) (measure-members-at t) measure-members.Post measure-members-Inv-loop measure-members-μ-loop
 measure-members-add-measure-inner t c = let i = named-inside _ _ _ _ ((c .before .member) .given .1) ((c .before .before .before .member-at) .ensures .1) in omega arith
 
-measure-members-measure-inner-requires : (t : ℕ) → measure-members-lts.Need-measure-inner-requires (measure-members-calls t) (measure-members-at t) measure-members.Post measure-members-Inv-loop measure-members-μ-loop
-measure-members-measure-inner-requires t c κs = search needs
-
-measure-members-enum-told-2 : (t : ℕ) → measure-members-lts.Need-enum-told-2 (measure-members-calls t) (measure-members-at t) measure-members.Post measure-members-Inv-loop measure-members-μ-loop
-measure-members-enum-told-2 t c = search needs
-
 measure-members-returns-2 : (t : ℕ) → measure-members-lts.Need-returns-2 (measure-members-calls t) (measure-members-at t) measure-members.Post measure-members-Inv-loop measure-members-μ-loop
 measure-members-returns-2 t c = search members-lost
 
-measure-members-enum-known-got : (t : ℕ) → measure-members-lts.Need-enum-known-got (measure-members-calls t) (measure-members-at t) measure-members.Post measure-members-Inv-loop measure-members-μ-loop
-measure-members-enum-known-got t c = search needs
-
 measure-members-valid-name-requires : (t : ℕ) → measure-members-lts.Need-valid-name-requires (measure-members-calls t) (measure-members-at t) measure-members.Post measure-members-Inv-loop measure-members-μ-loop
 measure-members-valid-name-requires t c κs = let i = named-inside _ _ _ _ ((c .before .before .before .before .before .member) .given .1) ((c .before .before .before .before .before .before .before .member-at) .ensures .1) in (omega arith, omega arith)
-
-measure-members-member-head-requires : (t : ℕ) → measure-members-lts.Need-member-head-requires (measure-members-calls t) (measure-members-at t) measure-members.Post measure-members-Inv-loop measure-members-μ-loop
-measure-members-member-head-requires t c κs = search needs
-
-measure-members-with-member-requires : (t : ℕ) → measure-members-lts.Need-with-member-requires (measure-members-calls t) (measure-members-at t) measure-members.Post measure-members-Inv-loop measure-members-μ-loop
-measure-members-with-member-requires t c κs = search needs
-
-measure-members-sub-left : (t : ℕ) → measure-members-lts.Need-sub-left (measure-members-calls t) (measure-members-at t) measure-members.Post measure-members-Inv-loop measure-members-μ-loop
-measure-members-sub-left t c = search needs
-
-measure-members-loop-less : (t : ℕ) → measure-members-lts.Need-loop-less (measure-members-calls t) (measure-members-at t) measure-members.Post measure-members-Inv-loop measure-members-μ-loop
-measure-members-loop-less t c = search needs
 
 measure-members-loop-again : (t : ℕ) → measure-members-lts.Need-loop-again (measure-members-calls t) (measure-members-at t) measure-members.Post measure-members-Inv-loop measure-members-μ-loop
 measure-members-loop-again t c = let i = named-inside _ _ _ _ ((c .before .before .before .before .before .before .before .before .member) .given .1) ((c .before .before .before .before .before .before .before .before .before .before .member-at) .ensures .1) in (member-size _ _ _ _ _ ((c .with-member) .ensures) ((c .before .before .before .before .before .before .before .before .before .before .before .before .loop) .inv .0), (member-short _ _ _ _ _ ((c .with-member) .ensures), members-next _ _ _ _ _ _ ((c .before .before .before .before .before .before .before .before .before .before .before .before .loop) .inv .1 .1) (omega arith) ((c .before .before .before .before .before .before .before .before .before .before .member-at) .ensures .0) ((c .before .before .before .before .before .before .before .before .member) .given .1) ((c .before .before .before .before .before .before .measure-inner) .ensures) (i .1) ((c .before .before .before .before .before .before .before .before .before .before .before .before .loop) .inv .0) ((c .before .before .before .before .got) .given .1) ((c .before .before .valid-name) .ensures) ((c .before .member-head) .ensures) ((c .with-member) .ensures)))
@@ -182,56 +137,14 @@ measure-members-returns-3 t c = search members-end
 measure-type-returns : (t : ℕ) → measure-type-lts.Need-returns (measure-type-calls t) (measure-type-at t) measure-type.Post
 measure-type-returns t c = search type-none
 
-measure-type-entry-at-requires : (t : ℕ) → measure-type-lts.Need-entry-at-requires (measure-type-calls t) (measure-type-at t) measure-type.Post
-measure-type-entry-at-requires t c κs = search needs
-
-measure-type-enum-told : (t : ℕ) → measure-type-lts.Need-enum-told (measure-type-calls t) (measure-type-at t) measure-type.Post
-measure-type-enum-told t c = search needs
-
-measure-type-enum-known-entry : (t : ℕ) → measure-type-lts.Need-enum-known-entry (measure-type-calls t) (measure-type-at t) measure-type.Post
-measure-type-enum-known-entry t c = search needs
-
 measure-type-leaf-measure-requires : (t : ℕ) → measure-type-lts.Need-leaf-measure-requires (measure-type-calls t) (measure-type-at t) measure-type.Post
 measure-type-leaf-measure-requires t c κs = let i = leaf-inside _ _ _ _ ((c .before .before .before .entry-at) .ensures .1) ((c .before .entry) .given .1) in (i .0, omega arith)
-
-measure-type-enum-known-entry-2 : (t : ℕ) → measure-type-lts.Need-enum-known-entry-2 (measure-type-calls t) (measure-type-at t) measure-type.Post
-measure-type-enum-known-entry-2 t c = search needs
 
 measure-type-add-measure-members : (t : ℕ) → measure-type-lts.Need-add-measure-members (measure-type-calls t) (measure-type-at t) measure-type.Post
 measure-type-add-measure-members t c = let i = compound-inside _ _ _ _ ((c .before .before .before .entry-at) .ensures .1) ((c .before .entry2) .given .1) in omega arith
 
-measure-type-sub-measure-members : (t : ℕ) → measure-type-lts.Need-sub-measure-members (measure-type-calls t) (measure-type-at t) measure-type.Post
-measure-type-sub-measure-members t c = search needs
-
-measure-type-measure-members-requires : (t : ℕ) → measure-type-lts.Need-measure-members-requires (measure-type-calls t) (measure-type-at t) measure-type.Post
-measure-type-measure-members-requires t c κs = search needs
-
-measure-type-enum-told-2 : (t : ℕ) → measure-type-lts.Need-enum-told-2 (measure-type-calls t) (measure-type-at t) measure-type.Post
-measure-type-enum-told-2 t c = search needs
-
-measure-type-enum-known-got : (t : ℕ) → measure-type-lts.Need-enum-known-got (measure-type-calls t) (measure-type-at t) measure-type.Post
-measure-type-enum-known-got t c = search needs
-
-measure-type-compound-measure-requires : (t : ℕ) → measure-type-lts.Need-compound-measure-requires (measure-type-calls t) (measure-type-at t) measure-type.Post
-measure-type-compound-measure-requires t c κs = search needs
-
-measure-type-enum-known-entry-3 : (t : ℕ) → measure-type-lts.Need-enum-known-entry-3 (measure-type-calls t) (measure-type-at t) measure-type.Post
-measure-type-enum-known-entry-3 t c = search needs
-
 measure-type-add-measure-type : (t : ℕ) → measure-type-lts.Need-add-measure-type (measure-type-calls t) (measure-type-at t) measure-type.Post
 measure-type-add-measure-type t c = let i = enumeration-inside _ _ _ _ ((c .before .before .before .entry-at) .ensures .1) ((c .before .entry3) .given .1) in omega arith
-
-measure-type-sub-measure-type : (t : ℕ) → measure-type-lts.Need-sub-measure-type (measure-type-calls t) (measure-type-at t) measure-type.Post
-measure-type-sub-measure-type t c = search needs
-
-measure-type-measure-type-requires : (t : ℕ) → measure-type-lts.Need-measure-type-requires (measure-type-calls t) (measure-type-at t) measure-type.Post
-measure-type-measure-type-requires t c κs = search needs
-
-measure-type-enum-told-3 : (t : ℕ) → measure-type-lts.Need-enum-told-3 (measure-type-calls t) (measure-type-at t) measure-type.Post
-measure-type-enum-told-3 t c = search needs
-
-measure-type-enum-known-got-2 : (t : ℕ) → measure-type-lts.Need-enum-known-got-2 (measure-type-calls t) (measure-type-at t) measure-type.Post
-measure-type-enum-known-got-2 t c = search needs
 
 measure-type-measure-enum-members-requires :
     (t : ℕ) → measure-type-lts.Need-measure-enum-members-requires (
@@ -256,12 +169,6 @@ measure-type-measure-enum-members-requires :
     ) (measure-type-at t) measure-type.Post
 measure-type-measure-enum-members-requires t c κs = search needs
 
-measure-type-enum-told-4 : (t : ℕ) → measure-type-lts.Need-enum-told-4 (measure-type-calls t) (measure-type-at t) measure-type.Post
-measure-type-enum-told-4 t c = search needs
-
-measure-type-enum-known-listed : (t : ℕ) → measure-type-lts.Need-enum-known-listed (measure-type-calls t) (measure-type-at t) measure-type.Post
-measure-type-enum-known-listed t c = search needs
-
 measure-type-enumeration-measure-requires :
     (t : ℕ) → measure-type-lts.Need-enumeration-measure-requires (
       entry-at-reads.Asked,
@@ -285,53 +192,17 @@ measure-type-enumeration-measure-requires :
     ) (measure-type-at t) measure-type.Post
 measure-type-enumeration-measure-requires t c κs = search needs
 
-measure-type-enum-known-entry-4 : (t : ℕ) → measure-type-lts.Need-enum-known-entry-4 (measure-type-calls t) (measure-type-at t) measure-type.Post
-measure-type-enum-known-entry-4 t c = search needs
-
 measure-type-add-measure-type-2 : (t : ℕ) → measure-type-lts.Need-add-measure-type-2 (measure-type-calls t) (measure-type-at t) measure-type.Post
 measure-type-add-measure-type-2 t c = let i = variableLength-inside _ _ _ _ ((c .before .before .before .entry-at) .ensures .1) ((c .before .entry4) .given .1) in omega arith
 
-measure-type-sub-measure-type-2 : (t : ℕ) → measure-type-lts.Need-sub-measure-type-2 (measure-type-calls t) (measure-type-at t) measure-type.Post
-measure-type-sub-measure-type-2 t c = search needs
-
-measure-type-measure-type-requires-2 : (t : ℕ) → measure-type-lts.Need-measure-type-requires-2 (measure-type-calls t) (measure-type-at t) measure-type.Post
-measure-type-measure-type-requires-2 t c κs = search needs
-
-measure-type-enum-told-5 : (t : ℕ) → measure-type-lts.Need-enum-told-5 (measure-type-calls t) (measure-type-at t) measure-type.Post
-measure-type-enum-told-5 t c = search needs
-
-measure-type-enum-known-got-3 : (t : ℕ) → measure-type-lts.Need-enum-known-got-3 (measure-type-calls t) (measure-type-at t) measure-type.Post
-measure-type-enum-known-got-3 t c = search needs
-
-measure-type-variable-measure-requires : (t : ℕ) → measure-type-lts.Need-variable-measure-requires (measure-type-calls t) (measure-type-at t) measure-type.Post
-measure-type-variable-measure-requires t c κs = search needs
-
-measure-type-enum-known-entry-5 : (t : ℕ) → measure-type-lts.Need-enum-known-entry-5 (measure-type-calls t) (measure-type-at t) measure-type.Post
-measure-type-enum-known-entry-5 t c = search needs
-
 measure-type-add-measure-type-3 : (t : ℕ) → measure-type-lts.Need-add-measure-type-3 (measure-type-calls t) (measure-type-at t) measure-type.Post
 measure-type-add-measure-type-3 t c = let i = array-inside _ _ _ _ ((c .before .before .before .entry-at) .ensures .1) ((c .before .entry5) .given .1) in omega arith
-
-measure-type-cast-measure-type : (t : ℕ) → measure-type-lts.Need-cast-measure-type (measure-type-calls t) (measure-type-at t) measure-type.Post
-measure-type-cast-measure-type t c = search needs
 
 measure-type-mul-measure-type : (t : ℕ) → measure-type-lts.Need-mul-measure-type (measure-type-calls t) (measure-type-at t) measure-type.Post
 measure-type-mul-measure-type t c = let i = array-inside _ _ _ _ ((c .before .before .before .entry-at) .ensures .1) ((c .before .entry5) .given .1) in omega arith
 
 measure-type-add-measure-type-4 : (t : ℕ) → measure-type-lts.Need-add-measure-type-4 (measure-type-calls t) (measure-type-at t) measure-type.Post
 measure-type-add-measure-type-4 t c = let i = array-inside _ _ _ _ ((c .before .before .before .entry-at) .ensures .1) ((c .before .entry5) .given .1) in omega arith
-
-measure-type-sub-measure-type-3 : (t : ℕ) → measure-type-lts.Need-sub-measure-type-3 (measure-type-calls t) (measure-type-at t) measure-type.Post
-measure-type-sub-measure-type-3 t c = search needs
-
-measure-type-measure-type-requires-3 : (t : ℕ) → measure-type-lts.Need-measure-type-requires-3 (measure-type-calls t) (measure-type-at t) measure-type.Post
-measure-type-measure-type-requires-3 t c κs = search needs
-
-measure-type-enum-told-6 : (t : ℕ) → measure-type-lts.Need-enum-told-6 (measure-type-calls t) (measure-type-at t) measure-type.Post
-measure-type-enum-told-6 t c = search needs
-
-measure-type-enum-known-got-4 : (t : ℕ) → measure-type-lts.Need-enum-known-got-4 (measure-type-calls t) (measure-type-at t) measure-type.Post
-measure-type-enum-known-got-4 t c = search needs
 
 measure-type-array-measure-requires : (t : ℕ) → measure-type-lts.Need-array-measure-requires (measure-type-calls t) (measure-type-at t) measure-type.Post
 measure-type-array-measure-requires t c κs = let i = array-inside _ _ _ _ ((c .before .before .before .before .before .before .before .entry-at) .ensures .1) ((c .before .before .before .before .before .entry5) .given .1) in i .1
@@ -375,77 +246,77 @@ pub +measure-inner+measure-members+measure-type-spec : {M : Type 1} → statemen
     (measure-inner-at t)
     measure-inner.Post
     (measure-inner-returns t)
-    (measure-inner-entry-at-requires t)
-    (measure-inner-enum-known-entry t)
+    (λ c κs. search needs)  -- measure-inner-entry-at-requires
+    (λ c. search needs)  -- measure-inner-enum-known-entry
     (measure-inner-leaf-measure-requires t)
-    (measure-inner-measure-type-requires t)
+    (λ c κs. search needs)  -- measure-inner-measure-type-requires
     (measure-inner-returns-2 t)
-    (measure-inner-returns-3 t))
+    (λ c. search needs))  -- measure-inner-returns-3
     (λ t. measure-members-lts.spec (measure-members-calls t)
     (measure-members-at t)
     measure-members.Post
     measure-members-Inv-loop
     measure-members-μ-loop
     (measure-members-loop-holds t)
-    (measure-members-member-at-requires t)
-    (measure-members-enum-told t)
+    (λ c κs. search needs)  -- measure-members-member-at-requires
+    (λ c. search needs)  -- measure-members-enum-told
     (measure-members-returns t)
-    (measure-members-enum-known-member t)
-    (measure-members-cast-end t)
+    (λ c. search needs)  -- measure-members-enum-known-member
+    (λ c. search needs)  -- measure-members-cast-end
     (measure-members-add-end t)
     (measure-members-add-measure-inner t)
-    (measure-members-measure-inner-requires t)
-    (measure-members-enum-told-2 t)
+    (λ c κs. search needs)  -- measure-members-measure-inner-requires
+    (λ c. search needs)  -- measure-members-enum-told-2
     (measure-members-returns-2 t)
-    (measure-members-enum-known-got t)
+    (λ c. search needs)  -- measure-members-enum-known-got
     (measure-members-valid-name-requires t)
-    (measure-members-member-head-requires t)
-    (measure-members-with-member-requires t)
-    (measure-members-sub-left t)
-    (measure-members-loop-less t)
+    (λ c κs. search needs)  -- measure-members-member-head-requires
+    (λ c κs. search needs)  -- measure-members-with-member-requires
+    (λ c. search needs)  -- measure-members-sub-left
+    (λ c. search needs)  -- measure-members-loop-less
     (measure-members-loop-again t)
     (measure-members-returns-3 t))
     λ t. measure-type-lts.spec (measure-type-calls t)
     (measure-type-at t)
     measure-type.Post
     (measure-type-returns t)
-    (measure-type-entry-at-requires t)
-    (measure-type-enum-told t)
-    (measure-type-enum-known-entry t)
+    (λ c κs. search needs)  -- measure-type-entry-at-requires
+    (λ c. search needs)  -- measure-type-enum-told
+    (λ c. search needs)  -- measure-type-enum-known-entry
     (measure-type-leaf-measure-requires t)
-    (measure-type-enum-known-entry-2 t)
+    (λ c. search needs)  -- measure-type-enum-known-entry-2
     (measure-type-add-measure-members t)
-    (measure-type-sub-measure-members t)
-    (measure-type-measure-members-requires t)
-    (measure-type-enum-told-2 t)
-    (measure-type-enum-known-got t)
-    (measure-type-compound-measure-requires t)
-    (measure-type-enum-known-entry-3 t)
+    (λ c. search needs)  -- measure-type-sub-measure-members
+    (λ c κs. search needs)  -- measure-type-measure-members-requires
+    (λ c. search needs)  -- measure-type-enum-told-2
+    (λ c. search needs)  -- measure-type-enum-known-got
+    (λ c κs. search needs)  -- measure-type-compound-measure-requires
+    (λ c. search needs)  -- measure-type-enum-known-entry-3
     (measure-type-add-measure-type t)
-    (measure-type-sub-measure-type t)
-    (measure-type-measure-type-requires t)
-    (measure-type-enum-told-3 t)
-    (measure-type-enum-known-got-2 t)
+    (λ c. search needs)  -- measure-type-sub-measure-type
+    (λ c κs. search needs)  -- measure-type-measure-type-requires
+    (λ c. search needs)  -- measure-type-enum-told-3
+    (λ c. search needs)  -- measure-type-enum-known-got-2
     (measure-type-measure-enum-members-requires t)
-    (measure-type-enum-told-4 t)
-    (measure-type-enum-known-listed t)
+    (λ c. search needs)  -- measure-type-enum-told-4
+    (λ c. search needs)  -- measure-type-enum-known-listed
     (measure-type-enumeration-measure-requires t)
-    (measure-type-enum-known-entry-4 t)
+    (λ c. search needs)  -- measure-type-enum-known-entry-4
     (measure-type-add-measure-type-2 t)
-    (measure-type-sub-measure-type-2 t)
-    (measure-type-measure-type-requires-2 t)
-    (measure-type-enum-told-5 t)
-    (measure-type-enum-known-got-3 t)
-    (measure-type-variable-measure-requires t)
-    (measure-type-enum-known-entry-5 t)
+    (λ c. search needs)  -- measure-type-sub-measure-type-2
+    (λ c κs. search needs)  -- measure-type-measure-type-requires-2
+    (λ c. search needs)  -- measure-type-enum-told-5
+    (λ c. search needs)  -- measure-type-enum-known-got-3
+    (λ c κs. search needs)  -- measure-type-variable-measure-requires
+    (λ c. search needs)  -- measure-type-enum-known-entry-5
     (measure-type-add-measure-type-3 t)
-    (measure-type-cast-measure-type t)
+    (λ c. search needs)  -- measure-type-cast-measure-type
     (measure-type-mul-measure-type t)
     (measure-type-add-measure-type-4 t)
-    (measure-type-sub-measure-type-3 t)
-    (measure-type-measure-type-requires-3 t)
-    (measure-type-enum-told-6 t)
-    (measure-type-enum-known-got-4 t)
+    (λ c. search needs)  -- measure-type-sub-measure-type-3
+    (λ c κs. search needs)  -- measure-type-measure-type-requires-3
+    (λ c. search needs)  -- measure-type-enum-told-6
+    (λ c. search needs)  -- measure-type-enum-known-got-4
     (measure-type-array-measure-requires t)
     (measure-type-returns-2 t)
     (measure-type-returns-3 t)

@@ -6,21 +6,9 @@ use Rattle.measure.specs.Measure.{arrayHead}
 use Rattle.measure.proofs.array_head.Statement.{statement}
 use Rattle.measure.proofs.array_head.Tie as tie
 
-mul-result : tie.Need-mul-result
-mul-result c = search needs
-
-add-result : tie.Need-add-result
-add-result c = search needs
-
 returns : tie.Need-returns
 unfolding arrayHead reservedBytes permutationBytes
 returns c = rw (lt-ltb ((c .before) .args .edition) 3 (omega arith)) (omega arith)
-
-mul-result-2 : tie.Need-mul-result-2
-mul-result-2 c = search needs
-
-add-result-2 : tie.Need-add-result-2
-add-result-2 c = search needs
 
 returns-2 : tie.Need-returns-2
 unfolding arrayHead reservedBytes permutationBytes
@@ -28,4 +16,11 @@ returns-2 c = rw (le-ltb ((c .before) .args .edition) 3 (omega arith)) (omega ar
 
 pub array-head-spec : {M : Type 1} → statement M
 array-head-spec =
-    tie.close (tie.spec mul-result add-result returns mul-result-2 add-result-2 returns-2)
+    tie.close
+    (tie.spec
+    (λ c. search needs)  -- mul-result
+    (λ c. search needs)  -- add-result
+    returns
+    (λ c. search needs)  -- mul-result-2
+    (λ c. search needs)  -- add-result-2
+    returns-2)

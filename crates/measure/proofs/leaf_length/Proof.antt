@@ -3,15 +3,6 @@ use borrow.Author.Needs.{needs}
 use Rattle.measure.proofs.leaf_length.Statement.{statement}
 use Rattle.measure.proofs.leaf_length.Tie as tie
 
-add-result : tie.Need-add-result
-add-result c = search needs
-
-padding-to-8-requires : tie.Need-padding-to-8-requires
-padding-to-8-requires c κs = search needs
-
-add-result-2 : tie.Need-add-result-2
-add-result-2 c = search needs
-
 returns : tie.Need-returns
 returns c = search length-12
 
@@ -34,9 +25,9 @@ pub leaf-length-spec : {M : Type 1} → statement M
 leaf-length-spec =
     tie.close
     (tie.spec
-    add-result
-    padding-to-8-requires
-    add-result-2
+    (λ c. search needs)  -- add-result
+    (λ c κs. search needs)  -- padding-to-8-requires
+    (λ c. search needs)  -- add-result-2
     returns
     returns-2
     returns-3

@@ -22,26 +22,8 @@ returns c = search listed-none
 loop-holds : tie.Need-loop-holds Inv-loop μ-loop
 loop-holds c = (omega arith, listed-start _ _ _ _ _ _ _ refl (omega arith))
 
-enum-member-at-requires : tie.Need-enum-member-at-requires Inv-loop μ-loop
-enum-member-at-requires c κs = search needs
-
-enum-told : tie.Need-enum-told Inv-loop μ-loop
-enum-told c = search needs
-
 returns-2 : tie.Need-returns-2 Inv-loop μ-loop
 returns-2 c = search listed-unnamed
-
-enum-known-member : tie.Need-enum-known-member Inv-loop μ-loop
-enum-known-member c = search needs
-
-cast-long : tie.Need-cast-long Inv-loop μ-loop
-cast-long c = search needs
-
-cast-value-length : tie.Need-cast-value-length Inv-loop μ-loop
-cast-value-length c = search needs
-
-sub-if2 : tie.Need-sub-if2 Inv-loop μ-loop
-sub-if2 c = search needs
 
 returns-3 : tie.Need-returns-3 Inv-loop μ-loop
 returns-3 c = search listed-past-pool
@@ -52,32 +34,11 @@ add-valid-name c = let i = enumNamed-inside _ _ _ _ ((c .before .before .member)
 valid-name-requires : tie.Need-valid-name-requires Inv-loop μ-loop
 valid-name-requires c κs = let i = enumNamed-inside _ _ _ _ ((c .before .before .member) .given .1) ((c .before .before .before .before .enum-member-at) .ensures .1) in (omega arith, omega arith)
 
-both-requires : tie.Need-both-requires Inv-loop μ-loop
-both-requires c κs = search needs
-
-both-requires-2 : tie.Need-both-requires-2 Inv-loop μ-loop
-both-requires-2 c κs = search needs
-
-name-length-requires : tie.Need-name-length-requires Inv-loop μ-loop
-name-length-requires c κs = search needs
-
-add-lengths-requires : tie.Need-add-lengths-requires Inv-loop μ-loop
-add-lengths-requires c κs = search needs
-
 add-r : tie.Need-add-r Inv-loop μ-loop
 add-r c = let i = enumNamed-inside _ _ _ _ ((c .before .before .before .before .before .before .before .member) .given .1) ((c .before .before .before .before .before .before .before .before .before .enum-member-at) .ensures .1) in omega arith
 
 add-p : tie.Need-add-p Inv-loop μ-loop
 add-p c = let i = enumNamed-inside _ _ _ _ ((c .before .before .before .before .before .before .before .member) .given .1) ((c .before .before .before .before .before .before .before .before .before .enum-member-at) .ensures .1) in omega arith
-
-add-values : tie.Need-add-values Inv-loop μ-loop
-add-values c = search needs
-
-sub-left : tie.Need-sub-left Inv-loop μ-loop
-sub-left c = search needs
-
-loop-less : tie.Need-loop-less Inv-loop μ-loop
-loop-less c = search needs
 
 loop-again : tie.Need-loop-again Inv-loop μ-loop
 loop-again c =
@@ -89,17 +50,8 @@ loop-again c =
 returns-4 : tie.Need-returns-4 Inv-loop μ-loop
 returns-4 c = search listed-behind
 
-sub-if4 : tie.Need-sub-if4 Inv-loop μ-loop
-sub-if4 c = search needs
-
 returns-5 : tie.Need-returns-5 Inv-loop μ-loop
 returns-5 c = search listed-lost
-
-add-t28 : tie.Need-add-t28 Inv-loop μ-loop
-add-t28 c = search needs
-
-add-lengths-requires-2 : tie.Need-add-lengths-requires-2 Inv-loop μ-loop
-add-lengths-requires-2 c κs = search needs
 
 returns-6 : tie.Need-returns-6 Inv-loop μ-loop
 returns-6 c = search listed-ended
@@ -112,29 +64,29 @@ measure-enum-members-spec =
     μ-loop
     returns
     loop-holds
-    enum-member-at-requires
-    enum-told
+    (λ c κs. search needs)  -- enum-member-at-requires
+    (λ c. search needs)  -- enum-told
     returns-2
-    enum-known-member
-    cast-long
-    cast-value-length
-    sub-if2
+    (λ c. search needs)  -- enum-known-member
+    (λ c. search needs)  -- cast-long
+    (λ c. search needs)  -- cast-value-length
+    (λ c. search needs)  -- sub-if2
     returns-3
     add-valid-name
     valid-name-requires
-    both-requires
-    both-requires-2
-    name-length-requires
-    add-lengths-requires
+    (λ c κs. search needs)  -- both-requires
+    (λ c κs. search needs)  -- both-requires-2
+    (λ c κs. search needs)  -- name-length-requires
+    (λ c κs. search needs)  -- add-lengths-requires
     add-r
     add-p
-    add-values
-    sub-left
-    loop-less
+    (λ c. search needs)  -- add-values
+    (λ c. search needs)  -- sub-left
+    (λ c. search needs)  -- loop-less
     loop-again
     returns-4
-    sub-if4
+    (λ c. search needs)  -- sub-if4
     returns-5
-    add-t28
-    add-lengths-requires-2
+    (λ c. search needs)  -- add-t28
+    (λ c κs. search needs)  -- add-lengths-requires-2
     returns-6)

@@ -18,21 +18,6 @@ loop-holds : tie.Need-loop-holds Inv-loop μ-loop
 unfolding allZero
 loop-holds c = (omega arith, refl)
 
-add-all : tie.Need-add-all Inv-loop μ-loop
-add-all c = omega arith
-
-mul-all : tie.Need-mul-all Inv-loop μ-loop
-mul-all c = omega arith
-
-shared-slice-read-all : tie.Need-shared-slice-read-all Inv-loop μ-loop
-shared-slice-read-all c = omega arith
-
-add-i : tie.Need-add-i Inv-loop μ-loop
-add-i c = omega arith
-
-loop-less : tie.Need-loop-less Inv-loop μ-loop
-loop-less c = omega arith
-
 loop-again : tie.Need-loop-again Inv-loop μ-loop
 loop-again c =
     let a = c .before .before .before .args in
@@ -51,10 +36,10 @@ clear-16-words-spec =
     Inv-loop
     μ-loop
     loop-holds
-    add-all
-    mul-all
-    shared-slice-read-all
-    add-i
-    loop-less
+    (λ c. omega arith)  -- add-all
+    (λ c. omega arith)  -- mul-all
+    (λ c. omega arith)  -- shared-slice-read-all
+    (λ c. omega arith)  -- add-i
+    (λ c. omega arith)  -- loop-less
     loop-again
     returns)

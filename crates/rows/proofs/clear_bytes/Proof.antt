@@ -20,18 +20,6 @@ abbrev μ-loop2 : tie.MeasureT-loop2
 loop-holds : tie.Need-loop-holds Inv-loop μ-loop Inv-loop2 μ-loop2
 loop-holds c = (omega arith, refl)
 
-sub-loop : tie.Need-sub-loop Inv-loop μ-loop Inv-loop2 μ-loop2
-sub-loop c = omega arith
-
-clear-64-bytes-requires : tie.Need-clear-64-bytes-requires Inv-loop μ-loop Inv-loop2 μ-loop2
-clear-64-bytes-requires c κs = omega arith
-
-add-i : tie.Need-add-i Inv-loop μ-loop Inv-loop2 μ-loop2
-add-i c = omega arith
-
-loop-less : tie.Need-loop-less Inv-loop μ-loop Inv-loop2 μ-loop2
-loop-less c = omega arith
-
 loop-again : tie.Need-loop-again Inv-loop μ-loop Inv-loop2 μ-loop2
 loop-again c = (omega arith, zero-past _ _ (c .before .before .before .before .before .args .to) (c .before .before .before .loop .i) (c .before .before .before .loop .inv .1) 64 (c .before .clear-64-bytes .ensures) (c .if1 .taken) (omega arith))
 
@@ -41,17 +29,8 @@ returns c = zero-not _ _ (c .before .before .before .before .before .args .to) (
 loop2-holds : tie.Need-loop2-holds Inv-loop μ-loop Inv-loop2 μ-loop2
 loop2-holds c = (omega arith, c .before .loop .inv .1)
 
-shared-slice-read-if2 : tie.Need-shared-slice-read-if2 Inv-loop μ-loop Inv-loop2 μ-loop2
-shared-slice-read-if2 c = omega arith
-
 returns-2 : tie.Need-returns-2 Inv-loop μ-loop Inv-loop2 μ-loop2
 returns-2 c = zero-stop (c .before .before .before .before .before .before .before .args .pool .now) _ (c .before .before .before .before .before .before .before .args .to) (c .before .before .before .loop2 .i) (c .before .before .before .loop2 .inv .1) (c .if2 .taken) (omega arith) (omega arith)
-
-add-i-2 : tie.Need-add-i-2 Inv-loop μ-loop Inv-loop2 μ-loop2
-add-i-2 c = omega arith
-
-loop2-less : tie.Need-loop2-less Inv-loop μ-loop Inv-loop2 μ-loop2
-loop2-less c = omega arith
 
 loop2-again : tie.Need-loop2-again Inv-loop μ-loop Inv-loop2 μ-loop2
 loop2-again c = (omega arith, zero-more (c .before .before .before .before .before .before .before .args .pool .now) _ (c .before .before .before .before .before .before .before .args .to) (c .before .before .before .loop2 .i) (c .before .before .before .loop2 .inv .1) (c .if2 .left) (omega arith) (omega arith))
@@ -68,16 +47,16 @@ clear-bytes-spec =
     Inv-loop2
     μ-loop2
     loop-holds
-    sub-loop
-    clear-64-bytes-requires
-    add-i
-    loop-less
+    (λ c. omega arith)  -- sub-loop
+    (λ c κs. omega arith)  -- clear-64-bytes-requires
+    (λ c. omega arith)  -- add-i
+    (λ c. omega arith)  -- loop-less
     loop-again
     returns
     loop2-holds
-    shared-slice-read-if2
+    (λ c. omega arith)  -- shared-slice-read-if2
     returns-2
-    add-i-2
-    loop2-less
+    (λ c. omega arith)  -- add-i-2
+    (λ c. omega arith)  -- loop2-less
     loop2-again
     returns-3)

@@ -7,144 +7,6 @@ use Rattle.rows.proofs.entry_at.Tie as tie
 returns : tie.Need-returns
 returns c = answered _ _ _ _ (short-entry _ _ _ _ (c .if1 .taken))
 
-mul-at : tie.Need-mul-at
-mul-at c = search needs
-
-mul-kind : tie.Need-mul-kind
-mul-kind c = search needs
-
-shared-slice-read-kind : tie.Need-shared-slice-read-kind
-shared-slice-read-kind c = search needs
-
-add-size : tie.Need-add-size
-add-size c = search needs
-
-mul-size : tie.Need-mul-size
-mul-size c = search needs
-
-shared-slice-read-size : tie.Need-shared-slice-read-size
-shared-slice-read-size c = search needs
-
-add-length : tie.Need-add-length
-add-length c = search needs
-
-mul-length : tie.Need-mul-length
-mul-length c = search needs
-
-shared-slice-read-length : tie.Need-shared-slice-read-length
-shared-slice-read-length c = search needs
-
-add-count : tie.Need-add-count
-add-count c = search needs
-
-mul-count : tie.Need-mul-count
-mul-count c = search needs
-
-shared-slice-read-count : tie.Need-shared-slice-read-count
-shared-slice-read-count c = search needs
-
-add-code : tie.Need-add-code
-add-code c = search needs
-
-mul-code : tie.Need-mul-code
-mul-code c = search needs
-
-shared-slice-read-code : tie.Need-shared-slice-read-code
-shared-slice-read-code c = search needs
-
-add-second : tie.Need-add-second
-add-second c = search needs
-
-mul-second : tie.Need-mul-second
-mul-second c = search needs
-
-shared-slice-read-second : tie.Need-shared-slice-read-second
-shared-slice-read-second c = search needs
-
-leaf-columns-requires : tie.Need-leaf-columns-requires
-leaf-columns-requires c κs = search needs
-
-both-requires : tie.Need-both-requires
-both-requires c κs = search needs
-
-entry-if-requires : tie.Need-entry-if-requires
-entry-if-requires c κs = search needs
-
-leaf-columns-requires-2 : tie.Need-leaf-columns-requires-2
-leaf-columns-requires-2 c κs = search needs
-
-entry-if-requires-2 : tie.Need-entry-if-requires-2
-entry-if-requires-2 c κs = search needs
-
-leaf-columns-requires-3 : tie.Need-leaf-columns-requires-3
-leaf-columns-requires-3 c κs = search needs
-
-entry-if-requires-3 : tie.Need-entry-if-requires-3
-entry-if-requires-3 c κs = search needs
-
-leaf-columns-requires-4 : tie.Need-leaf-columns-requires-4
-leaf-columns-requires-4 c κs = search needs
-
-both-requires-2 : tie.Need-both-requires-2
-both-requires-2 c κs = search needs
-
-entry-if-requires-4 : tie.Need-entry-if-requires-4
-entry-if-requires-4 c κs = search needs
-
-leaf-columns-requires-5 : tie.Need-leaf-columns-requires-5
-leaf-columns-requires-5 c κs = search needs
-
-entry-if-requires-5 : tie.Need-entry-if-requires-5
-entry-if-requires-5 c κs = search needs
-
-piece-columns-requires : tie.Need-piece-columns-requires
-piece-columns-requires c κs = search needs
-
-entry-if-requires-6 : tie.Need-entry-if-requires-6
-entry-if-requires-6 c κs = search needs
-
-group-columns-requires : tie.Need-group-columns-requires
-group-columns-requires c κs = search needs
-
-entry-if-requires-7 : tie.Need-entry-if-requires-7
-entry-if-requires-7 c κs = search needs
-
-leaf-columns-requires-6 : tie.Need-leaf-columns-requires-6
-leaf-columns-requires-6 c κs = search needs
-
-entry-if-requires-8 : tie.Need-entry-if-requires-8
-entry-if-requires-8 c κs = search needs
-
-group-columns-requires-2 : tie.Need-group-columns-requires-2
-group-columns-requires-2 c κs = search needs
-
-entry-if-requires-9 : tie.Need-entry-if-requires-9
-entry-if-requires-9 c κs = search needs
-
-variable-length-columns-requires : tie.Need-variable-length-columns-requires
-variable-length-columns-requires c κs = search needs
-
-add-t46 : tie.Need-add-t46
-add-t46 c = search needs
-
-mul-t47 : tie.Need-mul-t47
-mul-t47 c = search needs
-
-shared-slice-read-t49 : tie.Need-shared-slice-read-t49
-shared-slice-read-t49 c = search needs
-
-entry-if-requires-10 : tie.Need-entry-if-requires-10
-entry-if-requires-10 c κs = search needs
-
-piece-columns-requires-2 : tie.Need-piece-columns-requires-2
-piece-columns-requires-2 c κs = search needs
-
-both-requires-3 : tie.Need-both-requires-3
-both-requires-3 c κs = search needs
-
-entry-if-requires-11 : tie.Need-entry-if-requires-11
-entry-if-requires-11 c κs = search needs
-
 returns-2 : tie.Need-returns-2
 returns-2 c = tested _ _ _ _ _ (fixedPoint-entry _ _ _ _ (c .before .before .before .before .before .before .before .before .before .before .if1 .left) (c .before .before .before .match .keys1)) (c .entry-if .ensures) (c .before .both .ensures ∙ rw (c .before .before .leaf-columns .ensures))
 
@@ -186,52 +48,52 @@ entry-at-spec =
     tie.close
     (tie.spec
     returns
-    mul-at
-    mul-kind
-    shared-slice-read-kind
-    add-size
-    mul-size
-    shared-slice-read-size
-    add-length
-    mul-length
-    shared-slice-read-length
-    add-count
-    mul-count
-    shared-slice-read-count
-    add-code
-    mul-code
-    shared-slice-read-code
-    add-second
-    mul-second
-    shared-slice-read-second
-    leaf-columns-requires
-    both-requires
-    entry-if-requires
-    leaf-columns-requires-2
-    entry-if-requires-2
-    leaf-columns-requires-3
-    entry-if-requires-3
-    leaf-columns-requires-4
-    both-requires-2
-    entry-if-requires-4
-    leaf-columns-requires-5
-    entry-if-requires-5
-    piece-columns-requires
-    entry-if-requires-6
-    group-columns-requires
-    entry-if-requires-7
-    leaf-columns-requires-6
-    entry-if-requires-8
-    group-columns-requires-2
-    entry-if-requires-9
-    variable-length-columns-requires
-    add-t46
-    mul-t47
-    shared-slice-read-t49
-    entry-if-requires-10
-    piece-columns-requires-2
-    both-requires-3
-    entry-if-requires-11
+    (λ c. search needs)  -- mul-at
+    (λ c. search needs)  -- mul-kind
+    (λ c. search needs)  -- shared-slice-read-kind
+    (λ c. search needs)  -- add-size
+    (λ c. search needs)  -- mul-size
+    (λ c. search needs)  -- shared-slice-read-size
+    (λ c. search needs)  -- add-length
+    (λ c. search needs)  -- mul-length
+    (λ c. search needs)  -- shared-slice-read-length
+    (λ c. search needs)  -- add-count
+    (λ c. search needs)  -- mul-count
+    (λ c. search needs)  -- shared-slice-read-count
+    (λ c. search needs)  -- add-code
+    (λ c. search needs)  -- mul-code
+    (λ c. search needs)  -- shared-slice-read-code
+    (λ c. search needs)  -- add-second
+    (λ c. search needs)  -- mul-second
+    (λ c. search needs)  -- shared-slice-read-second
+    (λ c κs. search needs)  -- leaf-columns-requires
+    (λ c κs. search needs)  -- both-requires
+    (λ c κs. search needs)  -- entry-if-requires
+    (λ c κs. search needs)  -- leaf-columns-requires-2
+    (λ c κs. search needs)  -- entry-if-requires-2
+    (λ c κs. search needs)  -- leaf-columns-requires-3
+    (λ c κs. search needs)  -- entry-if-requires-3
+    (λ c κs. search needs)  -- leaf-columns-requires-4
+    (λ c κs. search needs)  -- both-requires-2
+    (λ c κs. search needs)  -- entry-if-requires-4
+    (λ c κs. search needs)  -- leaf-columns-requires-5
+    (λ c κs. search needs)  -- entry-if-requires-5
+    (λ c κs. search needs)  -- piece-columns-requires
+    (λ c κs. search needs)  -- entry-if-requires-6
+    (λ c κs. search needs)  -- group-columns-requires
+    (λ c κs. search needs)  -- entry-if-requires-7
+    (λ c κs. search needs)  -- leaf-columns-requires-6
+    (λ c κs. search needs)  -- entry-if-requires-8
+    (λ c κs. search needs)  -- group-columns-requires-2
+    (λ c κs. search needs)  -- entry-if-requires-9
+    (λ c κs. search needs)  -- variable-length-columns-requires
+    (λ c. search needs)  -- add-t46
+    (λ c. search needs)  -- mul-t47
+    (λ c. search needs)  -- shared-slice-read-t49
+    (λ c κs. search needs)  -- entry-if-requires-10
+    (λ c κs. search needs)  -- piece-columns-requires-2
+    (λ c κs. search needs)  -- both-requires-3
+    (λ c κs. search needs)  -- entry-if-requires-11
     returns-2
     returns-3
     returns-4

@@ -7,81 +7,6 @@ use Rattle.rows.proofs.known_entry_at.Tie as tie
 returns : tie.Need-returns
 returns c = unknown-answered _ _ _ _ (search short-entry)
 
-mul-at : tie.Need-mul-at
-mul-at c = search needs
-
-mul-kind : tie.Need-mul-kind
-mul-kind c = search needs
-
-shared-slice-read-kind : tie.Need-shared-slice-read-kind
-shared-slice-read-kind c = search needs
-
-add-size : tie.Need-add-size
-add-size c = search needs
-
-mul-size : tie.Need-mul-size
-mul-size c = search needs
-
-shared-slice-read-size : tie.Need-shared-slice-read-size
-shared-slice-read-size c = search needs
-
-add-length : tie.Need-add-length
-add-length c = search needs
-
-mul-length : tie.Need-mul-length
-mul-length c = search needs
-
-shared-slice-read-length : tie.Need-shared-slice-read-length
-shared-slice-read-length c = search needs
-
-add-count : tie.Need-add-count
-add-count c = search needs
-
-mul-count : tie.Need-mul-count
-mul-count c = search needs
-
-shared-slice-read-count : tie.Need-shared-slice-read-count
-shared-slice-read-count c = search needs
-
-add-code : tie.Need-add-code
-add-code c = search needs
-
-mul-code : tie.Need-mul-code
-mul-code c = search needs
-
-shared-slice-read-code : tie.Need-shared-slice-read-code
-shared-slice-read-code c = search needs
-
-add-second : tie.Need-add-second
-add-second c = search needs
-
-mul-second : tie.Need-mul-second
-mul-second c = search needs
-
-shared-slice-read-second : tie.Need-shared-slice-read-second
-shared-slice-read-second c = search needs
-
-add-third : tie.Need-add-third
-add-third c = search needs
-
-mul-third : tie.Need-mul-third
-mul-third c = search needs
-
-shared-slice-read-third : tie.Need-shared-slice-read-third
-shared-slice-read-third c = search needs
-
-piece-fits-requires : tie.Need-piece-fits-requires
-piece-fits-requires c κs = search needs
-
-entry-if-requires : tie.Need-entry-if-requires
-entry-if-requires c κs = search needs
-
-piece-fits-requires-2 : tie.Need-piece-fits-requires-2
-piece-fits-requires-2 c κs = search needs
-
-entry-if-requires-2 : tie.Need-entry-if-requires-2
-entry-if-requires-2 c κs = search needs
-
 returns-2 : tie.Need-returns-2
 returns-2 c = known-fixedPoint _ _ _ _ (search needs) (c .match .keys1)
 
@@ -123,31 +48,31 @@ known-entry-at-spec =
     tie.close
     (tie.spec
     returns
-    mul-at
-    mul-kind
-    shared-slice-read-kind
-    add-size
-    mul-size
-    shared-slice-read-size
-    add-length
-    mul-length
-    shared-slice-read-length
-    add-count
-    mul-count
-    shared-slice-read-count
-    add-code
-    mul-code
-    shared-slice-read-code
-    add-second
-    mul-second
-    shared-slice-read-second
-    add-third
-    mul-third
-    shared-slice-read-third
-    piece-fits-requires
-    entry-if-requires
-    piece-fits-requires-2
-    entry-if-requires-2
+    (λ c. search needs)  -- mul-at
+    (λ c. search needs)  -- mul-kind
+    (λ c. search needs)  -- shared-slice-read-kind
+    (λ c. search needs)  -- add-size
+    (λ c. search needs)  -- mul-size
+    (λ c. search needs)  -- shared-slice-read-size
+    (λ c. search needs)  -- add-length
+    (λ c. search needs)  -- mul-length
+    (λ c. search needs)  -- shared-slice-read-length
+    (λ c. search needs)  -- add-count
+    (λ c. search needs)  -- mul-count
+    (λ c. search needs)  -- shared-slice-read-count
+    (λ c. search needs)  -- add-code
+    (λ c. search needs)  -- mul-code
+    (λ c. search needs)  -- shared-slice-read-code
+    (λ c. search needs)  -- add-second
+    (λ c. search needs)  -- mul-second
+    (λ c. search needs)  -- shared-slice-read-second
+    (λ c. search needs)  -- add-third
+    (λ c. search needs)  -- mul-third
+    (λ c. search needs)  -- shared-slice-read-third
+    (λ c κs. search needs)  -- piece-fits-requires
+    (λ c κs. search needs)  -- entry-if-requires
+    (λ c κs. search needs)  -- piece-fits-requires-2
+    (λ c κs. search needs)  -- entry-if-requires-2
     returns-2
     returns-3
     returns-4

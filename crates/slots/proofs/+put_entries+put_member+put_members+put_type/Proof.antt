@@ -94,29 +94,11 @@ put-type-calls t = (entry-at-reads.Asked, entry-at-reads.Learnt, put-members-bel
 put-entries-loop-holds : (t : ℕ) → put-entries-lts.Need-loop-holds (put-entries-calls t) (put-entries-at t) put-entries.Post put-entries-Inv-loop put-entries-μ-loop
 put-entries-loop-holds t c = entries-start _ _ _ _ _ _
 
-put-entries-same-length : (t : ℕ) → put-entries-lts.Need-same-length (put-entries-calls t) (put-entries-at t) put-entries.Post put-entries-Inv-loop put-entries-μ-loop
-put-entries-same-length t c = search needs
-
 put-entries-returns : (t : ℕ) → put-entries-lts.Need-returns (put-entries-calls t) (put-entries-at t) put-entries.Post put-entries-Inv-loop put-entries-μ-loop
 put-entries-returns t c = search entries-far
 
-put-entries-put-type-requires : (t : ℕ) → put-entries-lts.Need-put-type-requires (put-entries-calls t) (put-entries-at t) put-entries.Post put-entries-Inv-loop put-entries-μ-loop
-put-entries-put-type-requires t c κs = search needs
-
-put-entries-add-start : (t : ℕ) → put-entries-lts.Need-add-start (put-entries-calls t) (put-entries-at t) put-entries.Post put-entries-Inv-loop put-entries-μ-loop
-put-entries-add-start t c = search needs
-
-put-entries-sub-left : (t : ℕ) → put-entries-lts.Need-sub-left (put-entries-calls t) (put-entries-at t) put-entries.Post put-entries-Inv-loop put-entries-μ-loop
-put-entries-sub-left t c = search needs
-
-put-entries-loop-less : (t : ℕ) → put-entries-lts.Need-loop-less (put-entries-calls t) (put-entries-at t) put-entries.Post put-entries-Inv-loop put-entries-μ-loop
-put-entries-loop-less t c = search needs
-
 put-entries-loop-again : (t : ℕ) → put-entries-lts.Need-loop-again (put-entries-calls t) (put-entries-at t) put-entries.Post put-entries-Inv-loop put-entries-μ-loop
 put-entries-loop-again t c = search entries-next
-
-put-entries-same-length-2 : (t : ℕ) → put-entries-lts.Need-same-length-2 (put-entries-calls t) (put-entries-at t) put-entries.Post put-entries-Inv-loop put-entries-μ-loop
-put-entries-same-length-2 t c = search needs
 
 put-entries-returns-2 : (t : ℕ) → put-entries-lts.Need-returns-2 (put-entries-calls t) (put-entries-at t) put-entries.Post put-entries-Inv-loop put-entries-μ-loop
 put-entries-returns-2 t c = search entries-end
@@ -126,15 +108,6 @@ put-member-returns t c = search member-none
 
 put-member-returns-2 : (t : ℕ) → put-member-lts.Need-returns-2 (put-member-calls t) (put-member-at t) put-member.Post
 put-member-returns-2 t c = search member-far
-
-put-member-enter-requires : (t : ℕ) → put-member-lts.Need-enter-requires (put-member-calls t) (put-member-at t) put-member.Post
-put-member-enter-requires t c κs = search needs
-
-put-member-put-type-requires : (t : ℕ) → put-member-lts.Need-put-type-requires (put-member-calls t) (put-member-at t) put-member.Post
-put-member-put-type-requires t c κs = search needs
-
-put-member-same-length : (t : ℕ) → put-member-lts.Need-same-length (put-member-calls t) (put-member-at t) put-member.Post
-put-member-same-length t c = search needs
 
 put-member-returns-3 : (t : ℕ) → put-member-lts.Need-returns-3 (put-member-calls t) (put-member-at t) put-member.Post
 put-member-returns-3 t c = search member-put
@@ -150,29 +123,11 @@ put-members-μ-loop table pool path row place count base out₀ at depth r₀ p�
 put-members-loop-holds : (t : ℕ) → put-members-lts.Need-loop-holds (put-members-calls t) (put-members-at t) put-members.Post put-members-Inv-loop put-members-μ-loop
 put-members-loop-holds t c = members-start _ _ _ _
 
-put-members-same-length : (t : ℕ) → put-members-lts.Need-same-length (put-members-calls t) (put-members-at t) put-members.Post put-members-Inv-loop put-members-μ-loop
-put-members-same-length t c = search needs
-
 put-members-returns : (t : ℕ) → put-members-lts.Need-returns (put-members-calls t) (put-members-at t) put-members.Post put-members-Inv-loop put-members-μ-loop
 put-members-returns t c = search members-deep
 
-put-members-member-at-requires : (t : ℕ) → put-members-lts.Need-member-at-requires (put-members-calls t) (put-members-at t) put-members.Post put-members-Inv-loop put-members-μ-loop
-put-members-member-at-requires t c κs = search needs
-
-put-members-enum-told : (t : ℕ) → put-members-lts.Need-enum-told (put-members-calls t) (put-members-at t) put-members.Post put-members-Inv-loop put-members-μ-loop
-put-members-enum-told t c = search needs
-
-put-members-same-length-2 : (t : ℕ) → put-members-lts.Need-same-length-2 (put-members-calls t) (put-members-at t) put-members.Post put-members-Inv-loop put-members-μ-loop
-put-members-same-length-2 t c = search needs
-
 put-members-returns-2 : (t : ℕ) → put-members-lts.Need-returns-2 (put-members-calls t) (put-members-at t) put-members.Post put-members-Inv-loop put-members-μ-loop
 put-members-returns-2 t c = search members-unnamed
-
-put-members-enum-known-member : (t : ℕ) → put-members-lts.Need-enum-known-member (put-members-calls t) (put-members-at t) put-members.Post put-members-Inv-loop put-members-μ-loop
-put-members-enum-known-member t c = search needs
-
-put-members-cast-inner : (t : ℕ) → put-members-lts.Need-cast-inner (put-members-calls t) (put-members-at t) put-members.Post put-members-Inv-loop put-members-μ-loop
-put-members-cast-inner t c = search needs
 
 put-members-add-inner : (t : ℕ) → put-members-lts.Need-add-inner (put-members-calls t) (put-members-at t) put-members.Post put-members-Inv-loop put-members-μ-loop
 put-members-add-inner t c = let i = named-inside _ _ _ _ (c .before .member .given .1) (c .before .before .before .member-at .ensures .1) in omega arith
@@ -180,74 +135,17 @@ put-members-add-inner t c = let i = named-inside _ _ _ _ (c .before .member .giv
 put-members-add-survey-type : (t : ℕ) → put-members-lts.Need-add-survey-type (put-members-calls t) (put-members-at t) put-members.Post put-members-Inv-loop put-members-μ-loop
 put-members-add-survey-type t c = let i = named-inside _ _ _ _ (c .before .member .given .1) (c .before .before .before .member-at .ensures .1) in omega arith
 
-put-members-sub-survey-type : (t : ℕ) → put-members-lts.Need-sub-survey-type (put-members-calls t) (put-members-at t) put-members.Post put-members-Inv-loop put-members-μ-loop
-put-members-sub-survey-type t c = search needs
-
-put-members-survey-type-requires : (t : ℕ) → put-members-lts.Need-survey-type-requires (put-members-calls t) (put-members-at t) put-members.Post put-members-Inv-loop put-members-μ-loop
-put-members-survey-type-requires t c κs = search needs
-
-put-members-enum-told-2 : (t : ℕ) → put-members-lts.Need-enum-told-2 (put-members-calls t) (put-members-at t) put-members.Post put-members-Inv-loop put-members-μ-loop
-put-members-enum-told-2 t c = search needs
-
-put-members-same-length-3 : (t : ℕ) → put-members-lts.Need-same-length-3 (put-members-calls t) (put-members-at t) put-members.Post put-members-Inv-loop put-members-μ-loop
-put-members-same-length-3 t c = search needs
-
 put-members-returns-3 : (t : ℕ) → put-members-lts.Need-returns-3 (put-members-calls t) (put-members-at t) put-members.Post put-members-Inv-loop put-members-μ-loop
 put-members-returns-3 t c = search members-unsound
-
-put-members-enum-known-got : (t : ℕ) → put-members-lts.Need-enum-known-got (put-members-calls t) (put-members-at t) put-members.Post put-members-Inv-loop put-members-μ-loop
-put-members-enum-known-got t c = search needs
 
 put-members-add-put-member : (t : ℕ) → put-members-lts.Need-add-put-member (put-members-calls t) (put-members-at t) put-members.Post put-members-Inv-loop put-members-μ-loop
 put-members-add-put-member t c = omega (arith, named-inside _ _ _ _ (c .before .before .before .before .before .member .given .1) (c .before .before .before .before .before .before .before .member-at .ensures .1) .0)
 
-put-members-cast-put-member : (t : ℕ) → put-members-lts.Need-cast-put-member (put-members-calls t) (put-members-at t) put-members.Post put-members-Inv-loop put-members-μ-loop
-put-members-cast-put-member t c = search needs
-
-put-members-add-put-member-2 : (t : ℕ) → put-members-lts.Need-add-put-member-2 (put-members-calls t) (put-members-at t) put-members.Post put-members-Inv-loop put-members-μ-loop
-put-members-add-put-member-2 t c = search needs
-
-put-members-put-member-requires : (t : ℕ) → put-members-lts.Need-put-member-requires (put-members-calls t) (put-members-at t) put-members.Post put-members-Inv-loop put-members-μ-loop
-put-members-put-member-requires t c κs = search needs
-
-put-members-sub-left : (t : ℕ) → put-members-lts.Need-sub-left (put-members-calls t) (put-members-at t) put-members.Post put-members-Inv-loop put-members-μ-loop
-put-members-sub-left t c = search needs
-
-put-members-loop-less : (t : ℕ) → put-members-lts.Need-loop-less (put-members-calls t) (put-members-at t) put-members.Post put-members-Inv-loop put-members-μ-loop
-put-members-loop-less t c = search needs
-
 put-members-loop-again : (t : ℕ) → put-members-lts.Need-loop-again (put-members-calls t) (put-members-at t) put-members.Post put-members-Inv-loop put-members-μ-loop
 put-members-loop-again t c = search members-next
 
-put-members-same-length-4 : (t : ℕ) → put-members-lts.Need-same-length-4 (put-members-calls t) (put-members-at t) put-members.Post put-members-Inv-loop put-members-μ-loop
-put-members-same-length-4 t c = search needs
-
 put-members-returns-4 : (t : ℕ) → put-members-lts.Need-returns-4 (put-members-calls t) (put-members-at t) put-members.Post put-members-Inv-loop put-members-μ-loop
 put-members-returns-4 t c = search members-end
-
-put-type-sub-row : (t : ℕ) → put-type-lts.Need-sub-row (put-type-calls t) (put-type-at t) put-type.Post
-put-type-sub-row t c = search needs
-
-put-type-mul-row : (t : ℕ) → put-type-lts.Need-mul-row (put-type-calls t) (put-type-at t) put-type.Post
-put-type-mul-row t c = search needs
-
-put-type-array-read-row : (t : ℕ) → put-type-lts.Need-array-read-row (put-type-calls t) (put-type-at t) put-type.Post
-put-type-array-read-row t c = search needs
-
-put-type-entry-at-requires : (t : ℕ) → put-type-lts.Need-entry-at-requires (put-type-calls t) (put-type-at t) put-type.Post
-put-type-entry-at-requires t c κs = search needs
-
-put-type-enum-told : (t : ℕ) → put-type-lts.Need-enum-told (put-type-calls t) (put-type-at t) put-type.Post
-put-type-enum-told t c = search needs
-
-put-type-enum-told-2 : (t : ℕ) → put-type-lts.Need-enum-told-2 (put-type-calls t) (put-type-at t) put-type.Post
-put-type-enum-told-2 t c = search needs
-
-put-type-enum-told-3 : (t : ℕ) → put-type-lts.Need-enum-told-3 (put-type-calls t) (put-type-at t) put-type.Post
-put-type-enum-told-3 t c = search needs
-
-put-type-enum-known-entry : (t : ℕ) → put-type-lts.Need-enum-known-entry (put-type-calls t) (put-type-at t) put-type.Post
-put-type-enum-known-entry t c = search needs
 
 put-type-returns : (t : ℕ) → put-type-lts.Need-returns (put-type-calls t) (put-type-at t) put-type.Post
 put-type-returns t c = search type-leaf-other
@@ -255,35 +153,11 @@ put-type-returns t c = search type-leaf-other
 put-type-returns-2 : (t : ℕ) → put-type-lts.Need-returns-2 (put-type-calls t) (put-type-at t) put-type.Post
 put-type-returns-2 t c = search type-leaf-full
 
-put-type-mul-out : (t : ℕ) → put-type-lts.Need-mul-out (put-type-calls t) (put-type-at t) put-type.Post
-put-type-mul-out t c = search needs
-
-put-type-slice-write-out : (t : ℕ) → put-type-lts.Need-slice-write-out (put-type-calls t) (put-type-at t) put-type.Post
-put-type-slice-write-out t c = search needs
-
-put-type-add-result : (t : ℕ) → put-type-lts.Need-add-result (put-type-calls t) (put-type-at t) put-type.Post
-put-type-add-result t c = search needs
-
-put-type-enum-known-entry-2 : (t : ℕ) → put-type-lts.Need-enum-known-entry-2 (put-type-calls t) (put-type-at t) put-type.Post
-put-type-enum-known-entry-2 t c = search needs
-
 put-type-add-put-members : (t : ℕ) → put-type-lts.Need-add-put-members (put-type-calls t) (put-type-at t) put-type.Post
 put-type-add-put-members t c = omega (arith, compound-inside _ _ _ _ (c .before .before .before .entry-at .ensures .1) (c .before .entry2 .given .1))
 
-put-type-put-members-requires : (t : ℕ) → put-type-lts.Need-put-members-requires (put-type-calls t) (put-type-at t) put-type.Post
-put-type-put-members-requires t c κs = search needs
-
-put-type-enum-known-entry-3 : (t : ℕ) → put-type-lts.Need-enum-known-entry-3 (put-type-calls t) (put-type-at t) put-type.Post
-put-type-enum-known-entry-3 t c = search needs
-
 put-type-returns-3 : (t : ℕ) → put-type-lts.Need-returns-3 (put-type-calls t) (put-type-at t) put-type.Post
 put-type-returns-3 t c = search type-array-deep
-
-put-type-cast-inner : (t : ℕ) → put-type-lts.Need-cast-inner (put-type-calls t) (put-type-at t) put-type.Post
-put-type-cast-inner t c = search needs
-
-put-type-mul-inner : (t : ℕ) → put-type-lts.Need-mul-inner (put-type-calls t) (put-type-at t) put-type.Post
-put-type-mul-inner t c = search needs
 
 put-type-add-inner : (t : ℕ) → put-type-lts.Need-add-inner (put-type-calls t) (put-type-at t) put-type.Post
 put-type-add-inner t c = let i = array-inside _ _ _ _ (c .before .before .before .before .entry-at .ensures .1) (c .before .before .entry3 .given .1) in omega arith
@@ -291,26 +165,11 @@ put-type-add-inner t c = let i = array-inside _ _ _ _ (c .before .before .before
 put-type-add-survey-type : (t : ℕ) → put-type-lts.Need-add-survey-type (put-type-calls t) (put-type-at t) put-type.Post
 put-type-add-survey-type t c = let i = array-inside _ _ _ _ (c .before .before .before .before .entry-at .ensures .1) (c .before .before .entry3 .given .1) in omega arith
 
-put-type-sub-survey-type : (t : ℕ) → put-type-lts.Need-sub-survey-type (put-type-calls t) (put-type-at t) put-type.Post
-put-type-sub-survey-type t c = search needs
-
-put-type-survey-type-requires : (t : ℕ) → put-type-lts.Need-survey-type-requires (put-type-calls t) (put-type-at t) put-type.Post
-put-type-survey-type-requires t c κs = search needs
-
-put-type-enum-told-4 : (t : ℕ) → put-type-lts.Need-enum-told-4 (put-type-calls t) (put-type-at t) put-type.Post
-put-type-enum-told-4 t c = search needs
-
-put-type-enum-known-got : (t : ℕ) → put-type-lts.Need-enum-known-got (put-type-calls t) (put-type-at t) put-type.Post
-put-type-enum-known-got t c = search needs
-
 put-type-returns-4 : (t : ℕ) → put-type-lts.Need-returns-4 (put-type-calls t) (put-type-at t) put-type.Post
 put-type-returns-4 t c = search type-array-none
 
 put-type-add-enter : (t : ℕ) → put-type-lts.Need-add-enter (put-type-calls t) (put-type-at t) put-type.Post
 put-type-add-enter t c = omega (arith, array-inside _ _ _ _ (c .before .before .before .before .before .before .before .before .before .before .entry-at .ensures .1) (c .before .before .before .before .before .before .before .before .entry3 .given .1) .0)
-
-put-type-enter-requires : (t : ℕ) → put-type-lts.Need-enter-requires (put-type-calls t) (put-type-at t) put-type.Post
-put-type-enter-requires t c κs = search needs
 
 put-type-scaled-requires : (t : ℕ) → put-type-lts.Need-scaled-requires (put-type-calls t) (put-type-at t) put-type.Post
 put-type-scaled-requires t c κs = array-inside _ _ _ _ (c .before .before .before .before .before .before .before .before .before .before .before .entry-at .ensures .1) (c .before .before .before .before .before .before .before .before .before .entry3 .given .1) .1
@@ -332,23 +191,14 @@ put-type-returns-6 t c = search type-enumeration
 put-type-returns-7 : (t : ℕ) → put-type-lts.Need-returns-7 (put-type-calls t) (put-type-at t) put-type.Post
 put-type-returns-7 t c = search type-variableLength
 
-put-type-same-length : (t : ℕ) → put-type-lts.Need-same-length (put-type-calls t) (put-type-at t) put-type.Post
-put-type-same-length t c = search needs
-
 put-type-returns-8 : (t : ℕ) → put-type-lts.Need-returns-8 (put-type-calls t) (put-type-at t) put-type.Post
 put-type-returns-8 t c = search type-leaf
-
-put-type-same-length-2 : (t : ℕ) → put-type-lts.Need-same-length-2 (put-type-calls t) (put-type-at t) put-type.Post
-put-type-same-length-2 t c = search needs
 
 put-type-returns-9 : (t : ℕ) → put-type-lts.Need-returns-9 (put-type-calls t) (put-type-at t) put-type.Post
 put-type-returns-9 t c = search type-compound
 
 put-type-returns-10 : (t : ℕ) → put-type-lts.Need-returns-10 (put-type-calls t) (put-type-at t) put-type.Post
 put-type-returns-10 t c = search type-array-unsound
-
-put-type-same-length-3 : (t : ℕ) → put-type-lts.Need-same-length-3 (put-type-calls t) (put-type-at t) put-type.Post
-put-type-same-length-3 t c = search needs
 
 put-type-returns-11 : (t : ℕ) → put-type-lts.Need-returns-11 (put-type-calls t) (put-type-at t) put-type.Post
 put-type-returns-11 t c =
@@ -357,130 +207,106 @@ put-type-returns-11 t c =
 
 pub +put-entries+put-member+put-members+put-type-spec : {M : Type 1} → statement M
 +put-entries+put-member+put-members+put-type-spec =
-    close μ-put-entries μ-put-member μ-put-members μ-put-type (λ t. put-entries-lts.spec (
-      put-type-below t,
-      put-type.Post,
-    )
+    close μ-put-entries μ-put-member μ-put-members μ-put-type (λ t. put-entries-lts.spec
+    (put-entries-calls t)
     (put-entries-at t)
     put-entries.Post
     put-entries-Inv-loop
     put-entries-μ-loop
     (put-entries-loop-holds t)
-    (put-entries-same-length t)
+    (λ c. search needs)  -- put-entries-same-length
     (put-entries-returns t)
-    (put-entries-put-type-requires t)
-    (put-entries-add-start t)
-    (put-entries-sub-left t)
-    (put-entries-loop-less t)
+    (λ c κs. search needs)  -- put-entries-put-type-requires
+    (λ c. search needs)  -- put-entries-add-start
+    (λ c. search needs)  -- put-entries-sub-left
+    (λ c. search needs)  -- put-entries-loop-less
     (put-entries-loop-again t)
-    (put-entries-same-length-2 t)
+    (λ c. search needs)  -- put-entries-same-length-2
     (put-entries-returns-2 t))
-    (λ t. put-member-lts.spec (
-      enter-reads.Asked,
-      enter-reads.Learnt,
-      put-type-below t,
-      put-type.Post,
-    )
+    (λ t. put-member-lts.spec
+    (put-member-calls t)
     (put-member-at t)
     put-member.Post
     (put-member-returns t)
     (put-member-returns-2 t)
-    (put-member-enter-requires t)
-    (put-member-put-type-requires t)
-    (put-member-same-length t)
+    (λ c κs. search needs)  -- put-member-enter-requires
+    (λ c κs. search needs)  -- put-member-put-type-requires
+    (λ c. search needs)  -- put-member-same-length
     (put-member-returns-3 t))
-    (λ t. put-members-lts.spec (
-      member-at-reads.Asked,
-      member-at-reads.Learnt,
-      survey-type-reads.Asked,
-      survey-type-reads.Learnt,
-      put-member-below t,
-      put-member.Post,
-    )
+    (λ t. put-members-lts.spec
+    (put-members-calls t)
     (put-members-at t)
     put-members.Post
     put-members-Inv-loop
     put-members-μ-loop
     (put-members-loop-holds t)
-    (put-members-same-length t)
+    (λ c. search needs)  -- put-members-same-length
     (put-members-returns t)
-    (put-members-member-at-requires t)
-    (put-members-enum-told t)
-    (put-members-same-length-2 t)
+    (λ c κs. search needs)  -- put-members-member-at-requires
+    (λ c. search needs)  -- put-members-enum-told
+    (λ c. search needs)  -- put-members-same-length-2
     (put-members-returns-2 t)
-    (put-members-enum-known-member t)
-    (put-members-cast-inner t)
+    (λ c. search needs)  -- put-members-enum-known-member
+    (λ c. search needs)  -- put-members-cast-inner
     (put-members-add-inner t)
     (put-members-add-survey-type t)
-    (put-members-sub-survey-type t)
-    (put-members-survey-type-requires t)
-    (put-members-enum-told-2 t)
-    (put-members-same-length-3 t)
+    (λ c. search needs)  -- put-members-sub-survey-type
+    (λ c κs. search needs)  -- put-members-survey-type-requires
+    (λ c. search needs)  -- put-members-enum-told-2
+    (λ c. search needs)  -- put-members-same-length-3
     (put-members-returns-3 t)
-    (put-members-enum-known-got t)
+    (λ c. search needs)  -- put-members-enum-known-got
     (put-members-add-put-member t)
-    (put-members-cast-put-member t)
-    (put-members-add-put-member-2 t)
-    (put-members-put-member-requires t)
-    (put-members-sub-left t)
-    (put-members-loop-less t)
+    (λ c. search needs)  -- put-members-cast-put-member
+    (λ c. search needs)  -- put-members-add-put-member-2
+    (λ c κs. search needs)  -- put-members-put-member-requires
+    (λ c. search needs)  -- put-members-sub-left
+    (λ c. search needs)  -- put-members-loop-less
     (put-members-loop-again t)
-    (put-members-same-length-4 t)
+    (λ c. search needs)  -- put-members-same-length-4
     (put-members-returns-4 t))
-    λ t. put-type-lts.spec (
-      entry-at-reads.Asked,
-      entry-at-reads.Learnt,
-      put-members-below t,
-      put-members.Post,
-      survey-type-reads.Asked,
-      survey-type-reads.Learnt,
-      enter-reads.Asked,
-      enter-reads.Learnt,
-      scaled-reads.Asked,
-      scaled-reads.Learnt,
-      put-entries-below t,
-      put-entries.Post,
-    )
+    λ t. put-type-lts.spec
+    (put-type-calls t)
     (put-type-at t)
     put-type.Post
-    (put-type-sub-row t)
-    (put-type-mul-row t)
-    (put-type-array-read-row t)
-    (put-type-entry-at-requires t)
-    (put-type-enum-told t)
-    (put-type-enum-told-2 t)
-    (put-type-enum-told-3 t)
-    (put-type-enum-known-entry t)
+    (λ c. search needs)  -- put-type-sub-row
+    (λ c. search needs)  -- put-type-mul-row
+    (λ c. search needs)  -- put-type-array-read-row
+    (λ c κs. search needs)  -- put-type-entry-at-requires
+    (λ c. search needs)  -- put-type-enum-told
+    (λ c. search needs)  -- put-type-enum-told-2
+    (λ c. search needs)  -- put-type-enum-told-3
+    (λ c. search needs)  -- put-type-enum-known-entry
     (put-type-returns t)
     (put-type-returns-2 t)
-    (put-type-mul-out t)
-    (put-type-slice-write-out t)
-    (put-type-add-result t)
-    (put-type-enum-known-entry-2 t)
+    (λ c. search needs)  -- put-type-mul-out
+    (λ c. search needs)  -- put-type-slice-write-out
+    (λ c. search needs)  -- put-type-add-result
+    (λ c. search needs)  -- put-type-enum-known-entry-2
     (put-type-add-put-members t)
-    (put-type-put-members-requires t)
-    (put-type-enum-known-entry-3 t)
+    (λ c κs. search needs)  -- put-type-put-members-requires
+    (λ c. search needs)  -- put-type-enum-known-entry-3
     (put-type-returns-3 t)
-    (put-type-cast-inner t)
-    (put-type-mul-inner t)
+    (λ c. search needs)  -- put-type-cast-inner
+    (λ c. search needs)  -- put-type-mul-inner
     (put-type-add-inner t)
     (put-type-add-survey-type t)
-    (put-type-sub-survey-type t)
-    (put-type-survey-type-requires t)
-    (put-type-enum-told-4 t)
-    (put-type-enum-known-got t)
+    (λ c. search needs)  -- put-type-sub-survey-type
+    (λ c κs. search needs)  -- put-type-survey-type-requires
+    (λ c. search needs)  -- put-type-enum-told-4
+    (λ c. search needs)  -- put-type-enum-known-got
     (put-type-returns-4 t)
     (put-type-add-enter t)
-    (put-type-enter-requires t)
+    (λ c κs. search needs)  -- put-type-enter-requires
     (put-type-scaled-requires t)
     (put-type-put-entries-requires t)
     (put-type-returns-5 t)
     (put-type-returns-6 t)
     (put-type-returns-7 t)
-    (put-type-same-length t)
+    (λ c. search needs)  -- put-type-same-length
     (put-type-returns-8 t)
-    (put-type-same-length-2 t)
+    (λ c. search needs)  -- put-type-same-length-2
     (put-type-returns-9 t)
     (put-type-returns-10 t)
-    (put-type-same-length-3 t)
+    (λ c. search needs)  -- put-type-same-length-3
     (put-type-returns-11 t)

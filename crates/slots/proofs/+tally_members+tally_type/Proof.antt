@@ -67,53 +67,17 @@ tally-type-calls t = (entry-at-reads.Asked, entry-at-reads.Learnt, leaf-tally-re
 tally-members-loop-holds : (t : ℕ) → tally-members-lts.Need-loop-holds (tally-members-calls t) (tally-members-at t) tally-members.Post tally-members-Inv-loop tally-members-μ-loop
 tally-members-loop-holds t c = members-start _
 
-tally-members-member-at-requires : (t : ℕ) → tally-members-lts.Need-member-at-requires (tally-members-calls t) (tally-members-at t) tally-members.Post tally-members-Inv-loop tally-members-μ-loop
-tally-members-member-at-requires t c κs = search needs
-
-tally-members-enum-told : (t : ℕ) → tally-members-lts.Need-enum-told (tally-members-calls t) (tally-members-at t) tally-members.Post tally-members-Inv-loop tally-members-μ-loop
-tally-members-enum-told t c = search needs
-
 tally-members-returns : (t : ℕ) → tally-members-lts.Need-returns (tally-members-calls t) (tally-members-at t) tally-members.Post tally-members-Inv-loop tally-members-μ-loop
 tally-members-returns t c = search members-unnamed
-
-tally-members-enum-known-member : (t : ℕ) → tally-members-lts.Need-enum-known-member (tally-members-calls t) (tally-members-at t) tally-members.Post tally-members-Inv-loop tally-members-μ-loop
-tally-members-enum-known-member t c = search needs
 
 tally-members-add-tally-type : (t : ℕ) → tally-members-lts.Need-add-tally-type (tally-members-calls t) (tally-members-at t) tally-members.Post tally-members-Inv-loop tally-members-μ-loop
 tally-members-add-tally-type t c = let i = named-inside _ _ _ _ (c .before .member .given .1) (c .before .before .before .member-at .ensures .1) in omega arith
 
-tally-members-cast-tally-type : (t : ℕ) → tally-members-lts.Need-cast-tally-type (tally-members-calls t) (tally-members-at t) tally-members.Post tally-members-Inv-loop tally-members-μ-loop
-tally-members-cast-tally-type t c = search needs
-
 tally-members-add-tally-type-2 : (t : ℕ) → tally-members-lts.Need-add-tally-type-2 (tally-members-calls t) (tally-members-at t) tally-members.Post tally-members-Inv-loop tally-members-μ-loop
 tally-members-add-tally-type-2 t c = let i = named-inside _ _ _ _ (c .before .member .given .1) (c .before .before .before .member-at .ensures .1) in omega arith
 
-tally-members-tally-type-requires : (t : ℕ) → tally-members-lts.Need-tally-type-requires (tally-members-calls t) (tally-members-at t) tally-members.Post tally-members-Inv-loop tally-members-μ-loop
-tally-members-tally-type-requires t c κs = search needs
-
-tally-members-enum-told-2 : (t : ℕ) → tally-members-lts.Need-enum-told-2 (tally-members-calls t) (tally-members-at t) tally-members.Post tally-members-Inv-loop tally-members-μ-loop
-tally-members-enum-told-2 t c = search needs
-
 tally-members-returns-2 : (t : ℕ) → tally-members-lts.Need-returns-2 (tally-members-calls t) (tally-members-at t) tally-members.Post tally-members-Inv-loop tally-members-μ-loop
 tally-members-returns-2 t c = search members-lost
-
-tally-members-enum-known-got : (t : ℕ) → tally-members-lts.Need-enum-known-got (tally-members-calls t) (tally-members-at t) tally-members.Post tally-members-Inv-loop tally-members-μ-loop
-tally-members-enum-known-got t c = search needs
-
-tally-members-either-requires : (t : ℕ) → tally-members-lts.Need-either-requires (tally-members-calls t) (tally-members-at t) tally-members.Post tally-members-Inv-loop tally-members-μ-loop
-tally-members-either-requires t c κs = search needs
-
-tally-members-sum-slots-requires : (t : ℕ) → tally-members-lts.Need-sum-slots-requires (tally-members-calls t) (tally-members-at t) tally-members.Post tally-members-Inv-loop tally-members-μ-loop
-tally-members-sum-slots-requires t c κs = search needs
-
-tally-members-further-end-requires : (t : ℕ) → tally-members-lts.Need-further-end-requires (tally-members-calls t) (tally-members-at t) tally-members.Post tally-members-Inv-loop tally-members-μ-loop
-tally-members-further-end-requires t c κs = search needs
-
-tally-members-sub-left : (t : ℕ) → tally-members-lts.Need-sub-left (tally-members-calls t) (tally-members-at t) tally-members.Post tally-members-Inv-loop tally-members-μ-loop
-tally-members-sub-left t c = search needs
-
-tally-members-loop-less : (t : ℕ) → tally-members-lts.Need-loop-less (tally-members-calls t) (tally-members-at t) tally-members.Post tally-members-Inv-loop tally-members-μ-loop
-tally-members-loop-less t c = search needs
 
 tally-members-loop-again : (t : ℕ) → tally-members-lts.Need-loop-again (tally-members-calls t) (tally-members-at t) tally-members.Post tally-members-Inv-loop tally-members-μ-loop
 tally-members-loop-again t c = search members-next
@@ -124,59 +88,14 @@ tally-members-returns-3 t c = search members-end
 tally-type-returns : (t : ℕ) → tally-type-lts.Need-returns (tally-type-calls t) (tally-type-at t) tally-type.Post
 tally-type-returns t c = search type-none
 
-tally-type-entry-at-requires : (t : ℕ) → tally-type-lts.Need-entry-at-requires (tally-type-calls t) (tally-type-at t) tally-type.Post
-tally-type-entry-at-requires t c κs = search needs
-
-tally-type-enum-told : (t : ℕ) → tally-type-lts.Need-enum-told (tally-type-calls t) (tally-type-at t) tally-type.Post
-tally-type-enum-told t c = search needs
-
-tally-type-enum-known-entry : (t : ℕ) → tally-type-lts.Need-enum-known-entry (tally-type-calls t) (tally-type-at t) tally-type.Post
-tally-type-enum-known-entry t c = search needs
-
 tally-type-add-leaf-tally : (t : ℕ) → tally-type-lts.Need-add-leaf-tally (tally-type-calls t) (tally-type-at t) tally-type.Post
 tally-type-add-leaf-tally t c = omega (arith, leaf-inside _ _ _ _ (c .before .before .before .entry-at .ensures .1) (c .before .entry .given .1))
-
-tally-type-cast-leaf-tally : (t : ℕ) → tally-type-lts.Need-cast-leaf-tally (tally-type-calls t) (tally-type-at t) tally-type.Post
-tally-type-cast-leaf-tally t c = search needs
 
 tally-type-add-leaf-tally-2 : (t : ℕ) → tally-type-lts.Need-add-leaf-tally-2 (tally-type-calls t) (tally-type-at t) tally-type.Post
 tally-type-add-leaf-tally-2 t c = omega (arith, leaf-inside _ _ _ _ (c .before .before .before .entry-at .ensures .1) (c .before .entry .given .1))
 
-tally-type-leaf-tally-requires : (t : ℕ) → tally-type-lts.Need-leaf-tally-requires (tally-type-calls t) (tally-type-at t) tally-type.Post
-tally-type-leaf-tally-requires t c κs = search needs
-
-tally-type-enum-known-entry-2 : (t : ℕ) → tally-type-lts.Need-enum-known-entry-2 (tally-type-calls t) (tally-type-at t) tally-type.Post
-tally-type-enum-known-entry-2 t c = search needs
-
 tally-type-add-tally-members : (t : ℕ) → tally-type-lts.Need-add-tally-members (tally-type-calls t) (tally-type-at t) tally-type.Post
 tally-type-add-tally-members t c = omega (arith, compound-inside _ _ _ _ (c .before .before .before .entry-at .ensures .1) (c .before .entry2 .given .1))
-
-tally-type-sub-tally-members : (t : ℕ) → tally-type-lts.Need-sub-tally-members (tally-type-calls t) (tally-type-at t) tally-type.Post
-tally-type-sub-tally-members t c = search needs
-
-tally-type-tally-members-requires : (t : ℕ) → tally-type-lts.Need-tally-members-requires (tally-type-calls t) (tally-type-at t) tally-type.Post
-tally-type-tally-members-requires t c κs = search needs
-
-tally-type-enum-told-2 : (t : ℕ) → tally-type-lts.Need-enum-told-2 (tally-type-calls t) (tally-type-at t) tally-type.Post
-tally-type-enum-told-2 t c = search needs
-
-tally-type-tally-hidden-requires : (t : ℕ) → tally-type-lts.Need-tally-hidden-requires (tally-type-calls t) (tally-type-at t) tally-type.Post
-tally-type-tally-hidden-requires t c κs = search needs
-
-tally-type-enum-told-3 : (t : ℕ) → tally-type-lts.Need-enum-told-3 (tally-type-calls t) (tally-type-at t) tally-type.Post
-tally-type-enum-told-3 t c = search needs
-
-tally-type-tally-hidden-requires-2 : (t : ℕ) → tally-type-lts.Need-tally-hidden-requires-2 (tally-type-calls t) (tally-type-at t) tally-type.Post
-tally-type-tally-hidden-requires-2 t c κs = search needs
-
-tally-type-enum-known-entry-3 : (t : ℕ) → tally-type-lts.Need-enum-known-entry-3 (tally-type-calls t) (tally-type-at t) tally-type.Post
-tally-type-enum-known-entry-3 t c = search needs
-
-tally-type-cast-inner : (t : ℕ) → tally-type-lts.Need-cast-inner (tally-type-calls t) (tally-type-at t) tally-type.Post
-tally-type-cast-inner t c = search needs
-
-tally-type-mul-inner : (t : ℕ) → tally-type-lts.Need-mul-inner (tally-type-calls t) (tally-type-at t) tally-type.Post
-tally-type-mul-inner t c = search needs
 
 tally-type-add-inner : (t : ℕ) → tally-type-lts.Need-add-inner (tally-type-calls t) (tally-type-at t) tally-type.Post
 tally-type-add-inner t c = let i = array-inside _ _ _ _ (c .before .before .before .entry-at .ensures .1) (c .before .entry3 .given .1) in omega arith
@@ -184,23 +103,8 @@ tally-type-add-inner t c = let i = array-inside _ _ _ _ (c .before .before .befo
 tally-type-add-tally-type : (t : ℕ) → tally-type-lts.Need-add-tally-type (tally-type-calls t) (tally-type-at t) tally-type.Post
 tally-type-add-tally-type t c = let i = array-inside _ _ _ _ (c .before .before .before .entry-at .ensures .1) (c .before .entry3 .given .1) in omega arith
 
-tally-type-sub-tally-type : (t : ℕ) → tally-type-lts.Need-sub-tally-type (tally-type-calls t) (tally-type-at t) tally-type.Post
-tally-type-sub-tally-type t c = search needs
-
-tally-type-tally-type-requires : (t : ℕ) → tally-type-lts.Need-tally-type-requires (tally-type-calls t) (tally-type-at t) tally-type.Post
-tally-type-tally-type-requires t c κs = search needs
-
-tally-type-enum-told-4 : (t : ℕ) → tally-type-lts.Need-enum-told-4 (tally-type-calls t) (tally-type-at t) tally-type.Post
-tally-type-enum-told-4 t c = search needs
-
-tally-type-enum-known-got : (t : ℕ) → tally-type-lts.Need-enum-known-got (tally-type-calls t) (tally-type-at t) tally-type.Post
-tally-type-enum-known-got t c = search needs
-
 tally-type-add-tally-entries : (t : ℕ) → tally-type-lts.Need-add-tally-entries (tally-type-calls t) (tally-type-at t) tally-type.Post
 tally-type-add-tally-entries t c = omega (arith, array-inside _ _ _ _ (c .before .before .before .before .before .before .before .entry-at .ensures .1) (c .before .before .before .before .before .entry3 .given .1) .0)
-
-tally-type-sub-tally-entries : (t : ℕ) → tally-type-lts.Need-sub-tally-entries (tally-type-calls t) (tally-type-at t) tally-type.Post
-tally-type-sub-tally-entries t c = search needs
 
 tally-type-scaled-requires : (t : ℕ) → tally-type-lts.Need-scaled-requires (tally-type-calls t) (tally-type-at t) tally-type.Post
 tally-type-scaled-requires t c κs = array-inside _ _ _ _ (c .before .before .before .before .before .before .before .entry-at .ensures .1) (c .before .before .before .before .before .entry3 .given .1) .1
@@ -247,69 +151,55 @@ pub +tally-members+tally-type-spec : {M : Type 1} → statement M
     tally-members-Inv-loop
     tally-members-μ-loop
     (tally-members-loop-holds t)
-    (tally-members-member-at-requires t)
-    (tally-members-enum-told t)
+    (λ c κs. search needs)  -- tally-members-member-at-requires
+    (λ c. search needs)  -- tally-members-enum-told
     (tally-members-returns t)
-    (tally-members-enum-known-member t)
+    (λ c. search needs)  -- tally-members-enum-known-member
     (tally-members-add-tally-type t)
-    (tally-members-cast-tally-type t)
+    (λ c. search needs)  -- tally-members-cast-tally-type
     (tally-members-add-tally-type-2 t)
-    (tally-members-tally-type-requires t)
-    (tally-members-enum-told-2 t)
+    (λ c κs. search needs)  -- tally-members-tally-type-requires
+    (λ c. search needs)  -- tally-members-enum-told-2
     (tally-members-returns-2 t)
-    (tally-members-enum-known-got t)
-    (tally-members-either-requires t)
-    (tally-members-sum-slots-requires t)
-    (tally-members-further-end-requires t)
-    (tally-members-sub-left t)
-    (tally-members-loop-less t)
+    (λ c. search needs)  -- tally-members-enum-known-got
+    (λ c κs. search needs)  -- tally-members-either-requires
+    (λ c κs. search needs)  -- tally-members-sum-slots-requires
+    (λ c κs. search needs)  -- tally-members-further-end-requires
+    (λ c. search needs)  -- tally-members-sub-left
+    (λ c. search needs)  -- tally-members-loop-less
     (tally-members-loop-again t)
     (tally-members-returns-3 t))
-    λ t. tally-type-lts.spec (
-      entry-at-reads.Asked,
-      entry-at-reads.Learnt,
-      leaf-tally-reads.Asked,
-      leaf-tally-reads.Learnt,
-      tally-members-below t,
-      tally-members.Post,
-      tally-hidden-reads.Asked,
-      tally-hidden-reads.Learnt,
-      tally-type-below t,
-      tally-type.Post,
-      scaled-reads.Asked,
-      scaled-reads.Learnt,
-      tally-entries-reads.Asked,
-      tally-entries-reads.Learnt,
-    )
+    λ t. tally-type-lts.spec
+    (tally-type-calls t)
     (tally-type-at t)
     tally-type.Post
     (tally-type-returns t)
-    (tally-type-entry-at-requires t)
-    (tally-type-enum-told t)
-    (tally-type-enum-known-entry t)
+    (λ c κs. search needs)  -- tally-type-entry-at-requires
+    (λ c. search needs)  -- tally-type-enum-told
+    (λ c. search needs)  -- tally-type-enum-known-entry
     (tally-type-add-leaf-tally t)
-    (tally-type-cast-leaf-tally t)
+    (λ c. search needs)  -- tally-type-cast-leaf-tally
     (tally-type-add-leaf-tally-2 t)
-    (tally-type-leaf-tally-requires t)
-    (tally-type-enum-known-entry-2 t)
+    (λ c κs. search needs)  -- tally-type-leaf-tally-requires
+    (λ c. search needs)  -- tally-type-enum-known-entry-2
     (tally-type-add-tally-members t)
-    (tally-type-sub-tally-members t)
-    (tally-type-tally-members-requires t)
-    (tally-type-enum-told-2 t)
-    (tally-type-tally-hidden-requires t)
-    (tally-type-enum-told-3 t)
-    (tally-type-tally-hidden-requires-2 t)
-    (tally-type-enum-known-entry-3 t)
-    (tally-type-cast-inner t)
-    (tally-type-mul-inner t)
+    (λ c. search needs)  -- tally-type-sub-tally-members
+    (λ c κs. search needs)  -- tally-type-tally-members-requires
+    (λ c. search needs)  -- tally-type-enum-told-2
+    (λ c κs. search needs)  -- tally-type-tally-hidden-requires
+    (λ c. search needs)  -- tally-type-enum-told-3
+    (λ c κs. search needs)  -- tally-type-tally-hidden-requires-2
+    (λ c. search needs)  -- tally-type-enum-known-entry-3
+    (λ c. search needs)  -- tally-type-cast-inner
+    (λ c. search needs)  -- tally-type-mul-inner
     (tally-type-add-inner t)
     (tally-type-add-tally-type t)
-    (tally-type-sub-tally-type t)
-    (tally-type-tally-type-requires t)
-    (tally-type-enum-told-4 t)
-    (tally-type-enum-known-got t)
+    (λ c. search needs)  -- tally-type-sub-tally-type
+    (λ c κs. search needs)  -- tally-type-tally-type-requires
+    (λ c. search needs)  -- tally-type-enum-told-4
+    (λ c. search needs)  -- tally-type-enum-known-got
     (tally-type-add-tally-entries t)
-    (tally-type-sub-tally-entries t)
+    (λ c. search needs)  -- tally-type-sub-tally-entries
     (tally-type-scaled-requires t)
     (tally-type-tally-entries-requires t)
     (tally-type-returns-2 t)

@@ -5,38 +5,14 @@ use borrow.Author.Needs.{needs}
 use Rattle.slots.proofs.embedded_reference_slots.Statement.{statement}
 use Rattle.slots.proofs.embedded_reference_slots.Tie as tie
 
-check-requires : tie.Need-check-requires
-check-requires c κs = search needs
-
-enum-told : tie.Need-enum-told
-enum-told c = search needs
-
-enum-known-checked : tie.Need-enum-known-checked
-enum-known-checked c = search needs
-
-sub-t14 : tie.Need-sub-t14
-sub-t14 c = search needs
-
 cast-t15 : tie.Need-cast-t15
 cast-t15 c = omega (arith, zero-fits _ _ [] (c .before .before .before .before .before .before .check .ensures) (c .before .before .before .before .checked .given .1))
 
 returns : tie.Need-returns
 returns c = search slots-zero
 
-tally-type-requires : tie.Need-tally-type-requires
-tally-type-requires c κs = search needs
-
-enum-told-2 : tie.Need-enum-told-2
-enum-told-2 c = search needs
-
-enum-known-got : tie.Need-enum-known-got
-enum-known-got c = search needs
-
 returns-2 : tie.Need-returns-2
 returns-2 c = search slots-other
-
-cast-size : tie.Need-cast-size
-cast-size c = search needs
 
 returns-3 : tie.Need-returns-3
 returns-3 c = search slots-many
@@ -47,17 +23,11 @@ returns-4 c = search slots-far
 returns-5 : tie.Need-returns-5
 returns-5 c = slots-room _ _ _ (c .before .before .before .before .before .before .before .before .before .before .before .before .before .before .before .before .check .ensures) (c .before .before .before .before .before .before .before .before .before .before .before .before .before .before .checked .given .1) (c .before .before .before .before .before .before .before .before .before .before .before .if1 .left) _ (c .before .before .before .before .before .before .before .before .before .before .tally-type .ensures) (c .before .before .before .before .before .before .before .before .got .given .1) (c .before .before .before .before .before .before .if2 .left) (c .before .before .before .if3 .left) (c .before .if4 .left) (search needs) (c .if5 .taken)
 
-put-type-requires : tie.Need-put-type-requires
-put-type-requires c κs = search needs
-
 returns-6 : tie.Need-returns-6
 returns-6 c = search slots-bad
 
 returns-7 : tie.Need-returns-7
 returns-7 c = search slots-lost
-
-same-length : tie.Need-same-length
-same-length c = search needs
 
 returns-8 : tie.Need-returns-8
 returns-8 c = slots-found _ _ _ (c .before .before .before .before .before .before .before .before .before .before .before .before .before .before .before .before .before .before .before .before .check .ensures) (c .before .before .before .before .before .before .before .before .before .before .before .before .before .before .before .before .before .before .checked .given .1) (c .before .before .before .before .before .before .before .before .before .before .before .before .before .before .before .if1 .left) _ (c .before .before .before .before .before .before .before .before .before .before .before .before .before .before .tally-type .ensures) (c .before .before .before .before .before .before .before .before .before .before .before .before .got .given .1) (c .before .before .before .before .before .before .before .before .before .before .if2 .left) (c .before .before .before .before .before .before .before .if3 .left) (c .before .before .before .before .before .if4 .left) (search needs) _ _ (c .before .before .before .before .if5 .left) (c .before .before .put-type .ensures)
@@ -66,22 +36,22 @@ pub embedded-reference-slots-spec : {M : Type 1} → statement M
 embedded-reference-slots-spec =
     tie.close
     (tie.spec
-    check-requires
-    enum-told
-    enum-known-checked
-    sub-t14
+    (λ c κs. search needs)  -- check-requires
+    (λ c. search needs)  -- enum-told
+    (λ c. search needs)  -- enum-known-checked
+    (λ c. search needs)  -- sub-t14
     cast-t15
     returns
-    tally-type-requires
-    enum-told-2
-    enum-known-got
+    (λ c κs. search needs)  -- tally-type-requires
+    (λ c. search needs)  -- enum-told-2
+    (λ c. search needs)  -- enum-known-got
     returns-2
-    cast-size
+    (λ c. search needs)  -- cast-size
     returns-3
     returns-4
     returns-5
-    put-type-requires
+    (λ c κs. search needs)  -- put-type-requires
     returns-6
     returns-7
-    same-length
+    (λ c. search needs)  -- same-length
     returns-8)

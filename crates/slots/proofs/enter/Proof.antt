@@ -7,15 +7,6 @@ use borrow.Author.Needs.{needs}
 use Rattle.slots.proofs.enter.Statement.{statement}
 use Rattle.slots.proofs.enter.Tie as tie
 
-mul-rows : tie.Need-mul-rows
-mul-rows c = search needs
-
-array-write-rows : tie.Need-array-write-rows
-array-write-rows c = search needs
-
-add-t5 : tie.Need-add-t5
-add-t5 c = search needs
-
 returns : tie.Need-returns
 returns c =
     let d = c .before .args .path .depth in
@@ -23,4 +14,9 @@ returns c =
     (refl, ap (λ (k : ℕ). getD (set (c .before .args .path .rows) d (c .before .args .row)) k 0) e ∙ getD-set-same (c .before .args .path .rows) d _ 0 (search needs))
 
 pub enter-spec : {M : Type 1} → statement M
-enter-spec = tie.close (tie.spec mul-rows array-write-rows add-t5 returns)
+enter-spec = tie.close
+    (tie.spec
+    (λ c. search needs)  -- mul-rows
+    (λ c. search needs)  -- array-write-rows
+    (λ c. search needs)  -- add-t5
+    returns)

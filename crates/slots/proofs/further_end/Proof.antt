@@ -3,17 +3,11 @@ use borrow.Author.Needs.{needs}
 use Rattle.slots.proofs.further_end.Statement.{statement}
 use Rattle.slots.proofs.further_end.Tie as tie
 
-returns : tie.Need-returns
-returns c = search needs
-
 returns-2 : tie.Need-returns-2
 returns-2 c = search further-none
 
 returns-3 : tie.Need-returns-3
 returns-3 c = search further-end
-
-add-moved : tie.Need-add-moved
-add-moved c = search needs
 
 returns-4 : tie.Need-returns-4
 returns-4 c = search further-past
@@ -26,4 +20,12 @@ returns-6 c = search further-more
 
 pub further-end-spec : {M : Type 1} → statement M
 further-end-spec =
-    tie.close (tie.spec returns returns-2 returns-3 add-moved returns-4 returns-5 returns-6)
+    tie.close
+    (tie.spec
+    (λ c. search needs)  -- returns
+    returns-2
+    returns-3
+    (λ c. search needs)  -- add-moved
+    returns-4
+    returns-5
+    returns-6)

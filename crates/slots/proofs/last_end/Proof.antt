@@ -12,9 +12,6 @@ returns-2 c = search last-none
 returns-3 : tie.Need-returns-3
 returns-3 c = search last-far
 
-sub-last : tie.Need-sub-last
-sub-last c = search needs
-
 mul-last : tie.Need-mul-last
 mul-last c = search last-multiplied
 
@@ -29,4 +26,13 @@ returns-5 c = search last-past
 
 pub last-end-spec : {M : Type 1} → statement M
 last-end-spec =
-    tie.close (tie.spec returns returns-2 returns-3 sub-last mul-last add-last returns-4 returns-5)
+    tie.close
+    (tie.spec
+    returns
+    returns-2
+    returns-3
+    (λ c. search needs)  -- sub-last
+    mul-last
+    add-last
+    returns-4
+    returns-5)

@@ -3,21 +3,6 @@ use borrow.Author.Needs.{needs}
 use Rattle.slots.proofs.tally_entries.Statement.{statement}
 use Rattle.slots.proofs.tally_entries.Tie as tie
 
-survey-type-requires : tie.Need-survey-type-requires
-survey-type-requires c κs = search needs
-
-enum-told : tie.Need-enum-told
-enum-told c = search needs
-
-enum-known-got : tie.Need-enum-known-got
-enum-known-got c = search needs
-
-times-slots-requires : tie.Need-times-slots-requires
-times-slots-requires c κs = search needs
-
-last-end-requires : tie.Need-last-end-requires
-last-end-requires c κs = search needs
-
 returns : tie.Need-returns
 returns c = search entries-unsound
 
@@ -28,10 +13,10 @@ pub tally-entries-spec : {M : Type 1} → statement M
 tally-entries-spec =
     tie.close
     (tie.spec
-    survey-type-requires
-    enum-told
-    enum-known-got
-    times-slots-requires
-    last-end-requires
+    (λ c κs. search needs)  -- survey-type-requires
+    (λ c. search needs)  -- enum-told
+    (λ c. search needs)  -- enum-known-got
+    (λ c κs. search needs)  -- times-slots-requires
+    (λ c κs. search needs)  -- last-end-requires
     returns
     returns-2)

@@ -12,11 +12,11 @@ returns-2 c = search times-many
 mul-all : tie.Need-mul-all
 mul-all c = search times-fits
 
-returns-3 : tie.Need-returns-3
-returns-3 c = search needs
-
-returns-4 : tie.Need-returns-4
-returns-4 c = search needs
-
 pub times-slots-spec : {M : Type 1} → statement M
-times-slots-spec = tie.close (tie.spec returns returns-2 mul-all returns-3 returns-4)
+times-slots-spec = tie.close
+    (tie.spec
+    returns
+    returns-2
+    mul-all
+    (λ c. search needs)  -- returns-3
+    (λ c. search needs))  -- returns-4

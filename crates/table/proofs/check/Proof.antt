@@ -4,15 +4,6 @@ use Rattle.table.proofs.Checking.{check-unsound, check-bad, check-good,
 use Rattle.table.proofs.check.Statement.{statement}
 use Rattle.table.proofs.check.Tie as tie
 
-survey-type-requires : tie.Need-survey-type-requires
-survey-type-requires c κs = search needs
-
-enum-told : tie.Need-enum-told
-enum-told c = search needs
-
-enum-known-got : tie.Need-enum-known-got
-enum-known-got c = search needs
-
 ends-at-requires : tie.Need-ends-at-requires
 ends-at-requires c κs =
     check-fits _ _ (c .before .before .before .survey-type .ensures) _ (c .before .got .given .1) (λ i. omega (arith, c .before .before .before .before .shared-slice-known2 .given i))
@@ -30,9 +21,9 @@ pub check-spec : {M : Type 1} → statement M
 check-spec =
     tie.close
     (tie.spec
-    survey-type-requires
-    enum-told
-    enum-known-got
+    (λ c κs. search needs)  -- survey-type-requires
+    (λ c. search needs)  -- enum-told
+    (λ c. search needs)  -- enum-known-got
     ends-at-requires
     returns
     returns-2

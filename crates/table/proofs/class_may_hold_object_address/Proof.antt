@@ -21,9 +21,6 @@ above : (b x : ℕ) → x ≡ lowBits 4 b → 6 ≤ x → 11 ≤ x → false ≡
 unfolding classMayHoldObjectAddress
 above b x e l h = rw (le-leb 6 (lowBits 4 b) (omega arith), lt-leb (lowBits 4 b) 10 (omega arith))
 
-low4-requires : tie.Need-low4-requires
-low4-requires c κs = search needs
-
 returns : tie.Need-returns
 returns c = search inside
 
@@ -34,4 +31,9 @@ returns-3 : tie.Need-returns-3
 returns-3 c = search above
 
 pub class-may-hold-object-address-spec : {M : Type 1} → statement M
-class-may-hold-object-address-spec = tie.close (tie.spec low4-requires returns returns-2 returns-3)
+class-may-hold-object-address-spec = tie.close
+    (tie.spec
+    (λ c κs. search needs)  -- low4-requires
+    returns
+    returns-2
+    returns-3)

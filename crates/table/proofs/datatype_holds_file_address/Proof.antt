@@ -3,15 +3,6 @@ use Rattle.table.proofs.Answers.{file-bad, file-yes, file-no}
 use Rattle.table.proofs.datatype_holds_file_address.Statement.{statement}
 use Rattle.table.proofs.datatype_holds_file_address.Tie as tie
 
-check-requires : tie.Need-check-requires
-check-requires c κs = search needs
-
-enum-told : tie.Need-enum-told
-enum-told c = search needs
-
-enum-known-checked : tie.Need-enum-known-checked
-enum-known-checked c = search needs
-
 returns : tie.Need-returns
 returns c = search file-bad
 
@@ -22,4 +13,11 @@ returns-3 : tie.Need-returns-3
 returns-3 c = search file-no
 
 pub datatype-holds-file-address-spec : {M : Type 1} → statement M
-datatype-holds-file-address-spec = tie.close (tie.spec check-requires enum-told enum-known-checked returns returns-2 returns-3)
+datatype-holds-file-address-spec = tie.close
+    (tie.spec
+    (λ c κs. search needs)  -- check-requires
+    (λ c. search needs)  -- enum-told
+    (λ c. search needs)  -- enum-known-checked
+    returns
+    returns-2
+    returns-3)

@@ -22,29 +22,11 @@ abbrev μ-loop : tie.MeasureT-loop
 loop-holds : tie.Need-loop-holds Inv-loop μ-loop
 loop-holds c = ((omega arith, omega arith), (c .before .pre, scale-start _ _ _ _ _ _ _ (mul-comm _ 4) refl))
 
-cast-read-uint : tie.Need-cast-read-uint Inv-loop μ-loop
-cast-read-uint c = search needs
-
-mul-read-uint : tie.Need-mul-read-uint Inv-loop μ-loop
-mul-read-uint c = omega arith
-
-add-read-uint : tie.Need-add-read-uint Inv-loop μ-loop
-add-read-uint c = omega arith
-
 read-uint-requires : tie.Need-read-uint-requires Inv-loop μ-loop
 read-uint-requires c κs = (omega arith, omega arith)
 
-cast-next : tie.Need-cast-next Inv-loop μ-loop
-cast-next c = search needs
-
 mul-next : tie.Need-mul-next Inv-loop μ-loop
 mul-next c = omega (arith, cap-room (c .before .before .loop .total) (c .read-uint .result) (omega arith) (omega arith))
-
-add-i : tie.Need-add-i Inv-loop μ-loop
-add-i c = omega arith
-
-loop-less : tie.Need-loop-less Inv-loop μ-loop
-loop-less c = omega arith
 
 loop-again : tie.Need-loop-again Inv-loop μ-loop
 loop-again c =
@@ -65,13 +47,13 @@ scaled-spec =
     Inv-loop
     μ-loop
     loop-holds
-    cast-read-uint
-    mul-read-uint
-    add-read-uint
+    (λ c. search needs)  -- cast-read-uint
+    (λ c. omega arith)  -- mul-read-uint
+    (λ c. omega arith)  -- add-read-uint
     read-uint-requires
-    cast-next
+    (λ c. search needs)  -- cast-next
     mul-next
-    add-i
-    loop-less
+    (λ c. omega arith)  -- add-i
+    (λ c. omega arith)  -- loop-less
     loop-again
     returns)

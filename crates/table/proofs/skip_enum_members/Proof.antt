@@ -23,23 +23,8 @@ returns c = search skip-none
 loop-holds : tie.Need-loop-holds Inv-loop μ-loop
 loop-holds c = (omega arith, skip-start _ _ _ _ _ refl (omega arith))
 
-enum-member-at-requires : tie.Need-enum-member-at-requires Inv-loop μ-loop
-enum-member-at-requires c κs = search needs
-
-enum-told : tie.Need-enum-told Inv-loop μ-loop
-enum-told c = search needs
-
 returns-2 : tie.Need-returns-2 Inv-loop μ-loop
 returns-2 c = search skip-unnamed
-
-enum-known-member : tie.Need-enum-known-member Inv-loop μ-loop
-enum-known-member c = search needs
-
-cast-length : tie.Need-cast-length Inv-loop μ-loop
-cast-length c = search needs
-
-sub-if2 : tie.Need-sub-if2 Inv-loop μ-loop
-sub-if2 c = search needs
 
 returns-3 : tie.Need-returns-3 Inv-loop μ-loop
 returns-3 c = search skip-past
@@ -49,22 +34,10 @@ add-r c =
     let i = enumNamed-inside _ _ _ _ (c .before .before .member .given .1) (c .before .before .before .before .enum-member-at .ensures .1) in
     omega arith
 
-cast-p : tie.Need-cast-p Inv-loop μ-loop
-cast-p c = search needs
-
 add-p : tie.Need-add-p Inv-loop μ-loop
 add-p c =
     let i = enumNamed-inside _ _ _ _ (c .before .before .member .given .1) (c .before .before .before .before .enum-member-at .ensures .1) in
     omega arith
-
-add-values : tie.Need-add-values Inv-loop μ-loop
-add-values c = search needs
-
-sub-left : tie.Need-sub-left Inv-loop μ-loop
-sub-left c = search needs
-
-loop-less : tie.Need-loop-less Inv-loop μ-loop
-loop-less c = search needs
 
 loop-again : tie.Need-loop-again Inv-loop μ-loop
 loop-again c = (omega arith, search skip-next)
@@ -72,14 +45,8 @@ loop-again c = (omega arith, search skip-next)
 returns-4 : tie.Need-returns-4 Inv-loop μ-loop
 returns-4 c = search skip-behind
 
-sub-if4 : tie.Need-sub-if4 Inv-loop μ-loop
-sub-if4 c = search needs
-
 returns-5 : tie.Need-returns-5 Inv-loop μ-loop
 returns-5 c = search skip-lost
-
-add-t20 : tie.Need-add-t20 Inv-loop μ-loop
-add-t20 c = search needs
 
 returns-6 : tie.Need-returns-6 Inv-loop μ-loop
 returns-6 c = search skip-ended
@@ -92,22 +59,22 @@ skip-enum-members-spec =
     μ-loop
     returns
     loop-holds
-    enum-member-at-requires
-    enum-told
+    (λ c κs. search needs)  -- enum-member-at-requires
+    (λ c. search needs)  -- enum-told
     returns-2
-    enum-known-member
-    cast-length
-    sub-if2
+    (λ c. search needs)  -- enum-known-member
+    (λ c. search needs)  -- cast-length
+    (λ c. search needs)  -- sub-if2
     returns-3
     add-r
-    cast-p
+    (λ c. search needs)  -- cast-p
     add-p
-    add-values
-    sub-left
-    loop-less
+    (λ c. search needs)  -- add-values
+    (λ c. search needs)  -- sub-left
+    (λ c. search needs)  -- loop-less
     loop-again
     returns-4
-    sub-if4
+    (λ c. search needs)  -- sub-if4
     returns-5
-    add-t20
+    (λ c. search needs)  -- add-t20
     returns-6)

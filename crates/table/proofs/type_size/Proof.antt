@@ -3,15 +3,6 @@ use Rattle.table.proofs.Answers.{size-bad, size-good}
 use Rattle.table.proofs.type_size.Statement.{statement}
 use Rattle.table.proofs.type_size.Tie as tie
 
-check-requires : tie.Need-check-requires
-check-requires c κs = search needs
-
-enum-told : tie.Need-enum-told
-enum-told c = search needs
-
-enum-known-checked : tie.Need-enum-known-checked
-enum-known-checked c = search needs
-
 returns : tie.Need-returns
 returns c = search size-bad
 
@@ -19,4 +10,10 @@ returns-2 : tie.Need-returns-2
 returns-2 c = search size-good
 
 pub type-size-spec : {M : Type 1} → statement M
-type-size-spec = tie.close (tie.spec check-requires enum-told enum-known-checked returns returns-2)
+type-size-spec = tie.close
+    (tie.spec
+    (λ c κs. search needs)  -- check-requires
+    (λ c. search needs)  -- enum-told
+    (λ c. search needs)  -- enum-known-checked
+    returns
+    returns-2)

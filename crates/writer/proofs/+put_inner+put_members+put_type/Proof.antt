@@ -73,29 +73,11 @@ put-type-calls t = (known-entry-at-reads.Asked, known-entry-at-reads.Learnt, put
 put-inner-returns : (t : ℕ) → put-inner-lts.Need-returns (put-inner-calls t) (put-inner-at t) put-inner.Post
 put-inner-returns t c = search type-shallow
 
-put-inner-known-entry-at-requires : (t : ℕ) → put-inner-lts.Need-known-entry-at-requires (put-inner-calls t) (put-inner-at t) put-inner.Post
-put-inner-known-entry-at-requires t c κs = search needs
-
-put-inner-enum-known-entry : (t : ℕ) → put-inner-lts.Need-enum-known-entry (put-inner-calls t) (put-inner-at t) put-inner.Post
-put-inner-enum-known-entry t c = search needs
-
 put-inner-put-leaf-requires : (t : ℕ) → put-inner-lts.Need-put-leaf-requires (put-inner-calls t) (put-inner-at t) put-inner.Post
 put-inner-put-leaf-requires t c κs = leaf-inside _ _ _ _ ((c .before .before .before .before .known-entry-at) .ensures .1) ((c .before .before .entry) .given .1)
 
-put-inner-put-type-requires : (t : ℕ) → put-inner-lts.Need-put-type-requires (put-inner-calls t) (put-inner-at t) put-inner.Post
-put-inner-put-type-requires t c κs = search needs
-
-put-inner-same-length : (t : ℕ) → put-inner-lts.Need-same-length (put-inner-calls t) (put-inner-at t) put-inner.Post
-put-inner-same-length t c = search needs
-
 put-inner-returns-2 : (t : ℕ) → put-inner-lts.Need-returns-2 (put-inner-calls t) (put-inner-at t) put-inner.Post
 put-inner-returns-2 t c = search type-leaf
-
-put-inner-same-length-2 : (t : ℕ) → put-inner-lts.Need-same-length-2 (put-inner-calls t) (put-inner-at t) put-inner.Post
-put-inner-same-length-2 t c = search needs
-
-put-inner-returns-3 : (t : ℕ) → put-inner-lts.Need-returns-3 (put-inner-calls t) (put-inner-at t) put-inner.Post
-put-inner-returns-3 t c = search needs
 
 abbrev put-members-Inv-loop : put-members-lts.InvT-loop
 put-members-Inv-loop table pool row place count size levels edition out₀ at r₀ p₀ a₀ left₀ out r p a left =
@@ -108,38 +90,11 @@ put-members-μ-loop table pool row place count size levels edition out₀ at r�
 put-members-loop-holds : (t : ℕ) → put-members-lts.Need-loop-holds (put-members-calls t) (put-members-at t) put-members.Post put-members-Inv-loop put-members-μ-loop
 put-members-loop-holds t c = search members-begun
 
-put-members-known-member-at-requires : (t : ℕ) → put-members-lts.Need-known-member-at-requires (put-members-calls t) (put-members-at t) put-members.Post put-members-Inv-loop put-members-μ-loop
-put-members-known-member-at-requires t c κs = search needs
-
-put-members-enum-told : (t : ℕ) → put-members-lts.Need-enum-told (put-members-calls t) (put-members-at t) put-members.Post put-members-Inv-loop put-members-μ-loop
-put-members-enum-told t c = search needs
-
-put-members-same-length : (t : ℕ) → put-members-lts.Need-same-length (put-members-calls t) (put-members-at t) put-members.Post put-members-Inv-loop put-members-μ-loop
-put-members-same-length t c = search needs
-
 put-members-returns : (t : ℕ) → put-members-lts.Need-returns (put-members-calls t) (put-members-at t) put-members.Post put-members-Inv-loop put-members-μ-loop
 put-members-returns t c = search members-unnamed
 
-put-members-enum-known-member : (t : ℕ) → put-members-lts.Need-enum-known-member (put-members-calls t) (put-members-at t) put-members.Post put-members-Inv-loop put-members-μ-loop
-put-members-enum-known-member t c = search needs
-
-put-members-put-member-head-requires : (t : ℕ) → put-members-lts.Need-put-member-head-requires (put-members-calls t) (put-members-at t) put-members.Post put-members-Inv-loop put-members-μ-loop
-put-members-put-member-head-requires t c κs = search needs
-
-put-members-enum-told-2 : (t : ℕ) → put-members-lts.Need-enum-told-2 (put-members-calls t) (put-members-at t) put-members.Post put-members-Inv-loop put-members-μ-loop
-put-members-enum-told-2 t c = search needs
-
-put-members-same-length-2 : (t : ℕ) → put-members-lts.Need-same-length-2 (put-members-calls t) (put-members-at t) put-members.Post put-members-Inv-loop put-members-μ-loop
-put-members-same-length-2 t c = search needs
-
 put-members-returns-2 : (t : ℕ) → put-members-lts.Need-returns-2 (put-members-calls t) (put-members-at t) put-members.Post put-members-Inv-loop put-members-μ-loop
 put-members-returns-2 t c = search members-full
-
-put-members-enum-known-headed : (t : ℕ) → put-members-lts.Need-enum-known-headed (put-members-calls t) (put-members-at t) put-members.Post put-members-Inv-loop put-members-μ-loop
-put-members-enum-known-headed t c = search needs
-
-put-members-cast-from : (t : ℕ) → put-members-lts.Need-cast-from (put-members-calls t) (put-members-at t) put-members.Post put-members-Inv-loop put-members-μ-loop
-put-members-cast-from t c = search needs
 
 put-members-add-from : (t : ℕ) → put-members-lts.Need-add-from (put-members-calls t) (put-members-at t) put-members.Post put-members-Inv-loop put-members-μ-loop
 put-members-add-from t c = omega (arith, named-inside _ _ _ _ ((c .before .before .before .before .before .before .before .before .member) .given .1) ((c .before .before .before .before .before .before .before .before .before .before .known-member-at) .ensures .1))
@@ -147,32 +102,11 @@ put-members-add-from t c = omega (arith, named-inside _ _ _ _ ((c .before .befor
 put-members-add-put-inner : (t : ℕ) → put-members-lts.Need-add-put-inner (put-members-calls t) (put-members-at t) put-members.Post put-members-Inv-loop put-members-μ-loop
 put-members-add-put-inner t c = omega (arith, named-inside _ _ _ _ ((c .before .before .before .before .before .before .before .before .member) .given .1) ((c .before .before .before .before .before .before .before .before .before .before .known-member-at) .ensures .1))
 
-put-members-put-inner-requires : (t : ℕ) → put-members-lts.Need-put-inner-requires (put-members-calls t) (put-members-at t) put-members.Post put-members-Inv-loop put-members-μ-loop
-put-members-put-inner-requires t c κs = search needs
-
-put-members-enum-told-3 : (t : ℕ) → put-members-lts.Need-enum-told-3 (put-members-calls t) (put-members-at t) put-members.Post put-members-Inv-loop put-members-μ-loop
-put-members-enum-told-3 t c = search needs
-
-put-members-same-length-3 : (t : ℕ) → put-members-lts.Need-same-length-3 (put-members-calls t) (put-members-at t) put-members.Post put-members-Inv-loop put-members-μ-loop
-put-members-same-length-3 t c = search needs
-
 put-members-returns-3 : (t : ℕ) → put-members-lts.Need-returns-3 (put-members-calls t) (put-members-at t) put-members.Post put-members-Inv-loop put-members-μ-loop
 put-members-returns-3 t c = search members-lost
 
-put-members-enum-known-put : (t : ℕ) → put-members-lts.Need-enum-known-put (put-members-calls t) (put-members-at t) put-members.Post put-members-Inv-loop put-members-μ-loop
-put-members-enum-known-put t c = search needs
-
-put-members-sub-left : (t : ℕ) → put-members-lts.Need-sub-left (put-members-calls t) (put-members-at t) put-members.Post put-members-Inv-loop put-members-μ-loop
-put-members-sub-left t c = search needs
-
-put-members-loop-less : (t : ℕ) → put-members-lts.Need-loop-less (put-members-calls t) (put-members-at t) put-members.Post put-members-Inv-loop put-members-μ-loop
-put-members-loop-less t c = search needs
-
 put-members-loop-again : (t : ℕ) → put-members-lts.Need-loop-again (put-members-calls t) (put-members-at t) put-members.Post put-members-Inv-loop put-members-μ-loop
 put-members-loop-again t c = search members-next
-
-put-members-same-length-4 : (t : ℕ) → put-members-lts.Need-same-length-4 (put-members-calls t) (put-members-at t) put-members.Post put-members-Inv-loop put-members-μ-loop
-put-members-same-length-4 t c = search needs
 
 put-members-returns-4 : (t : ℕ) → put-members-lts.Need-returns-4 (put-members-calls t) (put-members-at t) put-members.Post put-members-Inv-loop put-members-μ-loop
 put-members-returns-4 t c = search members-ended
@@ -180,104 +114,17 @@ put-members-returns-4 t c = search members-ended
 put-type-returns : (t : ℕ) → put-type-lts.Need-returns (put-type-calls t) (put-type-at t) put-type.Post
 put-type-returns t c = search type-shallow
 
-put-type-sub-inner : (t : ℕ) → put-type-lts.Need-sub-inner (put-type-calls t) (put-type-at t) put-type.Post
-put-type-sub-inner t c = search needs
-
-put-type-known-entry-at-requires : (t : ℕ) → put-type-lts.Need-known-entry-at-requires (put-type-calls t) (put-type-at t) put-type.Post
-put-type-known-entry-at-requires t c κs = search needs
-
-put-type-enum-told : (t : ℕ) → put-type-lts.Need-enum-told (put-type-calls t) (put-type-at t) put-type.Post
-put-type-enum-told t c = search needs
-
-put-type-enum-known-entry : (t : ℕ) → put-type-lts.Need-enum-known-entry (put-type-calls t) (put-type-at t) put-type.Post
-put-type-enum-known-entry t c = search needs
-
 put-type-put-leaf-requires : (t : ℕ) → put-type-lts.Need-put-leaf-requires (put-type-calls t) (put-type-at t) put-type.Post
 put-type-put-leaf-requires t c κs = leaf-inside _ _ _ _ ((c .before .before .before .before .known-entry-at) .ensures .1) ((c .before .before .entry) .given .1)
-
-put-type-enum-known-entry-2 : (t : ℕ) → put-type-lts.Need-enum-known-entry-2 (put-type-calls t) (put-type-at t) put-type.Post
-put-type-enum-known-entry-2 t c = search needs
-
-put-type-put-group-header-requires : (t : ℕ) → put-type-lts.Need-put-group-header-requires (put-type-calls t) (put-type-at t) put-type.Post
-put-type-put-group-header-requires t c κs = search needs
-
-put-type-enum-told-2 : (t : ℕ) → put-type-lts.Need-enum-told-2 (put-type-calls t) (put-type-at t) put-type.Post
-put-type-enum-told-2 t c = search needs
-
-put-type-enum-known-headed : (t : ℕ) → put-type-lts.Need-enum-known-headed (put-type-calls t) (put-type-at t) put-type.Post
-put-type-enum-known-headed t c = search needs
 
 put-type-add-put-members : (t : ℕ) → put-type-lts.Need-add-put-members (put-type-calls t) (put-type-at t) put-type.Post
 put-type-add-put-members t c = omega (arith, compound-inside _ _ _ _ ((c .before .before .before .before .before .before .before .before .before .before .known-entry-at) .ensures .1) ((c .before .before .before .before .before .before .before .before .entry2) .given .1))
 
-put-type-put-members-requires : (t : ℕ) → put-type-lts.Need-put-members-requires (put-type-calls t) (put-type-at t) put-type.Post
-put-type-put-members-requires t c κs = search needs
-
-put-type-enum-known-entry-3 : (t : ℕ) → put-type-lts.Need-enum-known-entry-3 (put-type-calls t) (put-type-at t) put-type.Post
-put-type-enum-known-entry-3 t c = search needs
-
-put-type-put-group-header-requires-2 : (t : ℕ) → put-type-lts.Need-put-group-header-requires-2 (put-type-calls t) (put-type-at t) put-type.Post
-put-type-put-group-header-requires-2 t c κs = search needs
-
-put-type-enum-told-3 : (t : ℕ) → put-type-lts.Need-enum-told-3 (put-type-calls t) (put-type-at t) put-type.Post
-put-type-enum-told-3 t c = search needs
-
-put-type-enum-known-headed-2 : (t : ℕ) → put-type-lts.Need-enum-known-headed-2 (put-type-calls t) (put-type-at t) put-type.Post
-put-type-enum-known-headed-2 t c = search needs
-
 put-type-add-put-type : (t : ℕ) → put-type-lts.Need-add-put-type (put-type-calls t) (put-type-at t) put-type.Post
 put-type-add-put-type t c = omega (arith, enumeration-inside _ _ _ _ ((c .before .before .before .before .before .before .before .before .before .before .known-entry-at) .ensures .1) ((c .before .before .before .before .before .before .before .before .entry3) .given .1))
 
-put-type-put-type-requires : (t : ℕ) → put-type-lts.Need-put-type-requires (put-type-calls t) (put-type-at t) put-type.Post
-put-type-put-type-requires t c κs = search needs
-
-put-type-enum-told-4 : (t : ℕ) → put-type-lts.Need-enum-told-4 (put-type-calls t) (put-type-at t) put-type.Post
-put-type-enum-told-4 t c = search needs
-
-put-type-enum-known-put : (t : ℕ) → put-type-lts.Need-enum-known-put (put-type-calls t) (put-type-at t) put-type.Post
-put-type-enum-known-put t c = search needs
-
-put-type-put-enum-members-requires : (t : ℕ) → put-type-lts.Need-put-enum-members-requires (put-type-calls t) (put-type-at t) put-type.Post
-put-type-put-enum-members-requires t c κs = search needs
-
-put-type-enum-known-entry-4 : (t : ℕ) → put-type-lts.Need-enum-known-entry-4 (put-type-calls t) (put-type-at t) put-type.Post
-put-type-enum-known-entry-4 t c = search needs
-
-put-type-put-variable-header-requires : (t : ℕ) → put-type-lts.Need-put-variable-header-requires (put-type-calls t) (put-type-at t) put-type.Post
-put-type-put-variable-header-requires t c κs = search needs
-
-put-type-enum-told-5 : (t : ℕ) → put-type-lts.Need-enum-told-5 (put-type-calls t) (put-type-at t) put-type.Post
-put-type-enum-told-5 t c = search needs
-
-put-type-enum-known-headed-3 : (t : ℕ) → put-type-lts.Need-enum-known-headed-3 (put-type-calls t) (put-type-at t) put-type.Post
-put-type-enum-known-headed-3 t c = search needs
-
 put-type-add-put-type-2 : (t : ℕ) → put-type-lts.Need-add-put-type-2 (put-type-calls t) (put-type-at t) put-type.Post
 put-type-add-put-type-2 t c = omega (arith, variableLength-inside _ _ _ _ ((c .before .before .before .before .before .before .before .before .before .before .known-entry-at) .ensures .1) ((c .before .before .before .before .before .before .before .before .entry4) .given .1))
-
-put-type-put-type-requires-2 : (t : ℕ) → put-type-lts.Need-put-type-requires-2 (put-type-calls t) (put-type-at t) put-type.Post
-put-type-put-type-requires-2 t c κs = search needs
-
-put-type-enum-known-entry-5 : (t : ℕ) → put-type-lts.Need-enum-known-entry-5 (put-type-calls t) (put-type-at t) put-type.Post
-put-type-enum-known-entry-5 t c = search needs
-
-put-type-size-at-requires : (t : ℕ) → put-type-lts.Need-size-at-requires (put-type-calls t) (put-type-at t) put-type.Post
-put-type-size-at-requires t c κs = search needs
-
-put-type-put-array-head-requires : (t : ℕ) → put-type-lts.Need-put-array-head-requires (put-type-calls t) (put-type-at t) put-type.Post
-put-type-put-array-head-requires t c κs = search needs
-
-put-type-enum-told-6 : (t : ℕ) → put-type-lts.Need-enum-told-6 (put-type-calls t) (put-type-at t) put-type.Post
-put-type-enum-told-6 t c = search needs
-
-put-type-enum-known-headed-4 : (t : ℕ) → put-type-lts.Need-enum-known-headed-4 (put-type-calls t) (put-type-at t) put-type.Post
-put-type-enum-known-headed-4 t c = search needs
-
-put-type-cast-from : (t : ℕ) → put-type-lts.Need-cast-from (put-type-calls t) (put-type-at t) put-type.Post
-put-type-cast-from t c = search needs
-
-put-type-mul-from : (t : ℕ) → put-type-lts.Need-mul-from (put-type-calls t) (put-type-at t) put-type.Post
-put-type-mul-from t c = search needs
 
 put-type-add-from : (t : ℕ) → put-type-lts.Need-add-from (put-type-calls t) (put-type-at t) put-type.Post
 put-type-add-from t c = omega (arith, array-inside _ _ _ _ ((c .before .before .before .before .before .before .before .before .before .before .before .known-entry-at) .ensures .1) ((c .before .before .before .before .before .before .before .before .before .entry5) .given .1))
@@ -285,70 +132,37 @@ put-type-add-from t c = omega (arith, array-inside _ _ _ _ ((c .before .before .
 put-type-add-put-type-3 : (t : ℕ) → put-type-lts.Need-add-put-type-3 (put-type-calls t) (put-type-at t) put-type.Post
 put-type-add-put-type-3 t c = omega (arith, array-inside _ _ _ _ ((c .before .before .before .before .before .before .before .before .before .before .before .known-entry-at) .ensures .1) ((c .before .before .before .before .before .before .before .before .before .entry5) .given .1))
 
-put-type-put-type-requires-3 : (t : ℕ) → put-type-lts.Need-put-type-requires-3 (put-type-calls t) (put-type-at t) put-type.Post
-put-type-put-type-requires-3 t c κs = search needs
-
 put-type-returns-2 : (t : ℕ) → put-type-lts.Need-returns-2 (put-type-calls t) (put-type-at t) put-type.Post
 put-type-returns-2 t c = search type-unknown
-
-put-type-same-length : (t : ℕ) → put-type-lts.Need-same-length (put-type-calls t) (put-type-at t) put-type.Post
-put-type-same-length t c = search needs
 
 put-type-returns-3 : (t : ℕ) → put-type-lts.Need-returns-3 (put-type-calls t) (put-type-at t) put-type.Post
 put-type-returns-3 t c = search type-leaf
 
-put-type-same-length-2 : (t : ℕ) → put-type-lts.Need-same-length-2 (put-type-calls t) (put-type-at t) put-type.Post
-put-type-same-length-2 t c = search needs
-
 put-type-returns-4 : (t : ℕ) → put-type-lts.Need-returns-4 (put-type-calls t) (put-type-at t) put-type.Post
 put-type-returns-4 t c = search type-compound-full
-
-put-type-same-length-3 : (t : ℕ) → put-type-lts.Need-same-length-3 (put-type-calls t) (put-type-at t) put-type.Post
-put-type-same-length-3 t c = search needs
 
 put-type-returns-5 : (t : ℕ) → put-type-lts.Need-returns-5 (put-type-calls t) (put-type-at t) put-type.Post
 put-type-returns-5 t c = search type-compound
 
-put-type-same-length-4 : (t : ℕ) → put-type-lts.Need-same-length-4 (put-type-calls t) (put-type-at t) put-type.Post
-put-type-same-length-4 t c = search needs
-
 put-type-returns-6 : (t : ℕ) → put-type-lts.Need-returns-6 (put-type-calls t) (put-type-at t) put-type.Post
 put-type-returns-6 t c = search type-enumeration-full
-
-put-type-same-length-5 : (t : ℕ) → put-type-lts.Need-same-length-5 (put-type-calls t) (put-type-at t) put-type.Post
-put-type-same-length-5 t c = search needs
 
 put-type-returns-7 : (t : ℕ) → put-type-lts.Need-returns-7 (put-type-calls t) (put-type-at t) put-type.Post
 put-type-returns-7 t c = search type-enumeration-lost
 
-put-type-same-length-6 : (t : ℕ) → put-type-lts.Need-same-length-6 (put-type-calls t) (put-type-at t) put-type.Post
-put-type-same-length-6 t c = search needs
-
 put-type-returns-8 : (t : ℕ) → put-type-lts.Need-returns-8 (put-type-calls t) (put-type-at t) put-type.Post
 put-type-returns-8 t c = type-enumeration _ _ _ _ _ _ _ _ ((c .before .before .before .before .before .before .before .before .before .before .before .before .before .before .before .before .before .before .before .before .before .before .if1) .left) ((c .before .before .before .before .before .before .before .before .before .before .before .before .before .before .before .before .before .before .before .before .before .known-entry-at) .ensures .0) ((c .before .before .before .before .before .before .before .before .before .before .before .before .before .before .before .before .before .before .before .entry3) .given .1) ((c .before .before .before .before .before .before .before .before .before .before .before .before .before .before .before .before .put-group-header2) .ensures) ((c .before .before .before .before .before .before .before .before .before .before .before .before .headed2) .given .1) ((c .before .before .before .before .before .before .before .before .before .put-type) .ensures) ((c .before .before .before .before .before .put) .given .1) ((c .before .before .put-enum-members) .ensures)
-
-put-type-same-length-7 : (t : ℕ) → put-type-lts.Need-same-length-7 (put-type-calls t) (put-type-at t) put-type.Post
-put-type-same-length-7 t c = search needs
 
 put-type-returns-9 : (t : ℕ) → put-type-lts.Need-returns-9 (put-type-calls t) (put-type-at t) put-type.Post
 put-type-returns-9 t c = search type-variable-full
 
-put-type-same-length-8 : (t : ℕ) → put-type-lts.Need-same-length-8 (put-type-calls t) (put-type-at t) put-type.Post
-put-type-same-length-8 t c = search needs
-
 put-type-returns-10 : (t : ℕ) → put-type-lts.Need-returns-10 (put-type-calls t) (put-type-at t) put-type.Post
 put-type-returns-10 t c = search type-variable
-
-put-type-same-length-9 : (t : ℕ) → put-type-lts.Need-same-length-9 (put-type-calls t) (put-type-at t) put-type.Post
-put-type-same-length-9 t c = search needs
 
 put-type-returns-11 : (t : ℕ) → put-type-lts.Need-returns-11 (put-type-calls t) (put-type-at t) put-type.Post
 put-type-returns-11 t c =
     let small : (i : ℕ) → getD ((c .before .before .before .before .before .before .before .before .before .before .before .before .before .before .before) .args .pool .now) i 0 < 256 = λ i. omega (arith, (c .before .before .before .before .before .before .before .before .before .before .before .before .before .shared-slice-known2) .given i) in
     search (type-array-full, small)
-
-put-type-same-length-10 : (t : ℕ) → put-type-lts.Need-same-length-10 (put-type-calls t) (put-type-at t) put-type.Post
-put-type-same-length-10 t c = search needs
 
 put-type-returns-12 : (t : ℕ) → put-type-lts.Need-returns-12 (put-type-calls t) (put-type-at t) put-type.Post
 put-type-returns-12 t c =
@@ -361,101 +175,101 @@ pub +put-inner+put-members+put-type-spec : {M : Type 1} → statement M
     (put-inner-at t)
     put-inner.Post
     (put-inner-returns t)
-    (put-inner-known-entry-at-requires t)
-    (put-inner-enum-known-entry t)
+    (λ c κs. search needs)  -- put-inner-known-entry-at-requires
+    (λ c. search needs)  -- put-inner-enum-known-entry
     (put-inner-put-leaf-requires t)
-    (put-inner-put-type-requires t)
-    (put-inner-same-length t)
+    (λ c κs. search needs)  -- put-inner-put-type-requires
+    (λ c. search needs)  -- put-inner-same-length
     (put-inner-returns-2 t)
-    (put-inner-same-length-2 t)
-    (put-inner-returns-3 t))
+    (λ c. search needs)  -- put-inner-same-length-2
+    (λ c. search needs))  -- put-inner-returns-3
     (λ t. put-members-lts.spec (put-members-calls t)
     (put-members-at t)
     put-members.Post
     put-members-Inv-loop
     put-members-μ-loop
     (put-members-loop-holds t)
-    (put-members-known-member-at-requires t)
-    (put-members-enum-told t)
-    (put-members-same-length t)
+    (λ c κs. search needs)  -- put-members-known-member-at-requires
+    (λ c. search needs)  -- put-members-enum-told
+    (λ c. search needs)  -- put-members-same-length
     (put-members-returns t)
-    (put-members-enum-known-member t)
-    (put-members-put-member-head-requires t)
-    (put-members-enum-told-2 t)
-    (put-members-same-length-2 t)
+    (λ c. search needs)  -- put-members-enum-known-member
+    (λ c κs. search needs)  -- put-members-put-member-head-requires
+    (λ c. search needs)  -- put-members-enum-told-2
+    (λ c. search needs)  -- put-members-same-length-2
     (put-members-returns-2 t)
-    (put-members-enum-known-headed t)
-    (put-members-cast-from t)
+    (λ c. search needs)  -- put-members-enum-known-headed
+    (λ c. search needs)  -- put-members-cast-from
     (put-members-add-from t)
     (put-members-add-put-inner t)
-    (put-members-put-inner-requires t)
-    (put-members-enum-told-3 t)
-    (put-members-same-length-3 t)
+    (λ c κs. search needs)  -- put-members-put-inner-requires
+    (λ c. search needs)  -- put-members-enum-told-3
+    (λ c. search needs)  -- put-members-same-length-3
     (put-members-returns-3 t)
-    (put-members-enum-known-put t)
-    (put-members-sub-left t)
-    (put-members-loop-less t)
+    (λ c. search needs)  -- put-members-enum-known-put
+    (λ c. search needs)  -- put-members-sub-left
+    (λ c. search needs)  -- put-members-loop-less
     (put-members-loop-again t)
-    (put-members-same-length-4 t)
+    (λ c. search needs)  -- put-members-same-length-4
     (put-members-returns-4 t))
     λ t. put-type-lts.spec (put-type-calls t)
     (put-type-at t)
     put-type.Post
     (put-type-returns t)
-    (put-type-sub-inner t)
-    (put-type-known-entry-at-requires t)
-    (put-type-enum-told t)
-    (put-type-enum-known-entry t)
+    (λ c. search needs)  -- put-type-sub-inner
+    (λ c κs. search needs)  -- put-type-known-entry-at-requires
+    (λ c. search needs)  -- put-type-enum-told
+    (λ c. search needs)  -- put-type-enum-known-entry
     (put-type-put-leaf-requires t)
-    (put-type-enum-known-entry-2 t)
-    (put-type-put-group-header-requires t)
-    (put-type-enum-told-2 t)
-    (put-type-enum-known-headed t)
+    (λ c. search needs)  -- put-type-enum-known-entry-2
+    (λ c κs. search needs)  -- put-type-put-group-header-requires
+    (λ c. search needs)  -- put-type-enum-told-2
+    (λ c. search needs)  -- put-type-enum-known-headed
     (put-type-add-put-members t)
-    (put-type-put-members-requires t)
-    (put-type-enum-known-entry-3 t)
-    (put-type-put-group-header-requires-2 t)
-    (put-type-enum-told-3 t)
-    (put-type-enum-known-headed-2 t)
+    (λ c κs. search needs)  -- put-type-put-members-requires
+    (λ c. search needs)  -- put-type-enum-known-entry-3
+    (λ c κs. search needs)  -- put-type-put-group-header-requires-2
+    (λ c. search needs)  -- put-type-enum-told-3
+    (λ c. search needs)  -- put-type-enum-known-headed-2
     (put-type-add-put-type t)
-    (put-type-put-type-requires t)
-    (put-type-enum-told-4 t)
-    (put-type-enum-known-put t)
-    (put-type-put-enum-members-requires t)
-    (put-type-enum-known-entry-4 t)
-    (put-type-put-variable-header-requires t)
-    (put-type-enum-told-5 t)
-    (put-type-enum-known-headed-3 t)
+    (λ c κs. search needs)  -- put-type-put-type-requires
+    (λ c. search needs)  -- put-type-enum-told-4
+    (λ c. search needs)  -- put-type-enum-known-put
+    (λ c κs. search needs)  -- put-type-put-enum-members-requires
+    (λ c. search needs)  -- put-type-enum-known-entry-4
+    (λ c κs. search needs)  -- put-type-put-variable-header-requires
+    (λ c. search needs)  -- put-type-enum-told-5
+    (λ c. search needs)  -- put-type-enum-known-headed-3
     (put-type-add-put-type-2 t)
-    (put-type-put-type-requires-2 t)
-    (put-type-enum-known-entry-5 t)
-    (put-type-size-at-requires t)
-    (put-type-put-array-head-requires t)
-    (put-type-enum-told-6 t)
-    (put-type-enum-known-headed-4 t)
-    (put-type-cast-from t)
-    (put-type-mul-from t)
+    (λ c κs. search needs)  -- put-type-put-type-requires-2
+    (λ c. search needs)  -- put-type-enum-known-entry-5
+    (λ c κs. search needs)  -- put-type-size-at-requires
+    (λ c κs. search needs)  -- put-type-put-array-head-requires
+    (λ c. search needs)  -- put-type-enum-told-6
+    (λ c. search needs)  -- put-type-enum-known-headed-4
+    (λ c. search needs)  -- put-type-cast-from
+    (λ c. search needs)  -- put-type-mul-from
     (put-type-add-from t)
     (put-type-add-put-type-3 t)
-    (put-type-put-type-requires-3 t)
+    (λ c κs. search needs)  -- put-type-put-type-requires-3
     (put-type-returns-2 t)
-    (put-type-same-length t)
+    (λ c. search needs)  -- put-type-same-length
     (put-type-returns-3 t)
-    (put-type-same-length-2 t)
+    (λ c. search needs)  -- put-type-same-length-2
     (put-type-returns-4 t)
-    (put-type-same-length-3 t)
+    (λ c. search needs)  -- put-type-same-length-3
     (put-type-returns-5 t)
-    (put-type-same-length-4 t)
+    (λ c. search needs)  -- put-type-same-length-4
     (put-type-returns-6 t)
-    (put-type-same-length-5 t)
+    (λ c. search needs)  -- put-type-same-length-5
     (put-type-returns-7 t)
-    (put-type-same-length-6 t)
+    (λ c. search needs)  -- put-type-same-length-6
     (put-type-returns-8 t)
-    (put-type-same-length-7 t)
+    (λ c. search needs)  -- put-type-same-length-7
     (put-type-returns-9 t)
-    (put-type-same-length-8 t)
+    (λ c. search needs)  -- put-type-same-length-8
     (put-type-returns-10 t)
-    (put-type-same-length-9 t)
+    (λ c. search needs)  -- put-type-same-length-9
     (put-type-returns-11 t)
-    (put-type-same-length-10 t)
+    (λ c. search needs)  -- put-type-same-length-10
     (put-type-returns-12 t)

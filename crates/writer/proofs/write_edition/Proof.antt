@@ -6,15 +6,6 @@ use borrow.Author.Needs.{needs}
 use Rattle.writer.proofs.write_edition.Statement.{statement}
 use Rattle.writer.proofs.write_edition.Tie as tie
 
-measure-type-requires : tie.Need-measure-type-requires
-measure-type-requires c κs = search needs
-
-enum-told : tie.Need-enum-told
-enum-told c = search needs
-
-enum-known-measured : tie.Need-enum-known-measured
-enum-known-measured c = search needs
-
 ends-at-requires : tie.Need-ends-at-requires
 ends-at-requires c κs =
     write-fits _ _ _ (c .before .before .before .measure-type .ensures) (c .before .measured .given .1) (λ i. omega (arith, c .before .before .before .before .before .shared-slice-known2 .given i))
@@ -33,28 +24,13 @@ returns-4 c =
     let small : (i : ℕ) → getD ((c .before .before .before .before .before .before .before .before .before .before .before .before .before .before) .args .pool .now) i 0 < 256 = λ i. omega (arith, (c .before .before .before .before .before .before .before .before .before .before .before .before) .shared-slice-known2 .given i) in
     search (write-no-room, small)
 
-put-type-requires : tie.Need-put-type-requires
-put-type-requires c κs = search needs
-
-enum-told-2 : tie.Need-enum-told-2
-enum-told-2 c = search needs
-
-enum-told-3 : tie.Need-enum-told-3
-enum-told-3 c = search needs
-
 returns-5 : tie.Need-returns-5
 returns-5 c = search write-lost
-
-same-length : tie.Need-same-length
-same-length c = search needs
 
 returns-6 : tie.Need-returns-6
 returns-6 c =
     let small : (i : ℕ) → getD ((c .before .before .before .before .before .before .before .before .before .before .before .before .before .before .before .before .before .before .before .before) .args .pool .now) i 0 < 256 = λ i. omega (arith, (c .before .before .before .before .before .before .before .before .before .before .before .before .before .before .before .before .before .before) .shared-slice-known2 .given i) in
     search (write-unput, small)
-
-same-length-2 : tie.Need-same-length-2
-same-length-2 c = search needs
 
 returns-7 : tie.Need-returns-7
 returns-7 c =
@@ -65,19 +41,19 @@ pub write-edition-spec : {M : Type 1} → statement M
 write-edition-spec =
     tie.close
     (tie.spec
-    measure-type-requires
-    enum-told
-    enum-known-measured
+    (λ c κs. search needs)  -- measure-type-requires
+    (λ c. search needs)  -- enum-told
+    (λ c. search needs)  -- enum-known-measured
     ends-at-requires
     returns
     returns-2
     returns-3
     returns-4
-    put-type-requires
-    enum-told-2
-    enum-told-3
+    (λ c κs. search needs)  -- put-type-requires
+    (λ c. search needs)  -- enum-told-2
+    (λ c. search needs)  -- enum-told-3
     returns-5
-    same-length
+    (λ c. search needs)  -- same-length
     returns-6
-    same-length-2
+    (λ c. search needs)  -- same-length-2
     returns-7)

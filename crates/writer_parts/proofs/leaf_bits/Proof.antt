@@ -11,17 +11,15 @@ returns c = search (no-bits, bits-of-none, bits-of)
 returns-2 : tie.Need-returns-2
 returns-2 c = search (no-bits, bits-of-none, bits-of)
 
-mul-result : tie.Need-mul-result
-mul-result c = search needs
-
-sub-result : tie.Need-sub-result
-sub-result c = search needs
-
-cast-result : tie.Need-cast-result
-cast-result c = search needs
-
 returns-3 : tie.Need-returns-3
 returns-3 c = search (no-bits, bits-of-none, bits-of)
 
 pub leaf-bits-spec : {M : Type 1} → statement M
-leaf-bits-spec = tie.close (tie.spec returns returns-2 mul-result sub-result cast-result returns-3)
+leaf-bits-spec = tie.close
+    (tie.spec
+    returns
+    returns-2
+    (λ c. search needs)  -- mul-result
+    (λ c. search needs)  -- sub-result
+    (λ c. search needs)  -- cast-result
+    returns-3)

@@ -14,14 +14,8 @@ returns c = search (fixed-order, fixed-signed, fixed-flag, float-order, float-fl
 returns-2 : tie.Need-returns-2
 returns-2 c = search (fixed-order, fixed-signed, fixed-flag, float-order, float-flag, string-padding, string-charset, string-flag, tag-long, tag-flag, code-great, code-flag)
 
-fixed-flags-requires : tie.Need-fixed-flags-requires
-fixed-flags-requires c κs = search needs
-
 returns-3 : tie.Need-returns-3
 returns-3 c = search (fixed-order, fixed-signed, fixed-flag, float-order, float-flag, string-padding, string-charset, string-flag, tag-long, tag-flag, code-great, code-flag)
-
-float-flags-requires : tie.Need-float-flags-requires
-float-flags-requires c κs = search needs
 
 returns-4 : tie.Need-returns-4
 returns-4 c = search (fixed-order, fixed-signed, fixed-flag, float-order, float-flag, string-padding, string-charset, string-flag, tag-long, tag-flag, code-great, code-flag)
@@ -29,20 +23,11 @@ returns-4 c = search (fixed-order, fixed-signed, fixed-flag, float-order, float-
 returns-5 : tie.Need-returns-5
 returns-5 c = search (fixed-order, fixed-signed, fixed-flag, float-order, float-flag, string-padding, string-charset, string-flag, tag-long, tag-flag, code-great, code-flag)
 
-nibbles-of-requires : tie.Need-nibbles-of-requires
-nibbles-of-requires c κs = search needs
-
 returns-6 : tie.Need-returns-6
 returns-6 c = search (fixed-order, fixed-signed, fixed-flag, float-order, float-flag, string-padding, string-charset, string-flag, tag-long, tag-flag, code-great, code-flag)
 
-cast-result : tie.Need-cast-result
-cast-result c = search needs
-
 returns-7 : tie.Need-returns-7
 returns-7 c = search (fixed-order, fixed-signed, fixed-flag, float-order, float-flag, string-padding, string-charset, string-flag, tag-long, tag-flag, code-great, code-flag)
-
-cast-result-2 : tie.Need-cast-result-2
-cast-result-2 c = search needs
 
 returns-8 : tie.Need-returns-8
 returns-8 c = search (fixed-order, fixed-signed, fixed-flag, float-order, float-flag, string-padding, string-charset, string-flag, tag-long, tag-flag, code-great, code-flag)
@@ -65,16 +50,16 @@ leaf-flags-spec =
     (tie.spec
     returns
     returns-2
-    fixed-flags-requires
+    (λ c κs. search needs)  -- fixed-flags-requires
     returns-3
-    float-flags-requires
+    (λ c κs. search needs)  -- float-flags-requires
     returns-4
     returns-5
-    nibbles-of-requires
+    (λ c κs. search needs)  -- nibbles-of-requires
     returns-6
-    cast-result
+    (λ c. search needs)  -- cast-result
     returns-7
-    cast-result-2
+    (λ c. search needs)  -- cast-result-2
     returns-8
     returns-9
     returns-10

@@ -7,26 +7,8 @@ use Rattle.writer_parts.proofs.put_array_body.Lts as lts
 use Rattle.writer_parts.proofs.put_dimensions.Reads as put-dimensions-reads
 use Rattle.writer_parts.proofs.put_rank.Reads as put-rank-reads
 
-put-rank-requires : tie.Need-put-rank-requires
-put-rank-requires c κs = search needs
-
-enum-told : tie.Need-enum-told
-enum-told c = search needs
-
-enum-known-put : tie.Need-enum-known-put
-enum-known-put c = search needs
-
-put-dimensions-requires : tie.Need-put-dimensions-requires
-put-dimensions-requires c κs = search needs
-
-same-length : tie.Need-same-length
-same-length c = search needs
-
 returns : tie.Need-returns
 returns c = search (behind-from, full-from)
-
-same-length-2 : tie.Need-same-length-2
-same-length-2 c = search needs
 
 returns-2 : tie.Need-returns-2
 returns-2 c = search (behind-from, full-from)
@@ -35,11 +17,11 @@ pub put-array-body-spec : {M : Type 1} → statement M
 put-array-body-spec =
     tie.close
     (tie.spec
-    put-rank-requires
-    enum-told
-    enum-known-put
-    put-dimensions-requires
-    same-length
+    (λ c κs. search needs)  -- put-rank-requires
+    (λ c. search needs)  -- enum-told
+    (λ c. search needs)  -- enum-known-put
+    (λ c κs. search needs)  -- put-dimensions-requires
+    (λ c. search needs)  -- same-length
     returns
-    same-length-2
+    (λ c. search needs)  -- same-length-2
     returns-2)

@@ -9,22 +9,13 @@ use Rattle.writer_parts.proofs.put_header.Reads as put-header-reads
 returns : tie.Need-returns
 returns c = search group-many
 
-cast-put-header : tie.Need-cast-put-header
-cast-put-header c = search needs
-
-cast-put-header-2 : tie.Need-cast-put-header-2
-cast-put-header-2 c = search needs
-
-put-header-requires : tie.Need-put-header-requires
-put-header-requires c κs = search needs
-
-same-length : tie.Need-same-length
-same-length c = search needs
-
-returns-2 : tie.Need-returns-2
-returns-2 c = search needs
-
 pub put-group-header-spec : {M : Type 1} → statement M
 put-group-header-spec =
     tie.close
-    (tie.spec returns cast-put-header cast-put-header-2 put-header-requires same-length returns-2)
+    (tie.spec
+    returns
+    (λ c. search needs)  -- cast-put-header
+    (λ c. search needs)  -- cast-put-header-2
+    (λ c κs. search needs)  -- put-header-requires
+    (λ c. search needs)  -- same-length
+    (λ c. search needs))  -- returns-2

@@ -7,65 +7,11 @@ use Rattle.writer_parts.proofs.put_leaf.Tie as tie
 returns : tie.Need-returns
 returns c = λ h. absurd (omega arith)
 
-mul-leaf-flags : tie.Need-mul-leaf-flags
-mul-leaf-flags c = search needs
-
-add-leaf-flags : tie.Need-add-leaf-flags
-add-leaf-flags c = search needs
-
-mul-leaf-flags-2 : tie.Need-mul-leaf-flags-2
-mul-leaf-flags-2 c = search needs
-
-shared-slice-read-leaf-flags : tie.Need-shared-slice-read-leaf-flags
-shared-slice-read-leaf-flags c = search needs
-
-leaf-flags-requires : tie.Need-leaf-flags-requires
-leaf-flags-requires c κs = search needs
-
-cast-put-header : tie.Need-cast-put-header
-cast-put-header c = search needs
-
-leaf-bits-requires : tie.Need-leaf-bits-requires
-leaf-bits-requires c κs = search needs
-
-put-header-requires : tie.Need-put-header-requires
-put-header-requires c κs = search needs
-
-enum-told : tie.Need-enum-told
-enum-told c = search needs
-
-enum-known-headed : tie.Need-enum-known-headed
-enum-known-headed c = search needs
-
-put-leaf-rest-requires : tie.Need-put-leaf-rest-requires
-put-leaf-rest-requires c κs = search needs
-
-enum-told-2 : tie.Need-enum-told-2
-enum-told-2 c = search needs
-
-enum-known-put : tie.Need-enum-known-put
-enum-known-put c = search needs
-
-add-t30 : tie.Need-add-t30
-add-t30 c = search needs
-
-add-t32 : tie.Need-add-t32
-add-t32 c = search needs
-
-same-length : tie.Need-same-length
-same-length c = search needs
-
 returns-2 : tie.Need-returns-2
 returns-2 c = search leaf-headless
 
-same-length-2 : tie.Need-same-length-2
-same-length-2 c = search needs
-
 returns-3 : tie.Need-returns-3
 returns-3 c = search leaf-cut
-
-same-length-3 : tie.Need-same-length-3
-same-length-3 c = search needs
 
 returns-4 : tie.Need-returns-4
 returns-4 c = search leaf-put
@@ -75,24 +21,24 @@ put-leaf-spec =
     tie.close
     (tie.spec
     returns
-    mul-leaf-flags
-    add-leaf-flags
-    mul-leaf-flags-2
-    shared-slice-read-leaf-flags
-    leaf-flags-requires
-    cast-put-header
-    leaf-bits-requires
-    put-header-requires
-    enum-told
-    enum-known-headed
-    put-leaf-rest-requires
-    enum-told-2
-    enum-known-put
-    add-t30
-    add-t32
-    same-length
+    (λ c. search needs)  -- mul-leaf-flags
+    (λ c. search needs)  -- add-leaf-flags
+    (λ c. search needs)  -- mul-leaf-flags-2
+    (λ c. search needs)  -- shared-slice-read-leaf-flags
+    (λ c κs. search needs)  -- leaf-flags-requires
+    (λ c. search needs)  -- cast-put-header
+    (λ c κs. search needs)  -- leaf-bits-requires
+    (λ c κs. search needs)  -- put-header-requires
+    (λ c. search needs)  -- enum-told
+    (λ c. search needs)  -- enum-known-headed
+    (λ c κs. search needs)  -- put-leaf-rest-requires
+    (λ c. search needs)  -- enum-told-2
+    (λ c. search needs)  -- enum-known-put
+    (λ c. search needs)  -- add-t30
+    (λ c. search needs)  -- add-t32
+    (λ c. search needs)  -- same-length
     returns-2
-    same-length-2
+    (λ c. search needs)  -- same-length-2
     returns-3
-    same-length-3
+    (λ c. search needs)  -- same-length-3
     returns-4)

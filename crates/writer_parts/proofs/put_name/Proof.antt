@@ -10,35 +10,8 @@ use Rattle.primitives.proofs.name_padding.Reads as name-padding-reads
 use Rattle.writer_parts.proofs.put_piece.Reads as put-piece-reads
 use Rattle.writer_parts.proofs.put_zeros.Reads as put-zeros-reads
 
-put-piece-requires : tie.Need-put-piece-requires
-put-piece-requires c κs = search needs
-
-enum-told : tie.Need-enum-told
-enum-told c = search needs
-
-enum-known-named : tie.Need-enum-known-named
-enum-known-named c = search needs
-
-add-name-padding : tie.Need-add-name-padding
-add-name-padding c = search needs
-
-name-padding-requires : tie.Need-name-padding-requires
-name-padding-requires c κs = search needs
-
-add-put-zeros : tie.Need-add-put-zeros
-add-put-zeros c = search needs
-
-put-zeros-requires : tie.Need-put-zeros-requires
-put-zeros-requires c κs = search needs
-
-same-length : tie.Need-same-length
-same-length c = search needs
-
 returns : tie.Need-returns
 returns c = search (name-behind, name-full)
-
-same-length-2 : tie.Need-same-length-2
-same-length-2 c = search needs
 
 returns-2 : tie.Need-returns-2
 returns-2 c = search (name-behind, name-full)
@@ -47,14 +20,14 @@ pub put-name-spec : {M : Type 1} → statement M
 put-name-spec =
     tie.close
     (tie.spec
-    put-piece-requires
-    enum-told
-    enum-known-named
-    add-name-padding
-    name-padding-requires
-    add-put-zeros
-    put-zeros-requires
-    same-length
+    (λ c κs. search needs)  -- put-piece-requires
+    (λ c. search needs)  -- enum-told
+    (λ c. search needs)  -- enum-known-named
+    (λ c. search needs)  -- add-name-padding
+    (λ c κs. search needs)  -- name-padding-requires
+    (λ c. search needs)  -- add-put-zeros
+    (λ c κs. search needs)  -- put-zeros-requires
+    (λ c. search needs)  -- same-length
     returns
-    same-length-2
+    (λ c. search needs)  -- same-length-2
     returns-2)

@@ -10,26 +10,11 @@ use Rattle.writer_parts.proofs.room.Reads as room-reads
 returns : tie.Need-returns
 returns c = search piece-none
 
-room-requires : tie.Need-room-requires
-room-requires c κs = search needs
-
 returns-2 : tie.Need-returns-2
 returns-2 c = search piece-outside
 
-room-requires-2 : tie.Need-room-requires-2
-room-requires-2 c κs = search needs
-
 returns-3 : tie.Need-returns-3
 returns-3 c = search piece-full
-
-copy-bytes-requires : tie.Need-copy-bytes-requires
-copy-bytes-requires c κs = search needs
-
-add-t7 : tie.Need-add-t7
-add-t7 c = search needs
-
-same-length : tie.Need-same-length
-same-length c = search needs
 
 returns-4 : tie.Need-returns-4
 returns-4 c = search piece-stored
@@ -39,11 +24,11 @@ put-piece-spec =
     tie.close
     (tie.spec
     returns
-    room-requires
+    (λ c κs. search needs)  -- room-requires
     returns-2
-    room-requires-2
+    (λ c κs. search needs)  -- room-requires-2
     returns-3
-    copy-bytes-requires
-    add-t7
-    same-length
+    (λ c κs. search needs)  -- copy-bytes-requires
+    (λ c. search needs)  -- add-t7
+    (λ c. search needs)  -- same-length
     returns-4)

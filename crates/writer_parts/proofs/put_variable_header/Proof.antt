@@ -7,26 +7,8 @@ use Rattle.writer_parts.proofs.put_variable_header.Lts as lts
 use Rattle.primitives.proofs.nibbles_of.Reads as nibbles-of-reads
 use Rattle.writer_parts.proofs.put_header.Reads as put-header-reads
 
-put-header-requires : tie.Need-put-header-requires
-put-header-requires c κs = search needs
-
-same-length : tie.Need-same-length
-same-length c = search needs
-
 returns : tie.Need-returns
 returns c = search (sequence-put, string-put, no-padding, past-padding, no-charset, past-charset)
-
-nibbles-of-requires : tie.Need-nibbles-of-requires
-nibbles-of-requires c κs = search needs
-
-cast-put-header : tie.Need-cast-put-header
-cast-put-header c = search needs
-
-put-header-requires-2 : tie.Need-put-header-requires-2
-put-header-requires-2 c κs = search needs
-
-same-length-2 : tie.Need-same-length-2
-same-length-2 c = search needs
 
 returns-2 : tie.Need-returns-2
 returns-2 c = search (sequence-put, string-put, no-padding, past-padding, no-charset, past-charset)
@@ -47,13 +29,13 @@ pub put-variable-header-spec : {M : Type 1} → statement M
 put-variable-header-spec =
     tie.close
     (tie.spec
-    put-header-requires
-    same-length
+    (λ c κs. search needs)  -- put-header-requires
+    (λ c. search needs)  -- same-length
     returns
-    nibbles-of-requires
-    cast-put-header
-    put-header-requires-2
-    same-length-2
+    (λ c κs. search needs)  -- nibbles-of-requires
+    (λ c. search needs)  -- cast-put-header
+    (λ c κs. search needs)  -- put-header-requires-2
+    (λ c. search needs)  -- same-length-2
     returns-2
     returns-3
     returns-4

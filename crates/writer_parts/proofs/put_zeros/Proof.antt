@@ -15,20 +15,8 @@ Inv-loop out₀ at n i₀ out i = (i ≤ n) × (out ≡ sets out₀ at (zeros i)
 abbrev μ-loop : tie.MeasureT-loop
 μ-loop out₀ at n i₀ out i = n - i
 
-room-requires : tie.Need-room-requires Inv-loop μ-loop
-room-requires c κs = search needs
-
 returns : tie.Need-returns Inv-loop μ-loop
 returns c = search zeros-full
-
-slice-write-out : tie.Need-slice-write-out Inv-loop μ-loop
-slice-write-out c = search needs
-
-add-t9 : tie.Need-add-t9 Inv-loop μ-loop
-add-t9 c = search needs
-
-same-length : tie.Need-same-length Inv-loop μ-loop
-same-length c = search needs
 
 returns-2 : tie.Need-returns-2 Inv-loop μ-loop
 returns-2 c = search zero-stored
@@ -36,23 +24,11 @@ returns-2 c = search zero-stored
 loop-holds : tie.Need-loop-holds Inv-loop μ-loop
 loop-holds c = (omega arith, zeros-begun _ _ _ refl)
 
-add-out : tie.Need-add-out Inv-loop μ-loop
-add-out c = search needs
-
 slice-write-out-2 : tie.Need-slice-write-out-2 Inv-loop μ-loop
 slice-write-out-2 c = omega (arith, ap length ((c .before .loop) .inv .1), length-sets ((c .before .before .before .before .before .before) .args .out .now) ((c .before .before .before .before .before .before) .args .at) (zeros ((c .before .loop) .i)))
 
-add-i : tie.Need-add-i Inv-loop μ-loop
-add-i c = search needs
-
-loop-less : tie.Need-loop-less Inv-loop μ-loop
-loop-less c = search needs
-
 loop-again : tie.Need-loop-again Inv-loop μ-loop
 loop-again c = (omega arith, zeros-next _ _ _ ((c .before .loop) .inv .1))
-
-add-t5 : tie.Need-add-t5 Inv-loop μ-loop
-add-t5 c = search needs
 
 same-length-2 : tie.Need-same-length-2 Inv-loop μ-loop
 same-length-2 c = ap length ((c .before .loop) .inv .1) ∙ simp length-sets
@@ -66,18 +42,18 @@ put-zeros-spec =
     (tie.spec
     Inv-loop
     μ-loop
-    room-requires
+    (λ c κs. search needs)  -- room-requires
     returns
-    slice-write-out
-    add-t9
-    same-length
+    (λ c. search needs)  -- slice-write-out
+    (λ c. search needs)  -- add-t9
+    (λ c. search needs)  -- same-length
     returns-2
     loop-holds
-    add-out
+    (λ c. search needs)  -- add-out
     slice-write-out-2
-    add-i
-    loop-less
+    (λ c. search needs)  -- add-i
+    (λ c. search needs)  -- loop-less
     loop-again
-    add-t5
+    (λ c. search needs)  -- add-t5
     same-length-2
     returns-3)
