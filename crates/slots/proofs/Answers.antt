@@ -21,7 +21,7 @@ use Rattle.format.proofs.Slots.{length-slots, slots-outside, unmapped-counted}
 use Rattle.table.specs.Survey.{surveyOf, zeroCode, Sets, Checks}
 use Rattle.table.specs.declared.Survey.{Survey}
 use Rattle.table.specs.declared.Checked.{Checked}
-use Rattle.table.specs.declared.Checked.the-variants.{Good, Bad}
+use Rattle.table.specs.declared.Checked.the-variants.{Bad}
 use Rattle.table.proofs.Surveys.{zero-code}
 use Rattle.table.proofs.ZeroClass.{zero-low}
 use Rattle.slots.specs.Slots.{mostSlots, mostEnd, CountedAs, AllBelow, Fits, Listed, PutAs, slotsNumber, slotsValues, answerOf, SlotsAre}
@@ -59,113 +59,110 @@ refused table pool out e h =
     let w = told (findingSlots table pool (length out)) a in
     record { answer = a; number = w .0; values = w .1; out-is = rw h }
 
-module _ (table pool out : List ℕ) {k : Checked} (h : Checks table pool k) where
-  pub slots-bad : k ≡ Bad → SlotsAre table pool (Refused BadTable) out out
+pub slots-bad : (table pool out : List ℕ) {k : Checked} → Checks table pool k → k ≡ Bad → SlotsAre table pool (Refused BadTable) out out
+unfolding findingSlots whenGiven
+slots-bad table pool out h e = refused table pool out BadTable (rw (h .bad-table e))
+
+-- of a type that the check has surveyed
+module _ (table pool out : List ℕ) {s : Survey} (given : Sets table pool s) where
+  sized : s .size ≡ typeSize (given .type)
+  unfolding surveyOf
+  sized = let g = given .says in cc
+
+  zeroed : s .zero ≡ zeroCode (firstZero (given .type))
+  unfolding surveyOf
+  zeroed = let g = given .says in cc
+
+  pub zero-fits : s .zero ≤ 11
+  zero-fits = rw zeroed (zero-low (given .type))
+
+  finding : findingSlots table pool (length out) ≡ slotting (length out) (given .type)
   unfolding findingSlots whenGiven
-  slots-bad e = refused table pool out BadTable (rw (h .bad-table e))
+  finding = rw (given .is)
 
-  module _ {s : Survey} (e : k ≡ Good s) where
-    given : Sets table pool s
-    given = h .good s e
+  pub slots-zero : (s .zero ≡ 0 → ⊥) → SlotsAre table pool (Refused (ZeroSize (s .zero - 1))) out out
+  unfolding slotting
+  slots-zero z =
+      refused table pool out _ (finding ∙ some-code (firstZero (given .type)) _ (λ f. z (zeroed ∙ f)) ∙ ap (λ (n : ℕ). refuses (ZeroSize (n - 1))) (sym zeroed))
 
-    sized : s .size ≡ typeSize (given .type)
-    unfolding surveyOf
-    sized = let g = given .says in cc
+  module _ (z : s .zero ≡ 0) (y : Tallied) (g : CountedAs (typeAt 32 table pool 0 0) y) where
+    none-zero : firstZero (given .type) ≡ none
+    none-zero = zero-code _ (sym zeroed ∙ z)
 
-    zeroed : s .zero ≡ zeroCode (firstZero (given .type))
-    unfolding surveyOf
-    zeroed = let g = given .says in cc
+    counted : y ≡ At (record { row = s .row; place = s .place; unmapped = holdsOtherReference (given .type) || holdsHiddenReference (given .type); count = mostSlots (slotCount (given .type)); end = mostEnd (slotEnd (given .type)) })
+    unfolding CountedAs
+    counted = rw (given .stands) at g none-zero
 
-    pub zero-fits : s .zero ≤ 11
-    zero-fits = rw zeroed (zero-low (given .type))
+    pub slots-lost : y ≡ Lost → SlotsAre table pool (Refused Unmapped) out out
+    slots-lost f = let c = counted in let w : _≡_ {A = ℕ} 0 1 = cc in absurd (omega arith)
 
-    finding : findingSlots table pool (length out) ≡ slotting (length out) (given .type)
-    unfolding findingSlots whenGiven
-    finding = rw (given .is)
+    module _ {t : Tally} (f : y ≡ At t) where
+      tally : t ≡ record { row = s .row; place = s .place; unmapped = holdsOtherReference (given .type) || holdsHiddenReference (given .type); count = mostSlots (slotCount (given .type)); end = mostEnd (slotEnd (given .type)) }
+      tally = let c = counted in cc
 
-    pub slots-zero : (s .zero ≡ 0 → ⊥) → SlotsAre table pool (Refused (ZeroSize (s .zero - 1))) out out
-    unfolding slotting
-    slots-zero z =
-        refused table pool out _ (finding ∙ some-code (firstZero (given .type)) _ (λ f. z (zeroed ∙ f)) ∙ ap (λ (n : ℕ). refuses (ZeroSize (n - 1))) (sym zeroed))
+      count-is : t .count ≡ mostSlots (slotCount (given .type))
+      count-is = ap (λ (v : Tally). v .count) tally
 
-    module _ (z : s .zero ≡ 0) (y : Tallied) (g : CountedAs (typeAt 32 table pool 0 0) y) where
-      none-zero : firstZero (given .type) ≡ none
-      none-zero = zero-code _ (sym zeroed ∙ z)
+      end-is : t .end ≡ mostEnd (slotEnd (given .type))
+      end-is = ap (λ (v : Tally). v .end) tally
 
-      counted : y ≡ At (record { row = s .row; place = s .place; unmapped = holdsOtherReference (given .type) || holdsHiddenReference (given .type); count = mostSlots (slotCount (given .type)); end = mostEnd (slotEnd (given .type)) })
-      unfolding CountedAs
-      counted = rw (given .stands) at g none-zero
+      refused-unmapped : unmapped (given .type) ≡ true → SlotsAre table pool (Refused Unmapped) out out
+      unfolding slotting unlessZero unless
+      refused-unmapped u = refused table pool out Unmapped (finding ∙ rw (none-zero, u))
 
-      pub slots-lost : y ≡ Lost → SlotsAre table pool (Refused Unmapped) out out
-      slots-lost f = let c = counted in let w : _≡_ {A = ℕ} 0 1 = cc in absurd (omega arith)
+      pub slots-other : t .unmapped ≡ true → SlotsAre table pool (Refused Unmapped) out out
+      slots-other u =
+          refused-unmapped (unmapped-counted (given .type) ∙ go (holdsOtherReference (given .type)) (holdsHiddenReference (given .type)) _ (sym (ap (λ (v : Tally). v .unmapped) tally) ∙ u))
+        where
+          go : (a b c : Bool) → (a || b) ≡ true → (a || (b || c)) ≡ true
+          go true b c h = refl
+          go false b c h = rw h
 
-      module _ {t : Tally} (f : y ≡ At t) where
-        tally : t ≡ record { row = s .row; place = s .place; unmapped = holdsOtherReference (given .type) || holdsHiddenReference (given .type); count = mostSlots (slotCount (given .type)); end = mostEnd (slotEnd (given .type)) }
-        tally = let c = counted in cc
+      pub slots-many : s .size / 8 < t .count → SlotsAre table pool (Refused Unmapped) out out
+      slots-many l =
+          let w : typeSize (given .type) / 8 < slotCount (given .type) = omega (arith, count-is, ap (λ (n : ℕ). n / 8) sized) in
+          refused-unmapped (unmapped-counted (given .type) ∙ rw (lt-ltb (typeSize (given .type) / 8) (slotCount (given .type)) w, or-true, or-true))
 
-        count-is : t .count ≡ mostSlots (slotCount (given .type))
-        count-is = ap (λ (v : Tally). v .count) tally
+      pub slots-far : s .size < t .end → SlotsAre table pool (Refused Unmapped) out out
+      slots-far l =
+          let w : typeSize (given .type) < slotEnd (given .type) = omega (arith, end-is, sized) in
+          refused-unmapped (unmapped-counted (given .type) ∙ rw (lt-ltb (typeSize (given .type)) (slotEnd (given .type)) w, or-true, or-true, or-true))
 
-        end-is : t .end ≡ mostEnd (slotEnd (given .type))
-        end-is = ap (λ (v : Tally). v .end) tally
+      module _ (u : t .unmapped ≡ false) (m : t .count ≤ s .size / 8) (n : t .end ≤ s .size) (low : s .size < 4294967296) where
+        all-counted : slotCount (given .type) ≡ t .count
+        all-counted = omega (arith, count-is, div-mul-le-self (s .size) 8)
 
-        refused-unmapped : unmapped (given .type) ≡ true → SlotsAre table pool (Refused Unmapped) out out
-        unfolding slotting unlessZero unless
-        refused-unmapped u = refused table pool out Unmapped (finding ∙ rw (none-zero, u))
+        all-ends : slotEnd (given .type) ≤ typeSize (given .type)
+        all-ends = omega (arith, end-is, sized)
 
-        pub slots-other : t .unmapped ≡ true → SlotsAre table pool (Refused Unmapped) out out
-        slots-other u =
-            refused-unmapped (unmapped-counted (given .type) ∙ go (holdsOtherReference (given .type)) (holdsHiddenReference (given .type)) _ (sym (ap (λ (v : Tally). v .unmapped) tally) ∙ u))
-          where
-            go : (a b c : Bool) → (a || b) ≡ true → (a || (b || c)) ≡ true
-            go true b c h = refl
-            go false b c h = rw h
+        neither : (holdsOtherReference (given .type) || holdsHiddenReference (given .type)) ≡ false
+        neither = sym (ap (λ (v : Tally). v .unmapped) tally) ∙ u
 
-        pub slots-many : s .size / 8 < t .count → SlotsAre table pool (Refused Unmapped) out out
-        slots-many l =
-            let w : typeSize (given .type) / 8 < slotCount (given .type) = omega (arith, count-is, ap (λ (n : ℕ). n / 8) sized) in
-            refused-unmapped (unmapped-counted (given .type) ∙ rw (lt-ltb (typeSize (given .type) / 8) (slotCount (given .type)) w, or-true, or-true))
+        mapped : unmapped (given .type) ≡ false
+        mapped =
+            let w = or-neither (holdsOtherReference (given .type)) (holdsHiddenReference (given .type)) neither in
+            let q : slotCount (given .type) ≤ typeSize (given .type) / 8 = omega (arith, all-counted, ap (λ (n : ℕ). n / 8) sized) in
+            unmapped-counted (given .type) ∙ rw (w .0, w .1, le-ltb (typeSize (given .type) / 8) (slotCount (given .type)) q, le-ltb (typeSize (given .type)) (slotEnd (given .type)) all-ends)
 
-        pub slots-far : s .size < t .end → SlotsAre table pool (Refused Unmapped) out out
-        slots-far l =
-            let w : typeSize (given .type) < slotEnd (given .type) = omega (arith, end-is, sized) in
-            refused-unmapped (unmapped-counted (given .type) ∙ rw (lt-ltb (typeSize (given .type)) (slotEnd (given .type)) w, or-true, or-true, or-true))
+        long : length (slots (given .type)) ≡ t .count
+        long = length-slots (given .type) ∙ all-counted
 
-        module _ (u : t .unmapped ≡ false) (m : t .count ≤ s .size / 8) (n : t .end ≤ s .size) (low : s .size < 4294967296) where
-          all-counted : slotCount (given .type) ≡ t .count
-          all-counted = omega (arith, count-is, div-mul-le-self (s .size) 8)
+        pub slots-room : length out < t .count → SlotsAre table pool (Refused (NoRoom (t .count))) out out
+        unfolding slotting unlessZero unless needed
+        slots-room l =
+            let e : min (t .count) 18446744073709551615 ≡ t .count = omega (arith, div-mul-le-self (s .size) 8) in
+            refused table pool out (NoRoom (t .count)) (finding ∙ rw (none-zero, mapped, long, lt-leb (t .count) (length out) l, e))
 
-          all-ends : slotEnd (given .type) ≤ typeSize (given .type)
-          all-ends = omega (arith, end-is, sized)
-
-          neither : (holdsOtherReference (given .type) || holdsHiddenReference (given .type)) ≡ false
-          neither = sym (ap (λ (v : Tally). v .unmapped) tally) ∙ u
-
-          mapped : unmapped (given .type) ≡ false
-          mapped =
-              let w = or-neither (holdsOtherReference (given .type)) (holdsHiddenReference (given .type)) neither in
-              let q : slotCount (given .type) ≤ typeSize (given .type) / 8 = omega (arith, all-counted, ap (λ (n : ℕ). n / 8) sized) in
-              unmapped-counted (given .type) ∙ rw (w .0, w .1, le-ltb (typeSize (given .type) / 8) (slotCount (given .type)) q, le-ltb (typeSize (given .type)) (slotEnd (given .type)) all-ends)
-
-          long : length (slots (given .type)) ≡ t .count
-          long = length-slots (given .type) ∙ all-counted
-
-          pub slots-room : length out < t .count → SlotsAre table pool (Refused (NoRoom (t .count))) out out
-          unfolding slotting unlessZero unless needed
-          slots-room l =
-              let e : min (t .count) 18446744073709551615 ≡ t .count = omega (arith, div-mul-le-self (s .size) 8) in
-              refused table pool out (NoRoom (t .count)) (finding ∙ rw (none-zero, mapped, long, lt-leb (t .count) (length out) l, e))
-
-          pub slots-found : (x : ℕ) (out′ : List ℕ) → t .count ≤ length out → PutAs (typeAt 32 table pool 0 0) 0 out 0 x out′ → SlotsAre table pool (SlotsFound (t .count)) out out′
-          unfolding PutAs slotting unlessZero unless answerOf outputAfter
-          slots-found x out′ r v =
-              let w = rw (given .stands) at v in
-              let q : shifted 0 (slots (given .type)) ≡ slots (given .type) = shifted-zero (slots (given .type)) in
-              let o : someOutside (typeSize (given .type)) (slots (given .type)) ≡ false =
-              slots-outside (given .type) (typeSize (given .type)) ∙ le-ltb (typeSize (given .type)) (slotEnd (given .type)) all-ends in
-              let p : Fits (slots (given .type)) out 0 = record { room = omega (arith, long); low = all-low (typeSize (given .type)) (slots (given .type)) (omega (arith, sized)) o } in
-              let l : Listed (slots (given .type)) out 0 x out′ = rw q at (w (record { sized = none-zero; mapped = neither }) (rw q p)) in
-              let d : findingSlots table pool (length out) ≡ gives (slots (given .type)) = finding ∙ rw (none-zero, mapped, long, le-leb (t .count) (length out) r) in
-              let a : SlotsFound (t .count) ≡ answerOf (findingSlots table pool (length out)) = rw (d, long) in
-              let n = told (findingSlots table pool (length out)) a in
-              record { answer = a; number = n .0; values = n .1; out-is = l .out-is ∙ rw d (sets-front (slots (given .type)) out (omega (arith, long))) }
+        pub slots-found : (x : ℕ) (out′ : List ℕ) → t .count ≤ length out → PutAs (typeAt 32 table pool 0 0) 0 out 0 x out′ → SlotsAre table pool (SlotsFound (t .count)) out out′
+        unfolding PutAs slotting unlessZero unless answerOf outputAfter
+        slots-found x out′ r v =
+            let w = rw (given .stands) at v in
+            let q : shifted 0 (slots (given .type)) ≡ slots (given .type) = shifted-zero (slots (given .type)) in
+            let o : someOutside (typeSize (given .type)) (slots (given .type)) ≡ false =
+            slots-outside (given .type) (typeSize (given .type)) ∙ le-ltb (typeSize (given .type)) (slotEnd (given .type)) all-ends in
+            let p : Fits (slots (given .type)) out 0 = record { room = omega (arith, long); low = all-low (typeSize (given .type)) (slots (given .type)) (omega (arith, sized)) o } in
+            let l : Listed (slots (given .type)) out 0 x out′ = rw q at (w (record { sized = none-zero; mapped = neither }) (rw q p)) in
+            let d : findingSlots table pool (length out) ≡ gives (slots (given .type)) = finding ∙ rw (none-zero, mapped, long, le-leb (t .count) (length out) r) in
+            let a : SlotsFound (t .count) ≡ answerOf (findingSlots table pool (length out)) = rw (d, long) in
+            let n = told (findingSlots table pool (length out)) a in
+            record { answer = a; number = n .0; values = n .1; out-is = l .out-is ∙ rw d (sets-front (slots (given .type)) out (omega (arith, long))) }

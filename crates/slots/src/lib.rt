@@ -5,6 +5,7 @@ use rows::Member;
 use rows::entry_at;
 use rows::member_at;
 use table::Checked;
+use table::Survey;
 use table::Surveyed;
 use table::check;
 use table::scaled;
@@ -14,6 +15,7 @@ ghost use mathlib.Core.Bool.{_||_};
 ghost use Prim.Native.Nat.{_+_, _*_, _-_, _≤_, _<_, max};
 ghost use Rattle.format.specs.Slots.{lastEnd, movedEnd};
 ghost use Rattle.format.specs.Table.{typeAt, membersAt};
+ghost use Rattle.table.specs.Survey.{Sets};
 ghost use Rattle.slots.specs.Slots.{mostSlots, mostEnd, leafTally, hiddenTally, entriesTally, CountedAs, CountedIn, topOf, Standing, PutAs, PutOne, PutIn, PutEach, SlotsAre};
 
 // What a first walk finds, before anything is listed: the next row and pool place, whether the type holds a reference that is no slot's, the
@@ -483,6 +485,42 @@ fn put_entries(
     next
 }
 
+// Of a type that the check has surveyed.
+fn slots_checked(table: &[u32], pool: &[u8], out: &mut [u64], s: Survey) -> Slots
+    requires { ⌜ Sets (now table) (now pool) s ⌝ }
+    ensures { λ r. ⌜ SlotsAre (now (table .entry)) (now (pool .entry)) r (now (out .entry)) (now (out .exit)) ⌝ }
+{
+    if s.zero != 0 {
+        return Slots::Refused(Refusal::ZeroSize((s.zero - 1) as u8));
+    }
+    let got = tally_type(table, pool, 0, 0, 32);
+    match got {
+        Tallied::Lost => Slots::Refused(Refusal::Unmapped),
+        Tallied::At(t) => {
+            if t.unmapped {
+                return Slots::Refused(Refusal::Unmapped);
+            }
+            let size = s.size as u64;
+            if size / 8 < t.count {
+                return Slots::Refused(Refusal::Unmapped);
+            }
+            if size < t.end {
+                return Slots::Refused(Refusal::Unmapped);
+            }
+            let count = t.count;
+            if (out.len() as u64) < count {
+                return Slots::Refused(Refusal::NoRoom(count));
+            }
+            let path = Path {
+                rows: [0; 32],
+                depth: 1,
+            };
+            put_type(table, pool, path, 0, 0, out, 0);
+            Slots::Found(count)
+        }
+    }
+}
+
 // The slots of the type that a table and pool set out, in walking order, into the front of `out`; a refusal leaves it as it is. Refused, in
 // this order: BadTable, ZeroSize, Unmapped, NoRoom. Cost: the check of the table, a first walk that lists nothing, and the listing, which
 // walks over an array's base again for each entry.
@@ -492,36 +530,6 @@ pub fn embedded_reference_slots(table: &[u32], pool: &[u8], out: &mut [u64]) -> 
     let checked = check(table, pool);
     match checked {
         Checked::Bad => Slots::Refused(Refusal::BadTable),
-        Checked::Good(s) => {
-            if s.zero != 0 {
-                return Slots::Refused(Refusal::ZeroSize((s.zero - 1) as u8));
-            }
-            let got = tally_type(table, pool, 0, 0, 32);
-            match got {
-                Tallied::Lost => Slots::Refused(Refusal::Unmapped),
-                Tallied::At(t) => {
-                    if t.unmapped {
-                        return Slots::Refused(Refusal::Unmapped);
-                    }
-                    let size = s.size as u64;
-                    if size / 8 < t.count {
-                        return Slots::Refused(Refusal::Unmapped);
-                    }
-                    if size < t.end {
-                        return Slots::Refused(Refusal::Unmapped);
-                    }
-                    let count = t.count;
-                    if (out.len() as u64) < count {
-                        return Slots::Refused(Refusal::NoRoom(count));
-                    }
-                    let path = Path {
-                        rows: [0; 32],
-                        depth: 1,
-                    };
-                    put_type(table, pool, path, 0, 0, out, 0);
-                    Slots::Found(count)
-                }
-            }
-        }
+        Checked::Good(s) => slots_checked(table, pool, out, s),
     }
 }
