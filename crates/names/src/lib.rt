@@ -301,12 +301,32 @@ pub fn read_name(msg: &[u8], at: usize, pool: &mut [u8], place: usize, room: usi
     Name::Missing
 }
 
+// Where the ASCII bytes but NUL that begin at `from` end: at the first other byte, or at `to`. They do not decide whether the name is valid.
+fn plain_end(pool: &[u8], from: usize, to: usize) -> usize
+    requires { ⌜ (from ≤ to) × (to ≤ length (now pool)) ⌝ }
+    ensures inside { λ r. ⌜ r ≤ to ⌝ }
+    ensures rest { λ r. ⌜ (noNul (take (to - from) (drop from (now (pool .entry)))) && wellFormed (take (to - from) (drop from (now (pool .entry))))) ≡ (noNul (take (to - r) (drop r (now (pool .entry)))) && wellFormed (take (to - r) (drop r (now (pool .entry))))) ⌝ }
+{
+    let mut i = from;
+    while i < to {
+        let byte = pool[i];
+        if byte == 0 {
+            return i;
+        }
+        if byte >= 0x80 {
+            return i;
+        }
+        i += 1;
+    }
+    i
+}
+
 // Whether the bytes from `from` up to `to` are valid UTF-8 without NUL.
 pub fn valid_name(pool: &[u8], from: usize, to: usize) -> bool
     requires { ⌜ (from ≤ to) × (to ≤ length (now pool)) ⌝ }
     ensures { λ r. ⌜ r ≡ (noNul (take (to - from) (drop from (now (pool .entry)))) && wellFormed (take (to - from) (drop from (now (pool .entry))))) ⌝ }
 {
-    let mut i = from;
+    let mut i = plain_end(pool, from, to);
     let mut more: u8 = 0;
     let mut low: u8 = 0;
     let mut high: u8 = 0;

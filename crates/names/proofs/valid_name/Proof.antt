@@ -1,5 +1,5 @@
 use Prim.Native.Nat.{_-_, _≤_}
-use mathlib.Core.Path.{_≡_}
+use mathlib.Core.Path.{_≡_, _∙_}
 use mathlib.Core.Bool.{_&&_}
 use native.Mathlib.Omega.{arith}
 use borrow.Author.Needs.{needs}
@@ -17,7 +17,10 @@ abbrev μ-loop : tie.MeasureT-loop
 μ-loop pool from to i₀ more₀ low₀ high₀ i more low high = to - i
 
 loop-holds : tie.Need-loop-holds Inv-loop μ-loop
-loop-holds c = ((omega arith, omega arith), valid-start _)
+loop-holds c = ((omega arith, omega arith), c .plain-end .ensures .1 ∙ valid-start _)
+
+plain-end-requires : tie.Need-plain-end-requires Inv-loop μ-loop
+plain-end-requires c κs = search needs
 
 shared-slice-read-byte : tie.Need-shared-slice-read-byte Inv-loop μ-loop
 shared-slice-read-byte c = search needs
@@ -94,6 +97,7 @@ valid-name-spec =
     (tie.spec
     Inv-loop
     μ-loop
+    plain-end-requires
     loop-holds
     shared-slice-read-byte
     returns
