@@ -46,10 +46,6 @@ pub bit-lt : (k b : ℕ) → bitAt k b < 2
 unfolding bitAt
 bit-lt k b = low-lt 1 (highBits k b)
 
-pub high-lt : (b : ℕ) → b < 256 → highBits 4 b < 16
-unfolding highBits
-high-lt b h = omega arith
-
 pub join-lt : (k j low high : ℕ) → low < 2 ^ k → high < 2 ^ j → joinBits k low high < 2 ^ (k + j)
 unfolding joinBits
 join-lt k j low high h g =

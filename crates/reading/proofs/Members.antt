@@ -126,6 +126,38 @@ module _ (rd : Reader Datatype) (d : List ℕ) (lim : Limits) (v size count used
         near = omega (arith, l .near, ap length (part-all d (s .at)), length-drop (s .at) d, e .within);
       }
 
+-- the table and the pool keep their lengths, in the calls of a turn too
+module _ {rd : Reader Datatype} {d : List ℕ} {lim : Limits} {v size count used pooled i at rows place : ℕ} {t t₁ p p₁ : List ℕ}
+    (w : Progress rd d lim v size count used pooled i at rows place t t₁ p p₁) where
+  pub progress-table : length t₁ ≡ length t
+  progress-table = ap length (w .table) ∙ length-sets t (used * 16) (memberRows pooled (w .front))
+
+  pub progress-pool : length p₁ ≡ length p
+  progress-pool = ap length (w .pool) ∙ length-sets p pooled (memberPool (w .front))
+
+  module _ {n : ℕ} where
+    pub table-entered : n ≡ length t₁ → n ≡ length t
+    table-entered h = h ∙ progress-table
+
+    pub pool-entered : n ≡ length p₁ → n ≡ length p
+    pool-entered h = h ∙ progress-pool
+
+    module _ {m : ℕ} where
+      pub table-turned : m ≡ length t₁ → n ≡ m → n ≡ length t
+      table-turned h g = g ∙ h ∙ progress-table
+
+      pub pool-turned : m ≡ length p₁ → n ≡ m → n ≡ length p
+      pool-turned h g = g ∙ h ∙ progress-pool
+
+-- what a member's entering leaves for its type: premises in the order in which each fixes the next
+pub entered-ready : {rd : Reader Datatype} {d : List ℕ} {lim : Limits} {v size count used pooled i at rows place : ℕ} {t t₁ t₂ p p₁ p₂ : List ℕ} {x : Step} {s : State}
+    → Enters d lim v size at rows place x t₁ t₂ p₁ p₂ → x ≡ StepDone s → Progress rd d lim v size count used pooled i at rows place t t₁ p p₁ → Ready lim used pooled t p → Ready lim (s .rows) (s .pooled) t₂ p₂
+entered-ready {rows = rows} {place = place} {t₁ = t₁} {p₁ = p₁} {s = s} m q w ready =
+    let e = m .entered s q in
+    ready-at (s .rows) (s .pooled) ready (e .filled) (e .room)
+    (ap length (e .table) ∙ length-sets t₁ (rows * 16) (memberRow place (e .offset) (length (e .name))) ∙ progress-table w)
+    (ap length (e .pool) ∙ length-sets p₁ place (e .name) ∙ progress-pool w)
+
 module _ (rd : Reader Datatype) (d : List ℕ) (lim : Limits) (v size count used pooled : ℕ) where
   pub members-begun : {t p : List ℕ} → Ready lim used pooled t p → 8 ≤ length d → Progress rd d lim v size count used pooled 0 8 used pooled t t p p
   unfolding joinMembers memberCount rowCount poolBytes rows
@@ -151,13 +183,6 @@ module _ (rd : Reader Datatype) (d : List ℕ) (lim : Limits) (v size count used
         ready-at rows place ready (w .filled) (w .room)
         (ap length (w .table) ∙ length-sets t (used * 16) (memberRows pooled (w .front)))
         (ap length (w .pool) ∙ length-sets p pooled (memberPool (w .front)))
-
-    -- the table and the pool keep their lengths
-    pub progress-table : length t₁ ≡ length t
-    progress-table = ap length (w .table) ∙ length-sets t (used * 16) (memberRows pooled (w .front))
-
-    pub progress-pool : length p₁ ≡ length p
-    progress-pool = ap length (w .pool) ∙ length-sets p pooled (memberPool (w .front))
 
     pub members-ended : count ≤ i
         → AfterMembers count (run (readMembers rd v size count) d lim 8 used pooled) d lim used pooled (StepDone (record { at = at; rows = rows; pooled = place; size = 0 })) t t₁ p p₁
@@ -188,13 +213,6 @@ module _ (rd : Reader Datatype) (d : List ℕ) (lim : Limits) (v size count used
         members-stopped {e} q = refuses (w .is ∙ rw (one-left, m .stopped e q rd (count - (i + 1))))
 
         module _ {s : State} (q : x ≡ StepDone s) where
-          pub entered-ready : Ready lim used pooled t p → Ready lim (s .rows) (s .pooled) t₂ p₂
-          entered-ready ready =
-              let e = m .entered s q in
-              ready-at (s .rows) (s .pooled) (members-ready ready) (e .filled) (e .room)
-              (ap length (e .table) ∙ length-sets t₁ (rows * 16) (memberRow place (e .offset) (length (e .name))))
-              (ap length (e .pool) ∙ length-sets p₁ place (e .name))
-
           pub entered-within : s .at ≤ length d
           entered-within = m .entered s q .within
 

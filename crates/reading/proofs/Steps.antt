@@ -1,6 +1,5 @@
 -- The reader's steps at a place of a message: what each gives, and where it ends.
 use mathlib.Core.Path.{_≡_, refl, ap, _∙_}
-use mathlib.Core.Bool.{Bool, true, false}
 use mathlib.Core.Option.{none, some}
 use mathlib.Core.List.{List}
 use Prim.Native.Nat.{ℕ, zero, suc, _+_, _-_, _<_, _≤_}
@@ -47,15 +46,6 @@ module _ (v at : ℕ) (s : List ℕ) (cap used p : ℕ) where
   row-full h =
       let e : cap - used ≡ 0 = omega arith in
       rw e
-
-module _ (v at : ℕ) (s : List ℕ) (r p : ℕ) (b : Bool) (e : Refusal) where
-  pub require-go : b ≡ true → require b e v at s r p ≡ got tt at s r p
-  unfolding require
-  require-go h = rw h
-
-  pub require-no : b ≡ false → require b e v at s r p ≡ refused e
-  unfolding require
-  require-no h = rw h
 
 module _ (n at : ℕ) (d : List ℕ) (r p : ℕ) where
   pub bytes-go : at + n ≤ length d → bytes n (length d) at (drop at d) r p ≡ got (take n (drop at d)) (at + n) (drop (at + n) d) r p

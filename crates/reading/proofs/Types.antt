@@ -43,6 +43,71 @@ module _ {used : ℕ} {h : Header} {count : ℕ} {inner : State} {t : List ℕ} 
         denied = not-refused _;
       }
 
+-- ---- what is known of an opened type, whatever the levels left
+
+module _ {d : List ℕ} {lim : Limits} {used pooled : ℕ} {o : Opened} (w : Opens d lim used pooled o) where
+  module _ {h : Header} (q : o ≡ Leaf h) where
+    pub leaf-free : used < lim .rows
+    leaf-free = w .leaf h q .free
+
+    pub leaf-long : 8 ≤ length d
+    leaf-long = w .leaf h q .long
+
+    pub leaf-kind : leafKind (classKind (h .class)) ≡ true
+    leaf-kind = w .leaf h q .leaf
+
+  module _ {h : Header} {v : ℕ} (q : o ≡ Compound h v) where
+    pub compound-free : used < lim .rows
+    compound-free = w .compound h v q .free
+
+    pub compound-long : 8 ≤ length d
+    compound-long = w .compound h v q .long
+
+    pub compound-ready : {t p : List ℕ} → Ready lim used pooled t p → Ready lim (used + 1) pooled t p
+    compound-ready ready = ready-at (used + 1) pooled ready (omega (arith, compound-free)) (ready .room) refl refl
+
+  module _ {h : Header} {b : Base} (q : o ≡ Based h b) where
+    pub based-free : used < lim .rows
+    based-free = w .based h b q .free
+
+    pub based-within : b .from ≤ length d
+    based-within = w .based h b q .within
+
+    pub based-ready : {t p : List ℕ} → Ready lim used pooled t p → Ready lim (used + 1) (b .place) t p
+    based-ready ready = ready-at (used + 1) (b .place) ready (omega (arith, based-free)) (w .based h b q .room) refl refl
+
+    module _ {inner : Answer Datatype} {r : Step} {t t₂ p p₂ : List ℕ} {s : State}
+        (n : AfterType inner (take (length d - b .from) (drop (b .from) d)) lim (used + 1) (b .place) r t t₂ p p₂) (k : r ≡ StepDone s) where
+      pub based-near : b .from + s .at ≤ length d + 7
+      based-near = omega (arith, n .done s k .near, ap length (part-all d (b .from)), length-drop (b .from) d, based-within)
+
+      pub based-asks : Ready lim used pooled t p
+          → (((Ready lim (s .rows) (s .pooled) t₂ p₂ × (b .from + s .at ≤ length d + 7)) × (0 < s .size)) × ((used < lim .rows) × (used < s .rows)))
+          × (basedKind (classKind (h .class)) (b .rank) × ((b .start + 4 * b .rank ≤ length d) × (pooled + 4 * b .rank ≤ s .pooled)))
+      based-asks ready =
+          let l = n .done s k in
+          let x = w .based h b q in (
+            (
+              (
+                (
+                  ready-at (s .rows) (s .pooled) ready (l .filled) (l .room)
+                      (ap length (l .table) ∙ length-sets t ((used + 1) * 16) (rows (b .place) (l .tree)))
+                      (ap length (l .pool) ∙ length-sets p (b .place) (poolBytes (l .tree))),
+                  based-near,
+                ),
+                omega (arith, l .such .0, l .such .1),
+              ),
+              (based-free, omega (arith, l .rows-are)),
+            ),
+            (x .based, (omega (arith, x .sought, x .within), omega (arith, x .place-is, l .pooled-are))),
+          )
+
+pub compound-filled : {d : List ℕ} {lim : Limits} {used pooled : ℕ} {o : Opened} {h : Header} {v count : ℕ} {inner : Answer Members} {r : Step} {t t₂ p p₂ : List ℕ} {s : State}
+    → AfterMembers count inner d lim (used + 1) pooled r t t₂ p p₂ → r ≡ StepDone s → Opens d lim used pooled o → o ≡ Compound h v → Ready lim used pooled t p → used * 16 + 16 ≤ length t₂
+compound-filled {used = used} {pooled = pooled} {t = t} {s = s} m k w q ready =
+    let x = ready .table in
+    omega (arith, compound-free w q, ap length (m .done s k .table), length-sets t ((used + 1) * 16) (memberRows pooled (m .done s k .tree)))
+
 -- ---- a type
 
 level : {levels : ℕ} → (levels ≡ 0 → ⊥) → levels ≡ suc (levels - 1)
@@ -61,15 +126,6 @@ module _ {d : List ℕ} {lim : Limits} {used pooled levels : ℕ} where
     type-shuts {e} q = refuses (at-level (w .shut e q (levels - 1)))
 
     module _ {h : Header} (q : o ≡ Leaf h) where
-      pub leaf-free : used < lim .rows
-      leaf-free = w .leaf h q .free
-
-      pub leaf-long : 8 ≤ length d
-      leaf-long = w .leaf h q .long
-
-      pub leaf-kind : leafKind (classKind (h .class)) ≡ true
-      leaf-kind = w .leaf h q .leaf
-
       pub type-leaf : {r : Step} {t t′ p p′ : List ℕ} → AfterType (run (sized h (readLeaf h)) d lim 8 (used + 1) pooled) d lim used pooled r t t′ p p′
           → AfterType (run (readType (lim .version) levels) d lim 0 used pooled) d lim used pooled r t t′ p p′
       type-leaf = same (at-level (w .leaf h q .is (levels - 1)))
@@ -77,15 +133,6 @@ module _ {d : List ℕ} {lim : Limits} {used pooled levels : ℕ} where
     -- ---- a compound
 
     module _ {h : Header} {v : ℕ} (q : o ≡ Compound h v) where
-      pub compound-free : used < lim .rows
-      compound-free = w .compound h v q .free
-
-      pub compound-long : 8 ≤ length d
-      compound-long = w .compound h v q .long
-
-      pub compound-ready : {t p : List ℕ} → Ready lim used pooled t p → Ready lim (used + 1) pooled t p
-      compound-ready ready = ready-at (used + 1) pooled ready (omega (arith, compound-free)) (ready .room) refl refl
-
       module _ {a b : ℕ} {r : Step} {t t₂ p p₂ : List ℕ} (ea : (a ≡ h .f0) × (a < 256)) (eb : (b ≡ h .f1) × (b < 256))
           (m : AfterMembers (a + 256 * b) (run (readMembers (readType (lim .version) (levels - 1)) v (h .size) (a + 256 * b)) d lim 8 (used + 1) pooled) d lim (used + 1) pooled r t t₂ p p₂) where
         counted : countOf h ≡ a + 256 * b
@@ -108,11 +155,6 @@ module _ {d : List ℕ} {lim : Limits} {used pooled levels : ℕ} where
             refuses (at-level (w .compound h v q .is (levels - 1) ∙ sized-no h (readCompound (readType (lim .version) (levels - 1)) h v) _ _ _ _ _ e (compound-no e (m .denied e k))))
 
         module _ {s : State} (k : r ≡ StepDone s) where
-          pub compound-filled : Ready lim used pooled t p → used * 16 + 16 ≤ length t₂
-          compound-filled ready =
-              let x = ready .table in
-              omega (arith, compound-free, ap length (m .done s k .table), length-sets t ((used + 1) * 16) (memberRows pooled (m .done s k .tree)))
-
           module _ {y : Step} {t₃ : List ℕ} (c : CompoundEnds used h (a + 256 * b) s y t₂ t₃) where
             compound-landed : (z : State) → y ≡ StepDone z → LandedType (run (readType (lim .version) levels) d lim 0 used pooled) d lim used pooled z t t₃ p p₂
             unfolding typeSize rows poolBytes rowCount
@@ -146,15 +188,6 @@ module _ {d : List ℕ} {lim : Limits} {used pooled levels : ℕ} where
     -- ---- a type over a base
 
     module _ {h : Header} {b : Base} (q : o ≡ Based h b) where
-      pub based-free : used < lim .rows
-      based-free = w .based h b q .free
-
-      pub based-within : b .from ≤ length d
-      based-within = w .based h b q .within
-
-      pub based-ready : {t p : List ℕ} → Ready lim used pooled t p → Ready lim (used + 1) (b .place) t p
-      based-ready ready = ready-at (used + 1) (b .place) ready (omega (arith, based-free)) (w .based h b q .room) refl refl
-
       module _ {r : Step} {t t₂ p p₂ : List ℕ}
           (n : AfterType (run (readType (lim .version) (levels - 1)) (take (length d - b .from) (drop (b .from) d)) lim 0 (used + 1) (b .place)) (take (length d - b .from) (drop (b .from) d)) lim (used + 1) (b .place) r t t₂ p p₂) where
         based-no : (e : Refusal) → run (readType (lim .version) (levels - 1)) (take (length d - b .from) (drop (b .from) d)) lim 0 (used + 1) (b .place) ≡ refused e
@@ -170,30 +203,6 @@ module _ {d : List ℕ} {lim : Limits} {used pooled levels : ℕ} where
         module _ {s : State} (k : r ≡ StepDone s) where
           base-landed : LandedType (run (readType (lim .version) (levels - 1)) (take (length d - b .from) (drop (b .from) d)) lim 0 (used + 1) (b .place)) (take (length d - b .from) (drop (b .from) d)) lim (used + 1) (b .place) s t t₂ p p₂
           base-landed = n .done s k
-
-          pub based-near : b .from + s .at ≤ length d + 7
-          based-near = omega (arith, base-landed .near, ap length (part-all d (b .from)), length-drop (b .from) d, based-within)
-
-          pub based-asks : Ready lim used pooled t p
-              → (((Ready lim (s .rows) (s .pooled) t₂ p₂ × (b .from + s .at ≤ length d + 7)) × (0 < s .size)) × ((used < lim .rows) × (used < s .rows)))
-              × (basedKind (classKind (h .class)) (b .rank) × ((b .start + 4 * b .rank ≤ length d) × (pooled + 4 * b .rank ≤ s .pooled)))
-          based-asks ready =
-              let l = base-landed in
-              let x = w .based h b q in (
-                (
-                  (
-                    (
-                      ready-at (s .rows) (s .pooled) ready (l .filled) (l .room)
-                          (ap length (l .table) ∙ length-sets t ((used + 1) * 16) (rows (b .place) (l .tree)))
-                          (ap length (l .pool) ∙ length-sets p (b .place) (poolBytes (l .tree))),
-                      based-near,
-                    ),
-                    omega (arith, l .such .0, l .such .1),
-                  ),
-                  (based-free, omega (arith, l .rows-are)),
-                ),
-                (x .based, (omega (arith, x .sought, x .within), omega (arith, x .place-is, l .pooled-are))),
-              )
 
           rank-is : length (dimensionsOf d b) ≡ b .rank
           unfolding dimensionsOf

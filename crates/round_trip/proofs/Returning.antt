@@ -42,9 +42,6 @@ turned-is (refuses e) = refl
 no-gives : {m : List ℕ} {e : Refusal} → _≡_ {A = Outcome (List ℕ)} (gives m) (refuses e) → ⊥
 no-gives h = let z : _≡_ {A = ℕ} 0 1 = cc in omega arith
 
-same-message : {m n : List ℕ} → _≡_ {A = Outcome (List ℕ)} (gives m) (gives n) → m ≡ n
-same-message h = cc
-
 same-refusal : {e f : Refusal} → _≡_ {A = Outcome (List ℕ)} (refuses e) (refuses f) → e ≡ f
 same-refusal h = cc
 

@@ -3,7 +3,7 @@ use borrow.Author.Needs.{needs}
 use native.Mathlib.Omega.{arith}
 use Rattle.format.specs.Reading.{readType}
 use Rattle.reading.specs.Members.{Progress}
-use Rattle.reading.proofs.Members.{members-begun, members-ready, members-ended, members-stopped, entered-ready, entered-within, members-refused, members-turned, turned-near, progress-table, progress-pool}
+use Rattle.reading.proofs.Members.{members-begun, members-ready, members-ended, members-stopped, entered-ready, entered-within, members-refused, members-turned, turned-near, progress-table, progress-pool, table-entered, pool-entered, table-turned, pool-turned}
 use Rattle.reading.proofs.Types.{type-ends, type-shuts, leaf-free, leaf-long, leaf-kind, type-leaf, compound-free, compound-long, compound-ready, compound-refuses, compound-filled, compound-ends, based-free, based-within, based-ready, based-refuses, based-near, based-asks, based-ends}
 use Prim.Native.Nat.{ℕ, _<_}
 use borrow.Fn.Kinds.{In}
@@ -63,22 +63,22 @@ abbrev read-type-calls : ℕ → read-type-lts.Claims
 read-type-calls t = (open-type-reads.Asked, open-type-reads.Learnt, read-leaf-reads.Asked, read-leaf-reads.Learnt, wide32-reads.Asked, wide32-reads.Learnt, read-members-below t, read-members.Post, end-compound-reads.Asked, end-compound-reads.Learnt, read-type-below t, read-type.Post, end-based-reads.Asked, end-based-reads.Learnt)
 
 read-members-loop-holds : (t : ℕ) → read-members-lts.Need-loop-holds (read-members-calls t) (read-members-at t) read-members.Post read-members-Inv-loop read-members-μ-loop
-read-members-loop-holds t c = members-begun _ _ _ _ _ _ _ _ ((c .before .before .before) .pre .1 .0 .0) ((c .before .before .before) .pre .1 .0 .1)
+read-members-loop-holds t c = search members-begun
 
 read-members-enter-member-requires : (t : ℕ) → read-members-lts.Need-enter-member-requires (read-members-calls t) (read-members-at t) read-members.Post read-members-Inv-loop read-members-μ-loop
-read-members-enter-member-requires t c κs = (members-ready _ _ _ _ _ _ _ _ ((c .before .before .before .loop) .inv) ((c .before .before .before .before .before .before .before) .pre .1 .0 .0), (c .before .before .before .loop) .inv .near)
+read-members-enter-member-requires t c κs = search members-ready
 
 read-members-enum-known-entered : (t : ℕ) → read-members-lts.Need-enum-known-entered (read-members-calls t) (read-members-at t) read-members.Post read-members-Inv-loop read-members-μ-loop
 read-members-enum-known-entered t c = search needs
 
 read-members-same-length : (t : ℕ) → read-members-lts.Need-same-length (read-members-calls t) (read-members-at t) read-members.Post read-members-Inv-loop read-members-μ-loop
-read-members-same-length t c = omega (arith, (c .before .before .before .before .before .before .before .enter-member) .kept .1 .0, progress-table _ _ _ _ _ _ _ _ ((c .before .before .before .before .before .before .before .before .before .before .before .loop) .inv))
+read-members-same-length t c = search table-entered
 
 read-members-same-length-2 : (t : ℕ) → read-members-lts.Need-same-length-2 (read-members-calls t) (read-members-at t) read-members.Post read-members-Inv-loop read-members-μ-loop
-read-members-same-length-2 t c = omega (arith, (c .before .before .before .before .before .before .before .enter-member) .kept .1 .1 .0, progress-pool _ _ _ _ _ _ _ _ ((c .before .before .before .before .before .before .before .before .before .before .before .loop) .inv))
+read-members-same-length-2 t c = search pool-entered
 
 read-members-returns : (t : ℕ) → read-members-lts.Need-returns (read-members-calls t) (read-members-at t) read-members.Post read-members-Inv-loop read-members-μ-loop
-read-members-returns t c = members-stopped _ _ _ _ _ _ _ _ ((c .before .before .before .before .before .before .before .before .before .before .before .loop) .inv) ((c .before .before .before .before .before .before .before .before .before .before .loop-test) .taken) ((c .before .before .before .before .before .before .before .enter-member) .ensures) ((c .before .entered) .given .1)
+read-members-returns t c = search members-stopped
 
 read-members-enum-known-entered-2 : (t : ℕ) → read-members-lts.Need-enum-known-entered-2 (read-members-calls t) (read-members-at t) read-members.Post read-members-Inv-loop read-members-μ-loop
 read-members-enum-known-entered-2 t c = search needs
@@ -93,19 +93,19 @@ read-members-part-read-type-end : (t : ℕ) → read-members-lts.Need-part-read-
 read-members-part-read-type-end t c = search (needs, entered-within)
 
 read-members-read-type-requires : (t : ℕ) → read-members-lts.Need-read-type-requires (read-members-calls t) (read-members-at t) read-members.Post read-members-Inv-loop read-members-μ-loop
-read-members-read-type-requires t c κs = (omega (arith, (c .before .before .before .before .before .before .before .before .before .before .before .before .before .before .before .before .before .before) .pre .0), entered-ready _ _ _ _ _ _ _ _ ((c .before .before .before .before .before .before .before .before .before .before .before .before .before .before .loop) .inv) ((c .before .before .before .before .before .before .before .before .before .before .before .before .before .loop-test) .taken) ((c .before .before .before .before .before .before .before .before .before .before .enter-member) .ensures) ((c .before .before .before .before .entered2) .given .1) ((c .before .before .before .before .before .before .before .before .before .before .before .before .before .before .before .before .before .before) .pre .1 .0 .0))
+read-members-read-type-requires t c κs = (search needs, entered-ready ((c .before .before .before .before .before .before .before .before .before .before .enter-member) .ensures) ((c .before .before .before .before .entered2) .given .1) ((c .before .before .before .before .before .before .before .before .before .before .before .before .before .before .loop) .inv) ((c .before .before .before .before .before .before .before .before .before .before .before .before .before .before .before .before .before .before) .pre .1 .0 .0))
 
 read-members-enum-known-got : (t : ℕ) → read-members-lts.Need-enum-known-got (read-members-calls t) (read-members-at t) read-members.Post read-members-Inv-loop read-members-μ-loop
 read-members-enum-known-got t c = search needs
 
 read-members-same-length-3 : (t : ℕ) → read-members-lts.Need-same-length-3 (read-members-calls t) (read-members-at t) read-members.Post read-members-Inv-loop read-members-μ-loop
-read-members-same-length-3 t c = omega (arith, (c .before .before .before .before .before .before .before .read-type) .kept .1 .0, (c .before .before .before .before .before .before .before .before .before .before .before .before .before .before .before .before .before .before .enter-member) .kept .1 .0, progress-table _ _ _ _ _ _ _ _ ((c .before .before .before .before .before .before .before .before .before .before .before .before .before .before .before .before .before .before .before .before .before .before .loop) .inv))
+read-members-same-length-3 t c = search table-turned
 
 read-members-same-length-4 : (t : ℕ) → read-members-lts.Need-same-length-4 (read-members-calls t) (read-members-at t) read-members.Post read-members-Inv-loop read-members-μ-loop
-read-members-same-length-4 t c = omega (arith, (c .before .before .before .before .before .before .before .read-type) .kept .1 .1 .0, (c .before .before .before .before .before .before .before .before .before .before .before .before .before .before .before .before .before .before .enter-member) .kept .1 .1 .0, progress-pool _ _ _ _ _ _ _ _ ((c .before .before .before .before .before .before .before .before .before .before .before .before .before .before .before .before .before .before .before .before .before .before .loop) .inv))
+read-members-same-length-4 t c = search pool-turned
 
 read-members-returns-2 : (t : ℕ) → read-members-lts.Need-returns-2 (read-members-calls t) (read-members-at t) read-members.Post read-members-Inv-loop read-members-μ-loop
-read-members-returns-2 t c = members-refused _ _ _ _ _ _ _ _ ((c .before .before .before .before .before .before .before .before .before .before .before .before .before .before .before .before .before .before .before .before .before .before .loop) .inv) ((c .before .before .before .before .before .before .before .before .before .before .before .before .before .before .before .before .before .before .before .before .before .loop-test) .taken) ((c .before .before .before .before .before .before .before .before .before .before .before .before .before .before .before .before .before .before .enter-member) .ensures) ((c .before .before .before .before .before .before .before .before .before .before .before .before .entered2) .given .1) ((c .before .before .before .before .before .before .before .read-type) .ensures) ((c .before .got) .given .1)
+read-members-returns-2 t c = search members-refused
 
 read-members-enum-known-got-2 : (t : ℕ) → read-members-lts.Need-enum-known-got-2 (read-members-calls t) (read-members-at t) read-members.Post read-members-Inv-loop read-members-μ-loop
 read-members-enum-known-got-2 t c = search needs
@@ -117,16 +117,16 @@ read-members-add-i : (t : ℕ) → read-members-lts.Need-add-i (read-members-cal
 read-members-add-i t c = omega (arith, (c .before .before .before .before .before .before .before .before .before .before .before .before .before .before .before .before .before .before .before .before .before .before .loop-test) .taken, (c .before .before .before .before .before .before .before .before .before .before .before .before .before .before .before .before .before .before .before .before .before .before .before .before .before .before .before) .pre .1 .1)
 
 read-members-loop-less : (t : ℕ) → read-members-lts.Need-loop-less (read-members-calls t) (read-members-at t) read-members.Post read-members-Inv-loop read-members-μ-loop
-read-members-loop-less t c = omega (arith, (c .before .before .before .before .before .before .before .before .before .before .before .before .before .before .before .before .before .before .before .before .before .before .loop-test) .taken)
+read-members-loop-less t c = omega arith
 
 read-members-loop-again : (t : ℕ) → read-members-lts.Need-loop-again (read-members-calls t) (read-members-at t) read-members.Post read-members-Inv-loop read-members-μ-loop
-read-members-loop-again t c = members-turned _ _ _ _ _ _ _ _ ((c .before .before .before .before .before .before .before .before .before .before .before .before .before .before .before .before .before .before .before .before .before .before .before .loop) .inv) ((c .before .before .before .before .before .before .before .before .before .before .before .before .before .before .before .before .before .before .before .before .before .before .loop-test) .taken) ((c .before .before .before .before .before .before .before .before .before .before .before .before .before .before .before .before .before .before .before .enter-member) .ensures) ((c .before .before .before .before .before .before .before .before .before .before .before .before .before .entered2) .given .1) ((c .before .before .before .before .before .before .before .before .read-type) .ensures) ((c .before .before .got2) .given .1)
+read-members-loop-again t c = search members-turned
 
 read-members-same-length-5 : (t : ℕ) → read-members-lts.Need-same-length-5 (read-members-calls t) (read-members-at t) read-members.Post read-members-Inv-loop read-members-μ-loop
-read-members-same-length-5 t c = progress-table _ _ _ _ _ _ _ _ ((c .before .loop) .inv)
+read-members-same-length-5 t c = search progress-table
 
 read-members-same-length-6 : (t : ℕ) → read-members-lts.Need-same-length-6 (read-members-calls t) (read-members-at t) read-members.Post read-members-Inv-loop read-members-μ-loop
-read-members-same-length-6 t c = progress-pool _ _ _ _ _ _ _ _ ((c .before .loop) .inv)
+read-members-same-length-6 t c = search progress-pool
 
 read-members-returns-3 : (t : ℕ) → read-members-lts.Need-returns-3 (read-members-calls t) (read-members-at t) read-members.Post read-members-Inv-loop read-members-μ-loop
 read-members-returns-3 t c = search members-ended
@@ -144,7 +144,7 @@ read-type-enum-known-opened-2 : (t : ℕ) → read-type-lts.Need-enum-known-open
 read-type-enum-known-opened-2 t c = search needs
 
 read-type-read-leaf-requires : (t : ℕ) → read-type-lts.Need-read-leaf-requires (read-type-calls t) (read-type-at t) read-type.Post
-read-type-read-leaf-requires t c κs = ((((c .before .before .before .before .before .before .before .before .before .before) .pre .1, leaf-free ((c .before .before .before .before .before .before .if1) .left) ((c .before .before .before .before .before .open-type) .ensures) ((c .before .before .before .opened2) .given .1)), leaf-long ((c .before .before .before .before .before .before .if1) .left) ((c .before .before .before .before .before .open-type) .ensures) ((c .before .before .before .opened2) .given .1)), leaf-kind ((c .before .before .before .before .before .before .if1) .left) ((c .before .before .before .before .before .open-type) .ensures) ((c .before .before .before .opened2) .given .1))
+read-type-read-leaf-requires t c κs = search (leaf-free, leaf-long, leaf-kind)
 
 read-type-enum-known-opened-3 : (t : ℕ) → read-type-lts.Need-enum-known-opened-3 (read-type-calls t) (read-type-at t) read-type.Post
 read-type-enum-known-opened-3 t c = search needs
@@ -171,7 +171,7 @@ read-type-cast-read-members : (t : ℕ) → read-type-lts.Need-cast-read-members
 read-type-cast-read-members t c = search needs
 
 read-type-read-members-requires : (t : ℕ) → read-type-lts.Need-read-members-requires (read-type-calls t) (read-type-at t) read-type.Post
-read-type-read-members-requires t c κs = (omega (arith, (c .before .before .before .before .before .before .before .before .before .before .before .before) .pre .0, (c .before .before .before .before .before .before .before .before .if1) .left), ((compound-ready ((c .before .before .before .before .before .before .before .before .if1) .left) ((c .before .before .before .before .before .before .before .open-type) .ensures) ((c .before .before .before .before .before .opened3) .given .1) ((c .before .before .before .before .before .before .before .before .before .before .before .before) .pre .1), compound-long ((c .before .before .before .before .before .before .before .before .if1) .left) ((c .before .before .before .before .before .before .before .open-type) .ensures) ((c .before .before .before .before .before .opened3) .given .1)), omega (arith, (c .before .before .before .wide32) .ensures .1, (c .before .before .wide322) .ensures .1)))
+read-type-read-members-requires t c κs = (search needs, ((search compound-ready, search compound-long), search needs))
 
 read-type-enum-known-got : (t : ℕ) → read-type-lts.Need-enum-known-got (read-type-calls t) (read-type-at t) read-type.Post
 read-type-enum-known-got t c = search needs
@@ -180,16 +180,16 @@ read-type-enum-known-got-2 : (t : ℕ) → read-type-lts.Need-enum-known-got-2 (
 read-type-enum-known-got-2 t c = search needs
 
 read-type-end-compound-requires : (t : ℕ) → read-type-lts.Need-end-compound-requires (read-type-calls t) (read-type-at t) read-type.Post
-read-type-end-compound-requires t c κs = compound-filled ((c .before .before .before .before .before .before .before .before .before .before .before .before .before .before .before .before .before .if1) .left) ((c .before .before .before .before .before .before .before .before .before .before .before .before .before .before .before .before .open-type) .ensures) ((c .before .before .before .before .before .before .before .before .before .before .before .before .before .before .opened3) .given .1) ((c .before .before .before .before .before .before .before .before .before .before .before .before .wide32) .ensures) ((c .before .before .before .before .before .before .before .before .before .before .before .wide322) .ensures) ((c .before .before .before .before .before .before .before .before .read-members) .ensures) ((c .before .before .got2) .given .1) ((c .before .before .before .before .before .before .before .before .before .before .before .before .before .before .before .before .before .before .before .before .before) .pre .1)
+read-type-end-compound-requires t c κs = compound-filled ((c .before .before .before .before .before .before .before .before .read-members) .ensures) ((c .before .before .got2) .given .1) ((c .before .before .before .before .before .before .before .before .before .before .before .before .before .before .before .before .open-type) .ensures) ((c .before .before .before .before .before .before .before .before .before .before .before .before .before .before .opened3) .given .1) ((c .before .before .before .before .before .before .before .before .before .before .before .before .before .before .before .before .before .before .before .before .before) .pre .1)
 
 read-type-enum-known-opened-4 : (t : ℕ) → read-type-lts.Need-enum-known-opened-4 (read-type-calls t) (read-type-at t) read-type.Post
 read-type-enum-known-opened-4 t c = search needs
 
 read-type-sub-read-type : (t : ℕ) → read-type-lts.Need-sub-read-type (read-type-calls t) (read-type-at t) read-type.Post
-read-type-sub-read-type t c = omega (arith, based-within ((c .before .before .before .before .if1) .left) ((c .before .before .before .open-type) .ensures) ((c .before .opened4) .given .1))
+read-type-sub-read-type t c = search (needs, based-within)
 
 read-type-part-read-type-start : (t : ℕ) → read-type-lts.Need-part-read-type-start (read-type-calls t) (read-type-at t) read-type.Post
-read-type-part-read-type-start t c = omega (arith, based-within ((c .before .before .before .before .if1) .left) ((c .before .before .before .open-type) .ensures) ((c .before .opened4) .given .1))
+read-type-part-read-type-start t c = search (needs, based-within)
 
 read-type-part-read-type-end : (t : ℕ) → read-type-lts.Need-part-read-type-end (read-type-calls t) (read-type-at t) read-type.Post
 read-type-part-read-type-end t c = search needs
@@ -201,7 +201,7 @@ read-type-sub-read-type-2 : (t : ℕ) → read-type-lts.Need-sub-read-type-2 (re
 read-type-sub-read-type-2 t c = search needs
 
 read-type-read-type-requires : (t : ℕ) → read-type-lts.Need-read-type-requires (read-type-calls t) (read-type-at t) read-type.Post
-read-type-read-type-requires t c κs = (omega (arith, (c .before .before .before .before .before .before .before .before .before .before .before) .pre .0, (c .before .before .before .before .before .before .before .if1) .left), based-ready ((c .before .before .before .before .before .before .before .if1) .left) ((c .before .before .before .before .before .before .open-type) .ensures) ((c .before .before .before .before .opened4) .given .1) ((c .before .before .before .before .before .before .before .before .before .before .before) .pre .1))
+read-type-read-type-requires t c κs = (search needs, search based-ready)
 
 read-type-enum-known-got-3 : (t : ℕ) → read-type-lts.Need-enum-known-got-3 (read-type-calls t) (read-type-at t) read-type.Post
 read-type-enum-known-got-3 t c = search needs
@@ -210,10 +210,10 @@ read-type-enum-known-got-4 : (t : ℕ) → read-type-lts.Need-enum-known-got-4 (
 read-type-enum-known-got-4 t c = search needs
 
 read-type-add-at : (t : ℕ) → read-type-lts.Need-add-at (read-type-calls t) (read-type-at t) read-type.Post
-read-type-add-at t c = omega (arith, based-near ((c .before .before .before .before .before .before .before .before .before .before .before .before .before .before .before .before .if1) .left) ((c .before .before .before .before .before .before .before .before .before .before .before .before .before .before .before .open-type) .ensures) ((c .before .before .before .before .before .before .before .before .before .before .before .before .before .opened4) .given .1) ((c .before .before .before .before .before .before .before .before .read-type) .ensures) ((c .before .before .got4) .given .1), (c .before .before .before .before .before .before .before .before .before .before .before .before .before .before .before .before .before .before .before .before) .good .0 .1)
+read-type-add-at t c = omega (arith, based-near ((c .before .before .before .before .before .before .before .before .before .before .before .before .before .before .before .open-type) .ensures) ((c .before .before .before .before .before .before .before .before .before .before .before .before .before .opened4) .given .1) ((c .before .before .before .before .before .before .before .before .read-type) .ensures) ((c .before .before .got4) .given .1), (c .before .before .before .before .before .before .before .before .before .before .before .before .before .before .before .before .before .before .before .before) .good .0 .1)
 
 read-type-end-based-requires : (t : ℕ) → read-type-lts.Need-end-based-requires (read-type-calls t) (read-type-at t) read-type.Post
-read-type-end-based-requires t c κs = based-asks ((c .before .before .before .before .before .before .before .before .before .before .before .before .before .before .before .before .before .before .if1) .left) ((c .before .before .before .before .before .before .before .before .before .before .before .before .before .before .before .before .before .open-type) .ensures) ((c .before .before .before .before .before .before .before .before .before .before .before .before .before .before .before .opened4) .given .1) ((c .before .before .before .before .before .before .before .before .before .before .read-type) .ensures) ((c .before .before .before .before .got4) .given .1) ((c .before .before .before .before .before .before .before .before .before .before .before .before .before .before .before .before .before .before .before .before .before .before) .pre .1)
+read-type-end-based-requires t c κs = based-asks ((c .before .before .before .before .before .before .before .before .before .before .before .before .before .before .before .before .before .open-type) .ensures) ((c .before .before .before .before .before .before .before .before .before .before .before .before .before .before .before .opened4) .given .1) ((c .before .before .before .before .before .before .before .before .before .before .read-type) .ensures) ((c .before .before .before .before .got4) .given .1) ((c .before .before .before .before .before .before .before .before .before .before .before .before .before .before .before .before .before .before .before .before .before .before) .pre .1)
 
 read-type-returns-2 : (t : ℕ) → read-type-lts.Need-returns-2 (read-type-calls t) (read-type-at t) read-type.Post
 read-type-returns-2 t c = search type-shuts
