@@ -7,7 +7,7 @@ use native.Mathlib.Nat.{add-zero, mul-zero, suc-mul, div-lt-iff-lt-mul, le-div-i
 use native.Mathlib.Numerals.{add-one}
 use native.Mathlib.Omega.{arith}
 use lib.ListN.{length, getD, take, drop, set}
-use lib.Seq.{sets, length-sets, drop-cons, take-all}
+use lib.Seq.{sets, drop-cons, take-all}
 use lib.Dec.{leb}
 use borrow.Author.Tests.{lt-ltb, le-ltb, le-leb, lt-leb}
 use Rattle.refusal.specs.declared.Refusal.the-variants.{SlotOutside, NoRoom}
@@ -130,9 +130,6 @@ module _ (l l₁ l₂ : List ℕ) (size : ℕ) (ss : List ℕ) (r : ℕ) where
   values-more block e g =
       sets-more l (valuesAt block (entries size ss 0 r)) (valuesAt block (shifted (r * size) ss)) 0 (r * length ss) e g (omega (arith, length-values block (entries size ss 0 r), length-entries size ss 0 r))
       ∙ ap (sets l 0) (sym (values-append block (entries size ss 0 r) (shifted (r * size) ss)) ∙ ap (valuesAt block) (one-more size ss r))
-
-pub same-stored : (l l₁ l₂ ys : List ℕ) (n : ℕ) → l₂ ≡ sets l₁ n ys → length l₁ ≡ length l → length l₂ ≡ length l
-same-stored l l₁ l₂ ys n e h = ap length e ∙ length-sets l₁ n ys ∙ h
 
 pub none-stored : (l m block ss : List ℕ) (size : ℕ) → (l ≡ sets l 0 (entries size ss 0 0)) × (m ≡ sets m 0 (valuesAt block (entries size ss 0 0)))
 unfolding entries valuesAt

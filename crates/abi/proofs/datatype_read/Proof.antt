@@ -16,7 +16,7 @@ same-length-2 : tie.Need-same-length-2
 same-length-2 c = search needs
 
 returns : tie.Need-returns
-returns c = told-with (c .of-reading .ensures) (c .before .before .before .before .before .read .ensures .number) (c .before .before .before .before .before .read .ensures .values) (c .before .before .before .before .before .read .ensures .table-is, c .before .before .before .before .before .read .ensures .pool-is)
+returns c = let r = c .before .before .before .before .before .read .ensures in told-with (c .of-reading .ensures) (r .number) (r .values) (r .table-is, r .pool-is)
 
 pub datatype-read-spec : {M : Type 1} → statement M
 datatype-read-spec =

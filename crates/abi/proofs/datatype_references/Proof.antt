@@ -16,7 +16,7 @@ same-length-2 : tie.Need-same-length-2
 same-length-2 c = search needs
 
 returns : tie.Need-returns
-returns c = told-with (c .of-references .ensures) (c .before .before .before .before .before .stored-object-references .ensures .answer-number) (c .before .before .before .before .before .stored-object-references .ensures .answer-values) (c .before .before .before .before .before .stored-object-references .ensures .places-are, c .before .before .before .before .before .stored-object-references .ensures .values-are)
+returns c = let r = c .before .before .before .before .before .stored-object-references .ensures in told-with (c .of-references .ensures) (r .answer-number) (r .answer-values) (r .places-are, r .values-are)
 
 pub datatype-references-spec : {M : Type 1} → statement M
 datatype-references-spec =

@@ -25,7 +25,7 @@ go-on-requires : tie.Need-go-on-requires
 go-on-requires c κs = search needs
 
 returns-4 : tie.Need-returns-4
-returns-4 c = let st = c .before .before .before .before .before .before .before in steps-on (st .args .st) (st .args .b) (c .go-on .result) (st .pre) (c .before .before .before .before .before .if1 .left) (c .before .before .before .if2 .left) (c .before .if3 .left) (c .go-on .ensures)
+returns-4 c = search steps-on
 
 pub next-step-spec : {M : Type 1} → statement M
 next-step-spec =

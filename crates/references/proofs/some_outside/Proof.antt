@@ -18,9 +18,8 @@ loop-holds c = (omega arith, refl)
 
 returns : tie.Need-returns Inv-loop μ-loop
 returns c =
-    let a = c .before .before .before .args in
     let l = c .before .before .loop in
-    outside-here (a .size) (a .slots .now) (l .i) (omega arith) (omega arith) ∙ sym (l .inv .1)
+    outside-here _ _ (l .i) (omega arith) (omega arith) ∙ sym (l .inv .1)
 
 mul-if2 : tie.Need-mul-if2 Inv-loop μ-loop
 mul-if2 c = omega arith
@@ -30,9 +29,8 @@ shared-slice-read-if2 c = omega arith
 
 returns-2 : tie.Need-returns-2 Inv-loop μ-loop
 returns-2 c =
-    let a = c .before .before .before .before .before .args in
     let l = c .before .before .before .before .loop in
-    outside-here (a .size) (a .slots .now) (l .i) (omega arith) (omega arith) ∙ sym (l .inv .1)
+    outside-here _ _ (l .i) (omega arith) (omega arith) ∙ sym (l .inv .1)
 
 add-i : tie.Need-add-i Inv-loop μ-loop
 add-i c = omega arith
@@ -42,15 +40,13 @@ loop-less c = omega arith
 
 loop-again : tie.Need-loop-again Inv-loop μ-loop
 loop-again c =
-    let a = c .before .before .before .before .before .args in
     let l = c .before .before .before .before .loop in
-    (omega arith, l .inv .1 ∙ outside-next (a .size) (a .slots .now) (l .i) (omega arith) (omega arith))
+    (omega arith, l .inv .1 ∙ outside-next _ _ (l .i) (omega arith) (omega arith))
 
 returns-3 : tie.Need-returns-3 Inv-loop μ-loop
 returns-3 c =
-    let a = c .before .before .args in
     let l = c .before .loop in
-    outside-none (a .size) (a .slots .now) (l .i) (omega arith) ∙ sym (l .inv .1)
+    outside-none _ _ (l .i) (omega arith) ∙ sym (l .inv .1)
 
 pub some-outside-spec : {M : Type 1} → statement M
 some-outside-spec =

@@ -1,4 +1,4 @@
-use Prim.Native.Nat.{_-_, _≤_, _<_}
+use Prim.Native.Nat.{_-_, _≤_}
 use mathlib.Core.Path.{_≡_, refl}
 use native.Mathlib.Omega.{arith}
 use lib.ListN.{length, take, length-set}
@@ -59,13 +59,11 @@ loop-less c = omega arith
 
 loop-again : tie.Need-loop-again Inv-loop μ-loop
 loop-again c =
-    let a = c .before .before .before .before .before .before .before .before .args in
-    let l = c .before .before .before .loop in
-    let n : l .i < length (a .slots .now) = omega arith in (
+    let l = c .before .before .before .loop in (
       (omega arith, (simp length-set (l .inv .0 .1 .0), simp length-set (l .inv .0 .1 .1))),
       (
-        place-more (a .places .now) (l .places) (a .at) (a .start) (a .slots .now) (l .i) n (l .inv .1 .0),
-        value-more (a .values .now) (l .values) (a .at) (a .start) (a .slots .now) (l .i) n (a .block .now) (c .read-u64 .result) (c .read-u64 .ensures) (l .inv .1 .1),
+        place-more _ _ _ _ _ (l .i) (omega arith) (l .inv .1 .0),
+        value-more _ _ _ _ _ (l .i) (omega arith) _ _ (c .read-u64 .ensures) (l .inv .1 .1),
       ),
     )
 
@@ -77,9 +75,8 @@ same-length-2 c = c .before .loop .inv .0 .1 .1
 
 returns : tie.Need-returns Inv-loop μ-loop
 returns c =
-    let a = c .before .before .before .before .before .before .args in
     let l = c .before .loop in
-    all-stored (a .places .now) (l .places) (a .values .now) (l .values) (a .at) (a .start) (a .slots .now) (a .block .now) (l .i) (omega arith) (l .inv .1 .0) (l .inv .1 .1)
+    all-stored _ (l .places) _ (l .values) _ _ _ _ (l .i) (omega arith) (l .inv .1 .0) (l .inv .1 .1)
 
 pub store-record-spec : {M : Type 1} → statement M
 store-record-spec =

@@ -1,10 +1,10 @@
-use Prim.Native.Nat.{_-_, _*_, _≤_}
+use Prim.Native.Nat.{_-_, _≤_}
 use mathlib.Core.Path.{_≡_, refl}
 use native.Mathlib.Omega.{arith}
 use lib.ListN.{length}
 use lib.Seq.{sets}
-use Rattle.format.specs.Slots.{shifted, entries, valuesAt}
-use Rattle.references.proofs.Laws.{record-within, slot-in-block, places-more, values-more, same-stored, none-stored, all-records}
+use Rattle.format.specs.Slots.{entries, valuesAt}
+use Rattle.references.proofs.Laws.{record-within, slot-in-block, places-more, values-more, none-stored, all-records}
 use Rattle.references.proofs.store_records.Statement.{statement}
 use Rattle.references.proofs.store_records.Tie as tie
 
@@ -48,13 +48,12 @@ loop-less c = omega arith
 
 loop-again : tie.Need-loop-again Inv-loop μ-loop
 loop-again c =
-    let a = c .before .before .before .before .before .before .before .before .before .before .before .before .before .args in
     let l = c .before .before .before .before .before .before .before .before .loop in
     let s = c .before .before .before .before .store-record in (
-      (omega arith, (same-stored (a .places .now) (l .places) _ (shifted (l .i * a .size) (a .slots .now)) (l .i * length (a .slots .now)) (s .ensures .0) (l .inv .0 .1 .0), same-stored (a .values .now) (l .values) _ (valuesAt (a .block .now) (shifted (l .i * a .size) (a .slots .now))) (l .i * length (a .slots .now)) (s .ensures .1) (l .inv .0 .1 .1))),
+      (omega arith, (omega arith, omega arith)),
       (
-        places-more (a .places .now) (l .places) _ (a .size) (a .slots .now) (l .i) (l .inv .1 .0) (s .ensures .0),
-        values-more (a .values .now) (l .values) _ (a .size) (a .slots .now) (l .i) (a .block .now) (l .inv .1 .1) (s .ensures .1),
+        places-more _ _ _ _ _ (l .i) (l .inv .1 .0) (s .ensures .0),
+        values-more _ _ _ _ _ (l .i) _ (l .inv .1 .1) (s .ensures .1),
       ),
     )
 
@@ -66,9 +65,8 @@ same-length-2 c = c .before .loop .inv .0 .1 .1
 
 returns : tie.Need-returns Inv-loop μ-loop
 returns c =
-    let a = c .before .before .before .before .before .before .args in
     let l = c .before .loop in
-    all-records (a .places .now) (l .places) (a .values .now) (l .values) (a .size) (a .slots .now) (a .block .now) (l .i) (a .records) (omega arith) (l .inv .1 .0) (l .inv .1 .1)
+    all-records _ (l .places) _ (l .values) _ _ _ (l .i) _ (omega arith) (l .inv .1 .0) (l .inv .1 .1)
 
 pub store-records-spec : {M : Type 1} → statement M
 store-records-spec =

@@ -15,11 +15,7 @@ some-outside-requires : tie.Need-some-outside-requires
 some-outside-requires c κs = search needs
 
 returns : tie.Need-returns
-returns c =
-    let a = c .before .before .before .before .before .before .before .args in
-    let z = c .before .before .at-least-one in
-    let o = c .before .some-outside in
-    is-outside (a .block .now) (a .slots .now) (a .places .now) (a .values .now) (a .record-size) (z .result) (o .result) (z .ensures .0) (o .ensures) (c .if1 .taken)
+returns c = search is-outside
 
 div-records : tie.Need-div-records
 div-records c = search needs
@@ -31,14 +27,7 @@ shorter-requires : tie.Need-shorter-requires
 shorter-requires c κs = search needs
 
 returns-2 : tie.Need-returns-2
-returns-2 c =
-    let a = c .before .before .before .before .before .before .before .before .before .before .args in
-    let z = c .before .before .before .before .before .at-least-one in
-    let o = c .before .before .before .before .some-outside in
-    let t = c .before .before .times in
-    let m = c .before .shorter in
-    let f : o .result ≡ false = c .before .before .before .if1 .left in
-    is-no-room (a .block .now) (a .slots .now) (a .places .now) (a .values .now) (a .record-size) (z .result) (o .result) (z .ensures .0) (o .ensures) f (length (a .block .now) / z .result) (t .result) (m .result) refl (t .ensures) (m .ensures) (omega arith)
+returns-2 c = search (is-no-room, arith)
 
 store-records-requires : tie.Need-store-records-requires
 store-records-requires c κs =
@@ -58,14 +47,13 @@ same-length-2 c = search needs
 
 returns-3 : tie.Need-returns-3
 returns-3 c =
-    let a = c .before .before .before .before .before .before .before .before .before .before .before .before .before .before .before .before .before .args in
     let z = c .before .before .before .before .before .before .before .before .before .before .before .before .at-least-one in
     let o = c .before .before .before .before .before .before .before .before .before .before .before .some-outside in
     let t = c .before .before .before .before .before .before .before .before .before .times in
     let m = c .before .before .before .before .before .before .before .before .shorter in
     let f : o .result ≡ false = c .before .before .before .before .before .before .before .before .before .before .if1 .left in
     let s = c .before .before .before .before .store-records in
-    is-found (a .block .now) (a .slots .now) (a .places .now) (a .values .now) (a .record-size) (z .result) (o .result) (z .ensures .0) (o .ensures) f (length (a .block .now) / z .result) (t .result) (m .result) refl (t .ensures) (m .ensures) (omega (arith, c .before .before .before .before .before .before .before .before .before .before .before .before .before .before .before .before .before .good .1 .1 .1 .0 .1)) (omega arith) _ _ (s .ensures .0) (s .ensures .1)
+    is-found _ _ _ _ _ _ _ (z .ensures .0) (o .ensures) f _ _ _ refl (t .ensures) (m .ensures) (omega (arith, c .before .before .before .before .before .before .before .before .before .before .before .before .before .before .before .before .before .good .1 .1 .1 .0 .1)) (omega arith) _ _ (s .ensures .0) (s .ensures .1)
 
 pub stored-object-references-spec : {M : Type 1} → statement M
 stored-object-references-spec =

@@ -22,9 +22,7 @@ same-length-2 : tie.Need-same-length-2
 same-length-2 c = search needs
 
 returns : tie.Need-returns
-returns c =
-    let w = c .before .before .before .before .before .before .before .read in
-    not-read _ _ _ _ _ _ (w .result) _ _ (w .ensures) (c .before .got .given .1)
+returns c = search not-read
 
 same-length-3 : tie.Need-same-length-3
 same-length-3 c = search needs
@@ -33,9 +31,7 @@ same-length-4 : tie.Need-same-length-4
 same-length-4 c = search needs
 
 returns-2 : tie.Need-returns-2
-returns-2 c =
-    let w = c .before .before .before .before .before .before .before .before .before .read in
-    is-read _ _ _ _ _ _ (w .result) _ _ (w .ensures) (c .before .before .before .enum-told .given .1) (c .of-type .ensures)
+returns-2 c = search is-read
 
 pub of-message-spec : {M : Type 1} → statement M
 of-message-spec =

@@ -29,22 +29,13 @@ enum-known-compared : tie.Need-enum-known-compared
 enum-known-compared c = search needs
 
 returns-3 : tie.Need-returns-3
-returns-3 c =
-    let k = c .before .before .before .before .before .record-count in
-    let w = c .before .before .compare-records in
-    are-same _ _ _ _ _ _ (k .result) (k .ensures) (c .before .before .before .before .if1 .left) (c .before .before .before .if2 .left) (w .result) (w .ensures) (c .enum-told .given .1)
+returns-3 c = search are-same
 
 returns-4 : tie.Need-returns-4
-returns-4 c =
-    let k = c .before .before .before .before .before .record-count in
-    let w = c .before .before .compare-records in
-    are-not _ _ _ _ _ _ (k .result) (k .ensures) (c .before .before .before .before .if1 .left) (c .before .before .before .if2 .left) (w .result) (w .ensures) (c .enum-told2 .given .1)
+returns-4 c = search are-not
 
 returns-5 : tie.Need-returns-5
-returns-5 c =
-    let k = c .before .before .before .before .before .before .record-count in
-    let w = c .before .before .before .compare-records in
-    not-compared _ _ _ _ _ _ (k .result) (k .ensures) (c .before .before .before .before .before .if1 .left) (c .before .before .before .before .if2 .left) (w .result) (w .ensures) (c .before .compared .given .1)
+returns-5 c = search not-compared
 
 pub of-size-spec : {M : Type 1} → statement M
 of-size-spec =
