@@ -1,31 +1,23 @@
 -- For each kind of row, the test of its columns that the code makes is the test of `entryAt`; and what each way out of the code answers.
 use Prim.Native.Nat.{ℕ, zero, suc, _+_, _-_, _*_, _/_, _<_, _≤_}
 use mathlib.Core.Path.{_≡_, refl, sym, ap, _∙_}
-use mathlib.Core.Bool.{Bool, true, _&&_}
+use mathlib.Core.Bool.{Bool, true, _&&_, and-assoc, and-true}
 use mathlib.Core.List.{List}
 use native.Mathlib.Omega.{arith}
 use native.Mathlib.Nat.{mul-one, mul-le-mul-left}
-use lib.ListN.{length, getD, take, drop}
-use lib.Seq.{drop-cons}
+use lib.ListN.{length, getD}
 use lib.Dec.{ltb, eqb}
 use borrow.Author.Tests.{eq-eqb}
 use Rattle.format.specs.Bytes.{zeros, padded, allZero}
 use Rattle.format.specs.Table.{memberRow, enumMemberRow, sameWords, isUnknown, kindOf}
-use Rattle.format.proofs.TableSteps.{listAt, rowIs-words}
+use Rattle.format.proofs.TableSteps.{listAt, rowIs-words, take-listAt}
 use Rattle.rows.specs.Entries.{wordAt, pick, pickMember, entryOf, entryAt, memberAt, enumMemberAt, EntryInside, MemberInside, memberNameLength, enumMemberNameLength}
 use Rattle.rows.specs.Columns.{clearColumns, leafColumns, groupColumns, variableLengthColumns, pieceColumns}
 use Rattle.rows.specs.declared.Entry.{Entry}
 use Rattle.rows.specs.declared.Entry.the-variants.{Leaf, Compound, Enumeration, VariableLength, Array, Unknown}
 use Rattle.rows.specs.declared.Member.{Member}
 use Rattle.rows.specs.declared.Member.the-variants.{Named, Unnamed}
-use Rattle.rows.proofs.Zeros.{and-assoc, and-true}
 use Rattle.rows.proofs.Decode.{entry-kind, entry-inside, member-inside, enumMember-inside}
-
-take-listAt : (l : List ℕ) (at i n : ℕ) → at + i + n ≤ length l → take n (drop (at + i) l) ≡ listAt l at i n
-take-listAt l at i zero h = refl
-take-listAt l at i (suc n) h =
-    let e : suc (at + i) ≡ at + suc i = omega arith in
-    rw (drop-cons l (at + i) 0 (omega arith), e, take-listAt l at (suc i) n (omega arith))
 
 same-word : (n : ℕ) → eqb n n ≡ true
 same-word n = eq-eqb n n refl

@@ -1,7 +1,7 @@
 -- Runs of zeros, from one place of a list up to another.
 use Prim.Native.Nat.{ℕ, zero, suc, _+_, _-_, _<_, _≤_}
 use mathlib.Core.Path.{_≡_, refl, sym, ap, _∙_}
-use mathlib.Core.Bool.{Bool, true, false, _&&_}
+use mathlib.Core.Bool.{Bool, true, false, _&&_, and-assoc, and-true}
 use mathlib.Core.List.{List, [], _∷_, _++_}
 use native.Mathlib.Omega.{arith}
 use lib.ListN.{length, take, drop, getD}
@@ -10,14 +10,6 @@ use lib.Bits.{bitOr, bitXor, or-zero-l, or-add-and, xor-add-and, xor-self, and-l
 use lib.Dec.{eqb}
 use borrow.Author.Tests.{eqb-true, eqb-false, eq-eqb, ne-eqb}
 use Rattle.format.specs.Bytes.{allZero}
-
-pub and-assoc : (a b c : Bool) → ((a && b) && c) ≡ (a && (b && c))
-and-assoc true b c = refl
-and-assoc false b c = refl
-
-pub and-true : (a : Bool) → (a && true) ≡ a
-and-true true = refl
-and-true false = refl
 
 -- the n elements from i on are zero
 abbrev pub zeroAt : (l : List ℕ) (i n : ℕ) → Bool
