@@ -7,11 +7,12 @@ use native.Mathlib.Omega.{arith}
 use lib.Dec.{ltb}
 use Rattle.format.specs.Datatype.{Datatype, enumeration, EnumMember, typeSize}
 use Rattle.format.specs.Ownership.{owned}
-use Rattle.format.specs.Table.{Found, found, bad, Walk, andThen, Kind, isFixedPoint, isFloatingPoint, isTime, isString, isBitField, isOpaque, isCompound, isReference, isEnumeration, isVariableLength, isArray, isUnknown, kindOf, typeAt, enumNamesAt, enumValuesAt}
-use Rattle.rows.specs.Entries.{wordAt, pick, entryOf, entryAt, leafType, fromEntry, EntryIfKnown}
+use Rattle.format.specs.Table.{Found, found, bad, Walk, andThen, typeAt, enumNamesAt, enumValuesAt}
+use Rattle.rows.specs.Entries.{entryAt, leafType, fromEntry, EntryIfKnown}
 use Rattle.rows.specs.declared.Entry.{Entry}
 use Rattle.rows.specs.declared.Entry.the-variants.{Leaf, Compound, Enumeration, VariableLength, Array, Unknown}
 use Rattle.rows.proofs.Known.{claim-of-type}
+use Rattle.rows.proofs.Leaves.{leaf-law}
 use Rattle.table.specs.declared.Spot.{Spot}
 use Rattle.compare.specs.Agreeing.{isField, Admitted, Agrees, AgreesBytes}
 use Rattle.compare.specs.declared.Agreed.{Agreed}
@@ -57,41 +58,22 @@ owns-agrees t r p n a b at next x w e h d l =
     let v = w d in
     rw (← e) (answers-as (v .places) (h (omega (arith, v .size))))
 
--- what a leaf's row says of its type
-unfoldable LeafOwns : (table pool : List ℕ) (r p : ℕ) → Entry → Type 0
-LeafOwns table pool r p (Leaf k n l x) = OwnsAll (leafType table pool r p k) n
-LeafOwns table pool r p (Compound n k) = Unit {0}
-LeafOwns table pool r p (Enumeration n k) = Unit {0}
-LeafOwns table pool r p (VariableLength i a k) = Unit {0}
-LeafOwns table pool r p (Array k) = Unit {0}
-LeafOwns table pool r p Unknown = Unit {0}
-
 module _ (table pool : List ℕ) (r p : ℕ) where
-  owns-pick : (b : Bool) (e : Entry) → LeafOwns table pool r p e → LeafOwns table pool r p (pick b e)
-  unfolding pick LeafOwns
-  owns-pick true e h = h
-  owns-pick false e h = tt
-
-  owns-kind : (k : Kind) → LeafOwns table pool r p (entryOf table pool r p k)
-  unfolding entryOf LeafOwns leafType typeSize owned
-  owns-kind isFixedPoint = owns-pick _ _ (record { size = refl; places = λ i. refl })
-  owns-kind isFloatingPoint = owns-pick _ _ (record { size = refl; places = λ i. refl })
-  owns-kind isTime = owns-pick _ _ (record { size = refl; places = λ i. refl })
-  owns-kind isString = owns-pick _ _ (record { size = refl; places = λ i. refl })
-  owns-kind isBitField = owns-pick _ _ (record { size = refl; places = λ i. refl })
-  owns-kind isOpaque = owns-pick _ _ (record { size = refl; places = λ i. refl })
-  owns-kind isCompound = owns-pick _ _ tt
-  owns-kind isReference = owns-pick _ _ (record { size = refl; places = λ i. refl })
-  owns-kind isEnumeration = owns-pick _ _ tt
-  owns-kind isVariableLength = owns-pick _ _ tt
-  owns-kind isArray = owns-pick _ _ tt
-  owns-kind isUnknown = tt
-
+  -- what a leaf's row says of its type
   pub leaf-owns : {k n l x : ℕ} {e : Entry} → e ≡ entryAt table pool r p → e ≡ Leaf k n l x → OwnsAll (leafType table pool r p k) n
-  unfolding entryAt LeafOwns
-  leaf-owns {k = k} {n = n} {l = l} {x = x} q e =
-      let f : entryAt table pool r p ≡ Leaf k n l x = sym q ∙ e in
-      rw f at (owns-kind (kindOf (wordAt table r 0)))
+  unfolding typeSize owned
+  leaf-owns =
+      leaf-law table pool r p (λ k n l x t. OwnsAll t n) (
+      record {
+        of-fixedPoint = record { size = refl; places = λ i. refl };
+        of-floatingPoint = record { size = refl; places = λ i. refl };
+        of-time = record { size = refl; places = λ i. refl };
+        of-string = record { size = refl; places = λ i. refl };
+        of-bitField = record { size = refl; places = λ i. refl };
+        of-opaque = λ b. record { size = refl; places = λ i. refl };
+        of-reference = record { size = refl; places = λ i. refl };
+      }
+      )
 
 -- a type, where one is found, that owns all its bytes
 unfoldable pub Solid : Found Datatype → Type 0

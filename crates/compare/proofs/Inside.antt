@@ -16,6 +16,7 @@ use Rattle.format.specs.Slots.{firstZero, memberFirstZero}
 use Rattle.format.specs.Table.{Found, found, bad, Walk, andThen, typeAt, membersAt}
 use Rattle.format.proofs.Booleans.{and-both, or-either, or-neither, or-second}
 use Rattle.format.proofs.Ownership.{entry-complete}
+use Rattle.format.proofs.Slots.{or-else-none}
 use Rattle.rows.specs.Entries.{memberAt, MemberIfKnown, fromMember}
 use Rattle.rows.specs.declared.Member.{Member}
 use Rattle.rows.specs.declared.Member.the-variants.{Named, Unnamed}
@@ -26,7 +27,6 @@ use Rattle.compare.specs.Agreeing.{Admitted, AdmittedIn, Agreement, Apar
 use Rattle.compare.specs.declared.Agreed.{Agreed}
 use Rattle.compare.specs.declared.Agreed.the-variants.{Apart, Together, Lost}
 use Rattle.compare.proofs.Ranges.{answers-together, answers-apart}
-use Rattle.compare.proofs.Types.{else-none}
 
 -- ---- one member more
 
@@ -39,7 +39,7 @@ record First (size offset : ℕ) (t : Datatype) (ms : Members) : Type 0 where
 first-of : (size : ℕ) (name : List ℕ) (offset : ℕ) (t : Datatype) (ms : Members) → AdmittedIn size (member name offset t ms) → First size offset t ms
 unfolding firstZero outside heapHeld
 first-of size name offset t ms d =
-    let z = else-none (firstZero t) (memberFirstZero ms) (d .sized) in
+    let z = or-else-none (firstZero t) (memberFirstZero ms) (d .sized) in
     let o = or-neither (ltb size (offset + typeSize t)) (outside t || memberOutside size ms) (d .inside) in
     let i = or-neither (outside t) (memberOutside size ms) (o .1) in
     let p = or-neither (heapHeld t) (memberHeapHeld ms) (d .plain) in

@@ -1,8 +1,8 @@
 -- Ranges of two records that are equal, and what is answered of a field's.
 use Prim.Native.Nat.{ℕ, zero, suc, _+_, _-_, _<_, _≤_}
-use mathlib.Core.Path.{_≡_, refl, sym, _∙_}
+use mathlib.Core.Path.{_≡_, sym, _∙_}
 use mathlib.Core.Logic.{⊎-elim}
-use mathlib.Core.Bool.{Bool, true, false, _&&_, false≢true}
+use mathlib.Core.Bool.{Bool, true, false, _&&_, false≢true, and-assoc, and-true, and-false}
 use mathlib.Core.List.{List}
 use native.Mathlib.Omega.{arith}
 use lib.ListN.{length, getD}
@@ -10,7 +10,7 @@ use lib.Bits.{bitOr, bitXor}
 use lib.Dec.{eqb}
 use borrow.Author.Tests.{eq-eqb, ne-eqb, eqb-true, eqb-false, lt-ltb, ltb-true}
 use Rattle.format.proofs.Booleans.{and-both, and-either}
-use Rattle.rows.proofs.Zeros.{and-assoc, and-true, or-is-zero, xor-is-zero}
+use Rattle.rows.proofs.Zeros.{or-is-zero, xor-is-zero}
 use Rattle.table.specs.declared.Spot.{Spot}
 use Rattle.compare.specs.Agreeing.{equalRange, Agreement, Apartness, Answers, below, AgreesBytes}
 use Rattle.compare.specs.declared.Agreed.{Agreed}

@@ -1,9 +1,8 @@
 -- The walk's ways out at a type's row, but for what its members and entries answer.
 use Prim.Native.Nat.{ℕ, zero, suc, _+_, _-_, _*_, _/_, _%_, _<_, _≤_, min}
 use mathlib.Core.Path.{_≡_, refl, sym, ap, _∙_}
-use mathlib.Core.Bool.{Bool, true, _&&_, false≢true}
+use mathlib.Core.Bool.{Bool, true, _&&_, false≢true, and-true}
 use mathlib.Core.List.{List}
-use mathlib.Core.Option.{Option, none, some}
 use native.Mathlib.Omega.{arith}
 use native.Mathlib.Numerals.{add-one}
 use native.Mathlib.Nat.{mul-comm, mul-div-cancel-left, mod-lt}
@@ -13,17 +12,16 @@ use borrow.Author.Tests.{ltb-false, lt-ltb}
 use Rattle.format.specs.Bytes.{dimensionsFrom}
 use Rattle.format.specs.Datatype.{Datatype, compound, enumeration, variableLength, array, Members, EnumMember, product, typeSize, maxSize}
 use Rattle.format.specs.Ownership.{owned, outside, heapHeld}
-use Rattle.format.specs.Slots.{firstZero, orElse}
+use Rattle.format.specs.Slots.{firstZero}
 use Rattle.format.specs.Table.{Found, found, bad, andThen, typeAt, membersAt, enumNamesAt, enumValuesAt}
 use Rattle.format.proofs.Booleans.{or-neither}
 use Rattle.format.proofs.Ownership.{array-size, owned-remainder}
-use Rattle.format.proofs.Slots.{first-zero-size}
+use Rattle.format.proofs.Slots.{first-zero-size, or-else-none}
 use Rattle.format.proofs.TableSteps.{then-found}
 use Rattle.rows.specs.Entries.{entryAt, fromEntry, EntryInside, EntryIfKnown}
 use Rattle.rows.specs.declared.Entry.{Entry}
 use Rattle.rows.specs.declared.Entry.the-variants.{Leaf, Compound, Enumeration, VariableLength, Array, Unknown}
 use Rattle.rows.proofs.Known.{claim-of-type}
-use Rattle.rows.proofs.Zeros.{and-true}
 use Rattle.table.specs.Survey.{surveyOf, spotOf, enumSpotOf}
 use Rattle.table.specs.declared.Survey.{Survey}
 use Rattle.table.specs.declared.Surveyed.{Surveyed}
@@ -36,11 +34,6 @@ use Rattle.compare.specs.Agreeing.{topOf, Read, isField, Admitted, Agree
 use Rattle.compare.specs.declared.Path.{Path}
 use Rattle.compare.specs.declared.Agreed.{Agreed}
 use Rattle.compare.proofs.Fields.{OwnsAll, owns-agrees, leaf-owns, enumeration-owns, Solid, field-solid}
-
-pub else-none : (x y : Option ℕ) → orElse x y ≡ none → (x ≡ none) × (y ≡ none)
-unfolding orElse
-else-none none y h = (refl, h)
-else-none (some c) y h = (h, cc)
 
 -- ---- an enumeration
 
@@ -100,7 +93,7 @@ module _ (ds : List ℕ) (t : Datatype) (d : Admitted (array ds t)) where
   unfolding firstZero outside heapHeld
   base-admitted =
       record {
-        sized = else-none _ _ (d .sized) .1;
+        sized = or-else-none _ _ (d .sized) .1;
         inside = or-neither (ltb maxSize (typeSize t * product ds)) (outside t) (d .inside) .1;
         plain = d .plain;
       }
@@ -205,7 +198,7 @@ module _ (table pool : List ℕ) (depth row place : ℕ) (a b : List ℕ) (at : 
       go : (y : Found Members) → AgreesIn y a b at x → Agrees (andThen y (λ ms r′ p′. found (compound n ms) r′ p′)) a b at x
       go (found ms r p) w =
           unfold andThen Agrees AgreesIn owned typeSize in
-          λ d l. w n (unfold firstZero outside heapHeld in record { sized = else-none _ _ (d .sized) .1; inside = d .inside; plain = d .plain }) l
+          λ d l. w n (unfold firstZero outside heapHeld in record { sized = or-else-none _ _ (d .sized) .1; inside = d .inside; plain = d .plain }) l
       go bad w = unfold andThen Agrees in tt
 
   module _ (x : Agreed) {k : ℕ} {y : Surveyed} (h : e ≡ Array k) (g : y ≡ surveyOf (typeAt (32 - depth) table pool (row + 1) (place + k * 4))) where
