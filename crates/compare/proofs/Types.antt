@@ -30,8 +30,9 @@ use Rattle.table.specs.declared.Spot.{Spot}
 use Rattle.table.specs.declared.Found.{Found as Walked}
 use Rattle.table.specs.declared.Found.the-variants.{At, Lost as Astray}
 use Rattle.table.proofs.Surveys.{Told, told, untold}
-use Rattle.compare.specs.Agreeing.{topOf, Read, isField, Admitted, Agrees, AgreesIn, AgreesEach, AgreesBytes}
-use Rattle.compare.specs.declared.Path.{Path}
+use Rattle.table.specs.Path.{topOf}
+use Rattle.compare.specs.Agreeing.{Read, isField, Admitted, Agrees, AgreesIn, AgreesEach, AgreesBytes}
+use Rattle.table.specs.declared.Path.{Path}
 use Rattle.compare.specs.declared.Agreed.{Agreed}
 use Rattle.compare.proofs.Fields.{OwnsAll, owns-agrees, leaf-owns, enumeration-owns, Solid, field-solid}
 

@@ -17,15 +17,11 @@ use Rattle.rows.specs.Entries.{entryAt, EntryInside, EntryIfKnown}
 use Rattle.rows.specs.declared.Entry.{Entry}
 use Rattle.rows.specs.declared.Entry.the-variants.{Leaf, Compound, Enumeration, VariableLength, Array, Unknown}
 use Rattle.table.specs.declared.Spot.{Spot}
-use Rattle.compare.specs.declared.Path.{Path}
+use Rattle.table.specs.declared.Path.{Path}
 use Rattle.compare.specs.declared.Agreed.{Agreed}
 use Rattle.compare.specs.declared.Agreed.the-variants.{Apart, Together, Lost}
 use Rattle.compare.specs.declared.Comparison.{Comparison}
 use Rattle.compare.specs.declared.Comparison.the-variants.{Same, Differs, Refused}
-
--- the row at the end of the path
-abbrev pub topOf : Path → ℕ
-topOf w = getD (w .rows) (w .depth - 1) 0
 
 -- the path has a row at its end, and a record begins within two of the same length
 pub record Standing (path : Path) (a b : List ℕ) (at : ℕ) : Type 0 where

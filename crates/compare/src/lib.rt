@@ -6,10 +6,12 @@ use rows::known_entry_at;
 use rows::known_member_at;
 use table::Checked;
 use table::Found;
+use table::Path;
 use table::Spot;
 use table::Survey;
 use table::Surveyed;
 use table::check;
+use table::enter;
 use table::scaled;
 use table::skip_enum_members;
 use table::survey_type;
@@ -21,14 +23,9 @@ ghost use Rattle.format.specs.Ownership.{comparing};
 ghost use Rattle.format.specs.Table.{typeAt, membersAt};
 ghost use Rattle.rows.specs.Entries.{fromEntry};
 ghost use Rattle.rows.specs.declared.Entry.the-variants.{Enumeration};
+ghost use Rattle.table.specs.Path.{topOf};
 ghost use Rattle.table.specs.Survey.{Sets};
-ghost use Rattle.compare.specs.Agreeing.{topOf, equalRange, isField, Standing, Read, Agrees, AgreesIn, AgreesEach, AgreesBytes, SameFields, Compares};
-
-// The rows of the open levels, outermost first: its top is the row at hand.
-pub struct Path {
-    pub rows: [usize; 32],
-    pub depth: usize,
-}
+ghost use Rattle.compare.specs.Agreeing.{equalRange, isField, Standing, Read, Agrees, AgreesIn, AgreesEach, AgreesBytes, SameFields, Compares};
 
 // What a walk over a type's fields finds: two bytes of a field differ, or none do, with the next row and pool place.
 pub enum Agreed {
@@ -42,20 +39,6 @@ pub enum Comparison {
     Same,
     Differs,
     Refused(Refusal),
-}
-
-// One level further down, at a row.
-fn enter(path: Path, row: usize) -> Path
-    requires { ⌜ path .depth < 32 ⌝ }
-    ensures { λ r. ⌜ (r .depth ≡ path .depth + 1) × (topOf r ≡ row) ⌝ }
-{
-    let depth = path.depth;
-    let mut rows = path.rows;
-    rows[depth] = row;
-    Path {
-        rows: rows,
-        depth: depth + 1,
-    }
 }
 
 // Whether the 128 bytes from `at` on are equal: without leaving early, so that they are compared side by side.

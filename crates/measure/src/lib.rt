@@ -6,6 +6,7 @@ use primitives::padding_to_8;
 use primitives::skipped_bytes;
 use rows::Entry;
 use rows::Member;
+use rows::both;
 use rows::entry_at;
 use rows::enum_member_at;
 use rows::member_at;
@@ -34,12 +35,6 @@ pub struct Measure {
 pub enum Measured {
     At(Measure),
     Lost,
-}
-
-fn both(a: bool, b: bool) -> bool
-    ensures { λ r. ⌜ r ≡ (a && b) ⌝ }
-{
-    if a { b } else { false }
 }
 
 // A length, which stops at 4,294,967,296.

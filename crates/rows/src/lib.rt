@@ -97,7 +97,8 @@ pub fn clear_bytes(pool: &[u8], from: usize, to: usize) -> bool
     true
 }
 
-fn both(a: bool, b: bool) -> bool
+// Both of two.
+pub fn both(a: bool, b: bool) -> bool
     ensures { λ r. ⌜ r ≡ (a && b) ⌝ }
 {
     if a { b } else { false }

@@ -26,8 +26,9 @@ use Rattle.table.specs.declared.Survey.{Survey}
 use Rattle.table.specs.declared.Surveyed.{Surveyed}
 use Rattle.table.specs.declared.Surveyed.the-variants.{Sound, Unsound}
 use Rattle.table.proofs.Surveys.{Told, told, untold}
-use Rattle.slots.specs.declared.Path.{Path}
-use Rattle.slots.specs.Slots.{topOf, AllBelow, Fits, Listed, Listable, PutAs, PutOne, PutIn, PutEach}
+use Rattle.table.specs.declared.Path.{Path}
+use Rattle.table.specs.Path.{topOf}
+use Rattle.slots.specs.Slots.{AllBelow, Fits, Listed, Listable, PutAs, PutOne, PutIn, PutEach}
 use Rattle.slots.proofs.Shifting.{first-low, few-entries, listed-none, shifted-none, entries-none}
 
 -- ---- a type that holds a reference has slots

@@ -16,7 +16,7 @@ use Rattle.format.specs.Table.{Found, found, bad}
 use Rattle.slots.specs.declared.Tally.{Tally}
 use Rattle.slots.specs.declared.Tallied.{Tallied}
 use Rattle.slots.specs.declared.Tallied.the-variants.{At, Lost}
-use Rattle.slots.specs.declared.Path.{Path}
+use Rattle.table.specs.declared.Path.{Path}
 use Rattle.slots.specs.declared.Slots.{Slots}
 use Rattle.slots.specs.declared.Slots.the-variants.{Found as SlotsFound, Refused}
 
@@ -52,10 +52,6 @@ unfoldable pub entriesTally : Found Datatype → ℕ → Tally → Tallied
 entriesTally (found t r p) n b =
     At (record { row = b .row; place = b .place; unmapped = b .unmapped; count = mostSlots (n * b .count); end = mostEnd (lastEnd (typeSize t) (b .end) n) })
 entriesTally bad n b = Lost
-
--- the row at the end of the path
-abbrev pub topOf : Path → ℕ
-topOf w = getD (w .rows) (w .depth - 1) 0
 
 -- the path has a row at its end, and a type begins at a place that 32 bits hold
 pub record Standing (path : Path) (base : ℕ) : Type 0 where

@@ -5,9 +5,12 @@ use rows::Member;
 use rows::entry_at;
 use rows::member_at;
 use table::Checked;
+use table::Path;
 use table::Survey;
 use table::Surveyed;
 use table::check;
+use table::either;
+use table::enter;
 use table::scaled;
 use table::survey_type;
 ghost use mathlib.Core.Path.{_≡_};
@@ -15,8 +18,9 @@ ghost use mathlib.Core.Bool.{_||_};
 ghost use Prim.Native.Nat.{_+_, _*_, _-_, _≤_, _<_, max};
 ghost use Rattle.format.specs.Slots.{lastEnd, movedEnd};
 ghost use Rattle.format.specs.Table.{typeAt, membersAt};
+ghost use Rattle.table.specs.Path.{topOf};
 ghost use Rattle.table.specs.Survey.{Sets};
-ghost use Rattle.slots.specs.Slots.{mostSlots, mostEnd, leafTally, hiddenTally, entriesTally, CountedAs, CountedIn, topOf, Standing, PutAs, PutOne, PutIn, PutEach, SlotsAre};
+ghost use Rattle.slots.specs.Slots.{mostSlots, mostEnd, leafTally, hiddenTally, entriesTally, CountedAs, CountedIn, Standing, PutAs, PutOne, PutIn, PutEach, SlotsAre};
 
 // What a first walk finds, before anything is listed: the next row and pool place, whether the type holds a reference that is no slot's, the
 // number of slots and the greatest slot + 8; the last two stop at 1,073,741,824 and 4,294,967,296, past all that a type of 32-bit size can
@@ -34,22 +38,10 @@ pub enum Tallied {
     Lost,
 }
 
-// The rows of the open levels, outermost first: its top is the row at hand.
-pub struct Path {
-    pub rows: [usize; 32],
-    pub depth: usize,
-}
-
 // The answer: how many slots, or why none.
 pub enum Slots {
     Found(u64),
     Refused(Refusal),
-}
-
-fn either(a: bool, b: bool) -> bool
-    ensures { λ r. ⌜ r ≡ (a || b) ⌝ }
-{
-    if a { true } else { b }
 }
 
 // The sum of two numbers of slots.
@@ -285,20 +277,6 @@ fn tally_members(
         count: slots,
         end: end,
     })
-}
-
-// One level further down, at a row.
-fn enter(path: Path, row: usize) -> Path
-    requires { ⌜ path .depth < 32 ⌝ }
-    ensures { λ r. ⌜ (r .depth ≡ path .depth + 1) × (topOf r ≡ row) ⌝ }
-{
-    let depth = path.depth;
-    let mut rows = path.rows;
-    rows[depth] = row;
-    Path {
-        rows: rows,
-        depth: depth + 1,
-    }
 }
 
 // Lists the slots of the type at the top of the path, its pool bytes at a place, which begins at `base` in the record: from `at` on, and the

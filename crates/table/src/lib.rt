@@ -18,6 +18,7 @@ ghost use Rattle.format.specs.Bytes.{dimensionsFrom};
 ghost use Rattle.format.specs.Datatype.{product};
 ghost use Rattle.format.specs.Sizes.{sizing, elementSizing, classMayHoldObjectAddress, objectAddressHeld, fileAddressHeld};
 ghost use Rattle.format.specs.Table.{typeAt, membersAt};
+ghost use Rattle.table.specs.Path.{topOf};
 ghost use Rattle.table.specs.Survey.{surveyOf, surveyIn, leafSurvey, enumSpotOf, endsAt, Checks, firstOf, zeroNote, SizedAs, HeldAs};
 ghost use Rattle.table.specs.Names.{nameOf, namePlace, further, PartIs};
 ghost use denote.Ref.{ptr};
@@ -88,10 +89,31 @@ fn first_of(a: u32, b: u32) -> u32
     if a == 0 { b } else { a }
 }
 
-fn either(a: bool, b: bool) -> bool
+// One of two, or both.
+pub fn either(a: bool, b: bool) -> bool
     ensures { λ r. ⌜ r ≡ (a || b) ⌝ }
 {
     if a { true } else { b }
+}
+
+// The rows of the open levels, outermost first: its top is the row at hand.
+pub struct Path {
+    pub rows: [usize; 32],
+    pub depth: usize,
+}
+
+// One level further down, at a row.
+pub fn enter(path: Path, row: usize) -> Path
+    requires { ⌜ path .depth < 32 ⌝ }
+    ensures { λ r. ⌜ (r .depth ≡ path .depth + 1) × (topOf r ≡ row) ⌝ }
+{
+    let depth = path.depth;
+    let mut rows = path.rows;
+    rows[depth] = row;
+    Path {
+        rows: rows,
+        depth: depth + 1,
+    }
 }
 
 // Whether a leaf is a region reference.

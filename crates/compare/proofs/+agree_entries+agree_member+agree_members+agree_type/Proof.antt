@@ -5,7 +5,7 @@ use borrow.Author.Needs.{needs}
 use lib.ListN.{length}
 use Rattle.format.specs.Table.{typeAt, membersAt}
 use Rattle.rows.proofs.Decode.{leaf-inside, compound-inside, enumeration-inside, array-inside, named-inside}
-use Rattle.compare.specs.Agreeing.{topOf}
+use Rattle.table.specs.Path.{topOf}
 use Rattle.compare.proofs.Types.{type-unknown, type-variableLength, type-leaf, type-enumeration, type-compound, type-array-unsound, type-array-zero, type-array-solid, type-array, sound-level, read-entered, member-leaf, member-enumeration, member-entered}
 use Rattle.compare.proofs.Inside.{Leads, leads-same, members-end, members-deep, members-unnamed, members-past, members-lost, members-apart, members-next, Done, done-none, entries-end, entries-start, entries-past, entries-lost, entries-apart, entries-next}
 use borrow.Fn.Kinds.{In}
@@ -24,7 +24,7 @@ use Rattle.compare.proofs.agree_type.Kinds as agree-type-kinds
 use Rattle.compare.proofs.+agree_entries+agree_member+agree_members+agree_type.Lts-agree_type as agree-type-lts
 use Rattle.compare.proofs.agree_enumeration.Reads as agree-enumeration-reads
 use Rattle.compare.proofs.agree_field.Reads as agree-field-reads
-use Rattle.compare.proofs.enter.Reads as enter-reads
+use Rattle.table.proofs.enter.Reads as enter-reads
 use Rattle.compare.proofs.is_field.Reads as is-field-reads
 use Rattle.rows.proofs.known_entry_at.Reads as known-entry-at-reads
 use Rattle.rows.proofs.known_member_at.Reads as known-member-at-reads

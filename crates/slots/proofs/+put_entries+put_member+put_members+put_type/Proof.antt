@@ -3,7 +3,7 @@ use native.Mathlib.Omega.{arith}
 use borrow.Author.Needs.{needs}
 use Rattle.format.specs.Table.{typeAt, membersAt}
 use Rattle.rows.proofs.Decode.{compound-inside, array-inside, named-inside}
-use Rattle.slots.specs.Slots.{topOf}
+use Rattle.table.specs.Path.{topOf}
 use Rattle.slots.proofs.Listing.{type-unknown, type-enumeration, type-variableLength, type-leaf-other, type-leaf-full, type-leaf, type-compound, type-array-deep, type-array-unsound, type-array-none, type-array, member-none, member-far, member-put}
 use Rattle.slots.proofs.ListingInside.{Puts, members-start, members-deep, members-unnamed, members-unsound, members-next, members-end, PutsEach, entries-start, entries-far, entries-next, entries-end}
 use borrow.Fn.Kinds.{In}
@@ -22,7 +22,7 @@ use Rattle.slots.proofs.put_type.Kinds as put-type-kinds
 use Rattle.slots.proofs.+put_entries+put_member+put_members+put_type.Lts-put_type as put-type-lts
 use Rattle.rows.proofs.entry_at.Reads as entry-at-reads
 use Rattle.rows.proofs.member_at.Reads as member-at-reads
-use Rattle.slots.proofs.enter.Reads as enter-reads
+use Rattle.table.proofs.enter.Reads as enter-reads
 use Rattle.table.proofs.scaled.Reads as scaled-reads
 use Rattle.table.proofs.survey_type.Reads as survey-type-reads
 use Rattle.slots.proofs.+put_entries+put_member+put_members+put_type.{statement}

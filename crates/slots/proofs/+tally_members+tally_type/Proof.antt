@@ -14,7 +14,7 @@ use Rattle.slots.proofs.tally_type.Kinds as tally-type-kinds
 use Rattle.slots.proofs.+tally_members+tally_type.Lts-tally_type as tally-type-lts
 use Rattle.rows.proofs.entry_at.Reads as entry-at-reads
 use Rattle.rows.proofs.member_at.Reads as member-at-reads
-use Rattle.slots.proofs.either.Reads as either-reads
+use Rattle.table.proofs.either.Reads as either-reads
 use Rattle.slots.proofs.further_end.Reads as further-end-reads
 use Rattle.slots.proofs.leaf_tally.Reads as leaf-tally-reads
 use Rattle.slots.proofs.sum_slots.Reads as sum-slots-reads

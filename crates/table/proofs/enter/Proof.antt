@@ -4,8 +4,8 @@ use mathlib.Core.Path.{_≡_, refl, ap, _∙_}
 use lib.ListN.{getD, set}
 use lib.Seq.{getD-set-same}
 use borrow.Author.Needs.{needs}
-use Rattle.compare.proofs.enter.Statement.{statement}
-use Rattle.compare.proofs.enter.Tie as tie
+use Rattle.table.proofs.enter.Statement.{statement}
+use Rattle.table.proofs.enter.Tie as tie
 
 returns : tie.Need-returns
 returns c =
