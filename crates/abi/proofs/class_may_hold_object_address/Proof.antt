@@ -3,9 +3,6 @@ use borrow.Author.Needs.{needs}
 use Rattle.abi.proofs.class_may_hold_object_address.Statement.{statement}
 use Rattle.abi.proofs.class_may_hold_object_address.Tie as tie
 
-class-may-hold-object-address-requires : tie.Need-class-may-hold-object-address-requires
-class-may-hold-object-address-requires c κs = search needs
-
 returns : tie.Need-returns
 returns c = yes-is (c .before .class-may-hold-object-address .ensures) (c .if1 .taken)
 
@@ -14,4 +11,8 @@ returns-2 c = no-is (c .before .class-may-hold-object-address .ensures) (c .if1 
 
 pub class-may-hold-object-address-spec : {M : Type 1} → statement M
 class-may-hold-object-address-spec =
-    tie.close (tie.spec class-may-hold-object-address-requires returns returns-2)
+    tie.close
+    (tie.spec
+    (λ c κs. search needs)  -- class-may-hold-object-address-requires
+    returns
+    returns-2)

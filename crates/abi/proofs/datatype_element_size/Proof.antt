@@ -3,14 +3,12 @@ use borrow.Author.Needs.{needs}
 use Rattle.abi.proofs.datatype_element_size.Statement.{statement}
 use Rattle.abi.proofs.datatype_element_size.Tie as tie
 
-element-size-requires : tie.Need-element-size-requires
-element-size-requires c κs = search needs
-
-of-sized-requires : tie.Need-of-sized-requires
-of-sized-requires c κs = search needs
-
 returns : tie.Need-returns
 returns c = told (c .of-sized .ensures) (c .before .element-size .ensures .number) (c .before .element-size .ensures .values)
 
 pub datatype-element-size-spec : {M : Type 1} → statement M
-datatype-element-size-spec = tie.close (tie.spec element-size-requires of-sized-requires returns)
+datatype-element-size-spec = tie.close
+    (tie.spec
+    (λ c κs. search needs)  -- element-size-requires
+    (λ c κs. search needs)  -- of-sized-requires
+    returns)

@@ -4,18 +4,6 @@ use borrow.Author.Needs.{needs}
 use Rattle.abi.proofs.of_references.Statement.{statement}
 use Rattle.abi.proofs.of_references.Tie as tie
 
-enum-known-answer : tie.Need-enum-known-answer
-enum-known-answer c = search needs
-
-given-requires : tie.Need-given-requires
-given-requires c κs = search needs
-
-enum-known-answer-2 : tie.Need-enum-known-answer-2
-enum-known-answer-2 c = search needs
-
-refused-requires : tie.Need-refused-requires
-refused-requires c κs = search needs
-
 returns : tie.Need-returns
 unfolding referencesNumber referencesValues
 returns c = tells-as referencesNumber referencesValues (c .before .before .answer .given .1) (c .given .ensures)
@@ -28,9 +16,9 @@ pub of-references-spec : {M : Type 1} → statement M
 of-references-spec =
     tie.close
     (tie.spec
-    enum-known-answer
-    given-requires
-    enum-known-answer-2
-    refused-requires
+    (λ c. search needs)  -- enum-known-answer
+    (λ c κs. search needs)  -- given-requires
+    (λ c. search needs)  -- enum-known-answer-2
+    (λ c κs. search needs)  -- refused-requires
     returns
     returns-2)

@@ -4,21 +4,6 @@ use borrow.Author.Needs.{needs}
 use Rattle.abi.proofs.of_sized.Statement.{statement}
 use Rattle.abi.proofs.of_sized.Tie as tie
 
-enum-known-answer : tie.Need-enum-known-answer
-enum-known-answer c = search needs
-
-cast-given : tie.Need-cast-given
-cast-given c = search needs
-
-given-requires : tie.Need-given-requires
-given-requires c κs = search needs
-
-enum-known-answer-2 : tie.Need-enum-known-answer-2
-enum-known-answer-2 c = search needs
-
-refused-requires : tie.Need-refused-requires
-refused-requires c κs = search needs
-
 returns : tie.Need-returns
 unfolding sizedNumber sizedValues
 returns c = tells-as sizedNumber sizedValues (c .before .before .answer .given .1) (c .given .ensures)
@@ -31,10 +16,10 @@ pub of-sized-spec : {M : Type 1} → statement M
 of-sized-spec =
     tie.close
     (tie.spec
-    enum-known-answer
-    cast-given
-    given-requires
-    enum-known-answer-2
-    refused-requires
+    (λ c. search needs)  -- enum-known-answer
+    (λ c. search needs)  -- cast-given
+    (λ c κs. search needs)  -- given-requires
+    (λ c. search needs)  -- enum-known-answer-2
+    (λ c κs. search needs)  -- refused-requires
     returns
     returns-2)

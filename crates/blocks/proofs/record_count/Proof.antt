@@ -6,15 +6,13 @@ use Rattle.format.specs.Slots.{recordCount}
 use Rattle.blocks.proofs.record_count.Statement.{statement}
 use Rattle.blocks.proofs.record_count.Tie as tie
 
-at-least-one-requires : tie.Need-at-least-one-requires
-at-least-one-requires c κs = search needs
-
-div-result : tie.Need-div-result
-div-result c = search needs
-
 returns : tie.Need-returns
 unfolding recordCount
 returns c = ap (_/_ (length (c .before .before .args .bytes .now))) (c .at-least-one .ensures .0)
 
 pub record-count-spec : {M : Type 1} → statement M
-record-count-spec = tie.close (tie.spec at-least-one-requires div-result returns)
+record-count-spec = tie.close
+    (tie.spec
+    (λ c κs. search needs)  -- at-least-one-requires
+    (λ c. search needs)  -- div-result
+    returns)

@@ -27,38 +27,8 @@ put-digits-calls t = (put-byte-reads.Asked, put-byte-reads.Learnt, put-digits-be
 put-digits-returns : (t : ℕ) → put-digits-lts.Need-returns (put-digits-calls t) (put-digits-at t) put-digits.Post
 put-digits-returns t c = search digits-none
 
-put-digits-cast-put-byte : (t : ℕ) → put-digits-lts.Need-cast-put-byte (put-digits-calls t) (put-digits-at t) put-digits.Post
-put-digits-cast-put-byte t c = search needs
-
-put-digits-add-put-byte : (t : ℕ) → put-digits-lts.Need-add-put-byte (put-digits-calls t) (put-digits-at t) put-digits.Post
-put-digits-add-put-byte t c = search needs
-
-put-digits-put-byte-requires : (t : ℕ) → put-digits-lts.Need-put-byte-requires (put-digits-calls t) (put-digits-at t) put-digits.Post
-put-digits-put-byte-requires t c κs = search needs
-
-put-digits-same-length : (t : ℕ) → put-digits-lts.Need-same-length (put-digits-calls t) (put-digits-at t) put-digits.Post
-put-digits-same-length t c = search needs
-
 put-digits-returns-2 : (t : ℕ) → put-digits-lts.Need-returns-2 (put-digits-calls t) (put-digits-at t) put-digits.Post
 put-digits-returns-2 t c = search digits-one
-
-put-digits-sub-put-digits : (t : ℕ) → put-digits-lts.Need-sub-put-digits (put-digits-calls t) (put-digits-at t) put-digits.Post
-put-digits-sub-put-digits t c = search needs
-
-put-digits-put-digits-requires : (t : ℕ) → put-digits-lts.Need-put-digits-requires (put-digits-calls t) (put-digits-at t) put-digits.Post
-put-digits-put-digits-requires t c κs = search needs
-
-put-digits-cast-put-byte-2 : (t : ℕ) → put-digits-lts.Need-cast-put-byte-2 (put-digits-calls t) (put-digits-at t) put-digits.Post
-put-digits-cast-put-byte-2 t c = search needs
-
-put-digits-add-put-byte-2 : (t : ℕ) → put-digits-lts.Need-add-put-byte-2 (put-digits-calls t) (put-digits-at t) put-digits.Post
-put-digits-add-put-byte-2 t c = search needs
-
-put-digits-put-byte-requires-2 : (t : ℕ) → put-digits-lts.Need-put-byte-requires-2 (put-digits-calls t) (put-digits-at t) put-digits.Post
-put-digits-put-byte-requires-2 t c κs = search needs
-
-put-digits-same-length-2 : (t : ℕ) → put-digits-lts.Need-same-length-2 (put-digits-calls t) (put-digits-at t) put-digits.Post
-put-digits-same-length-2 t c = search needs
 
 put-digits-returns-3 : (t : ℕ) → put-digits-lts.Need-returns-3 (put-digits-calls t) (put-digits-at t) put-digits.Post
 put-digits-returns-3 t c = search digits-more
@@ -73,15 +43,15 @@ pub +put-digits-spec : {M : Type 1} → statement M
     (put-digits-at t)
     put-digits.Post
     (put-digits-returns t)
-    (put-digits-cast-put-byte t)
-    (put-digits-add-put-byte t)
-    (put-digits-put-byte-requires t)
-    (put-digits-same-length t)
+    (λ c. search needs)  -- put-digits-cast-put-byte
+    (λ c. search needs)  -- put-digits-add-put-byte
+    (λ c κs. search needs)  -- put-digits-put-byte-requires
+    (λ c. search needs)  -- put-digits-same-length
     (put-digits-returns-2 t)
-    (put-digits-sub-put-digits t)
-    (put-digits-put-digits-requires t)
-    (put-digits-cast-put-byte-2 t)
-    (put-digits-add-put-byte-2 t)
-    (put-digits-put-byte-requires-2 t)
-    (put-digits-same-length-2 t)
+    (λ c. search needs)  -- put-digits-sub-put-digits
+    (λ c κs. search needs)  -- put-digits-put-digits-requires
+    (λ c. search needs)  -- put-digits-cast-put-byte-2
+    (λ c. search needs)  -- put-digits-add-put-byte-2
+    (λ c κs. search needs)  -- put-digits-put-byte-requires-2
+    (λ c. search needs)  -- put-digits-same-length-2
     (put-digits-returns-3 t)

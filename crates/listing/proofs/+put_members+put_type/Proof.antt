@@ -59,23 +59,8 @@ put-type-calls t = (put-line-reads.Asked, put-line-reads.Learnt, inside-at-reads
 put-members-loop-holds : (t : ℕ) → put-members-lts.Need-loop-holds (put-members-calls t) (put-members-at t) put-members.Post put-members-Inv-loop put-members-μ-loop
 put-members-loop-holds t c = search members-begun
 
-put-members-member-at-requires : (t : ℕ) → put-members-lts.Need-member-at-requires (put-members-calls t) (put-members-at t) put-members.Post put-members-Inv-loop put-members-μ-loop
-put-members-member-at-requires t c κs = search needs
-
-put-members-enum-told : (t : ℕ) → put-members-lts.Need-enum-told (put-members-calls t) (put-members-at t) put-members.Post put-members-Inv-loop put-members-μ-loop
-put-members-enum-told t c = search needs
-
-put-members-same-length : (t : ℕ) → put-members-lts.Need-same-length (put-members-calls t) (put-members-at t) put-members.Post put-members-Inv-loop put-members-μ-loop
-put-members-same-length t c = search needs
-
 put-members-returns : (t : ℕ) → put-members-lts.Need-returns (put-members-calls t) (put-members-at t) put-members.Post put-members-Inv-loop put-members-μ-loop
 put-members-returns t c = search members-unnamed
-
-put-members-enum-known-member : (t : ℕ) → put-members-lts.Need-enum-known-member (put-members-calls t) (put-members-at t) put-members.Post put-members-Inv-loop put-members-μ-loop
-put-members-enum-known-member t c = search needs
-
-put-members-cast-n : (t : ℕ) → put-members-lts.Need-cast-n (put-members-calls t) (put-members-at t) put-members.Post put-members-Inv-loop put-members-μ-loop
-put-members-cast-n t c = search needs
 
 put-members-add-from : (t : ℕ) → put-members-lts.Need-add-from (put-members-calls t) (put-members-at t) put-members.Post put-members-Inv-loop put-members-μ-loop
 put-members-add-from t c = omega (arith, named-inside _ _ _ _ ((c .before .member) .given .1) ((c .before .before .before .member-at) .ensures .1))
@@ -89,20 +74,8 @@ put-members-put-type-requires t c κs = (search needs, (search needs, name-in _ 
 put-members-add-extent-at : (t : ℕ) → put-members-lts.Need-add-extent-at (put-members-calls t) (put-members-at t) put-members.Post put-members-Inv-loop put-members-μ-loop
 put-members-add-extent-at t c = omega (arith, named-inside _ _ _ _ ((c .before .before .before .before .before .member) .given .1) ((c .before .before .before .before .before .before .before .member-at) .ensures .1))
 
-put-members-extent-at-requires : (t : ℕ) → put-members-lts.Need-extent-at-requires (put-members-calls t) (put-members-at t) put-members.Post put-members-Inv-loop put-members-μ-loop
-put-members-extent-at-requires t c κs = search needs
-
-put-members-sub-left : (t : ℕ) → put-members-lts.Need-sub-left (put-members-calls t) (put-members-at t) put-members.Post put-members-Inv-loop put-members-μ-loop
-put-members-sub-left t c = search needs
-
-put-members-loop-less : (t : ℕ) → put-members-lts.Need-loop-less (put-members-calls t) (put-members-at t) put-members.Post put-members-Inv-loop put-members-μ-loop
-put-members-loop-less t c = search needs
-
 put-members-loop-again : (t : ℕ) → put-members-lts.Need-loop-again (put-members-calls t) (put-members-at t) put-members.Post put-members-Inv-loop put-members-μ-loop
 put-members-loop-again t c = search members-next
-
-put-members-same-length-2 : (t : ℕ) → put-members-lts.Need-same-length-2 (put-members-calls t) (put-members-at t) put-members.Post put-members-Inv-loop put-members-μ-loop
-put-members-same-length-2 t c = search needs
 
 put-members-returns-2 : (t : ℕ) → put-members-lts.Need-returns-2 (put-members-calls t) (put-members-at t) put-members.Post put-members-Inv-loop put-members-μ-loop
 put-members-returns-2 t c = search members-ended
@@ -110,54 +83,21 @@ put-members-returns-2 t c = search members-ended
 put-type-returns : (t : ℕ) → put-type-lts.Need-returns (put-type-calls t) (put-type-at t) put-type.Post
 put-type-returns t c = search type-shallow
 
-put-type-put-line-requires : (t : ℕ) → put-type-lts.Need-put-line-requires (put-type-calls t) (put-type-at t) put-type.Post
-put-type-put-line-requires t c κs = search needs
-
-put-type-inside-at-requires : (t : ℕ) → put-type-lts.Need-inside-at-requires (put-type-calls t) (put-type-at t) put-type.Post
-put-type-inside-at-requires t c κs = search needs
-
-put-type-enum-told : (t : ℕ) → put-type-lts.Need-enum-told (put-type-calls t) (put-type-at t) put-type.Post
-put-type-enum-told t c = search needs
-
-put-type-enum-known-inside : (t : ℕ) → put-type-lts.Need-enum-known-inside (put-type-calls t) (put-type-at t) put-type.Post
-put-type-enum-known-inside t c = search needs
-
 put-type-add-put-members : (t : ℕ) → put-type-lts.Need-add-put-members (put-type-calls t) (put-type-at t) put-type.Post
 put-type-add-put-members t c = omega (arith, members-row ((c .before .before .before .inside-at) .ensures) ((c .before .inside) .given .1))
 
-put-type-sub-put-members : (t : ℕ) → put-type-lts.Need-sub-put-members (put-type-calls t) (put-type-at t) put-type.Post
-put-type-sub-put-members t c = search needs
-
-put-type-put-members-requires : (t : ℕ) → put-type-lts.Need-put-members-requires (put-type-calls t) (put-type-at t) put-type.Post
-put-type-put-members-requires t c κs = search needs
-
-put-type-enum-known-inside-2 : (t : ℕ) → put-type-lts.Need-enum-known-inside-2 (put-type-calls t) (put-type-at t) put-type.Post
-put-type-enum-known-inside-2 t c = search needs
-
 put-type-add-put-type : (t : ℕ) → put-type-lts.Need-add-put-type (put-type-calls t) (put-type-at t) put-type.Post
 put-type-add-put-type t c = omega (arith, base-row ((c .before .before .before .inside-at) .ensures) ((c .before .inside2) .given .1))
-
-put-type-sub-put-type : (t : ℕ) → put-type-lts.Need-sub-put-type (put-type-calls t) (put-type-at t) put-type.Post
-put-type-sub-put-type t c = search needs
 
 put-type-put-type-requires : (t : ℕ) → put-type-lts.Need-put-type-requires (put-type-calls t) (put-type-at t) put-type.Post
 unfolding NameInside
 put-type-put-type-requires t c κs = search needs
 
-put-type-same-length : (t : ℕ) → put-type-lts.Need-same-length (put-type-calls t) (put-type-at t) put-type.Post
-put-type-same-length t c = search needs
-
 put-type-returns-2 : (t : ℕ) → put-type-lts.Need-returns-2 (put-type-calls t) (put-type-at t) put-type.Post
 put-type-returns-2 t c = search type-plain
 
-put-type-same-length-2 : (t : ℕ) → put-type-lts.Need-same-length-2 (put-type-calls t) (put-type-at t) put-type.Post
-put-type-same-length-2 t c = search needs
-
 put-type-returns-3 : (t : ℕ) → put-type-lts.Need-returns-3 (put-type-calls t) (put-type-at t) put-type.Post
 put-type-returns-3 t c = search type-members
-
-put-type-same-length-3 : (t : ℕ) → put-type-lts.Need-same-length-3 (put-type-calls t) (put-type-at t) put-type.Post
-put-type-same-length-3 t c = search needs
 
 put-type-returns-4 : (t : ℕ) → put-type-lts.Need-returns-4 (put-type-calls t) (put-type-at t) put-type.Post
 put-type-returns-4 t c = search type-base
@@ -176,49 +116,41 @@ pub +put-members+put-type-spec : {M : Type 1} → statement M
     put-members-Inv-loop
     put-members-μ-loop
     (put-members-loop-holds t)
-    (put-members-member-at-requires t)
-    (put-members-enum-told t)
-    (put-members-same-length t)
+    (λ c κs. search needs)  -- put-members-member-at-requires
+    (λ c. search needs)  -- put-members-enum-told
+    (λ c. search needs)  -- put-members-same-length
     (put-members-returns t)
-    (put-members-enum-known-member t)
-    (put-members-cast-n t)
+    (λ c. search needs)  -- put-members-enum-known-member
+    (λ c. search needs)  -- put-members-cast-n
     (put-members-add-from t)
     (put-members-add-put-type t)
     (put-members-put-type-requires t)
     (put-members-add-extent-at t)
-    (put-members-extent-at-requires t)
-    (put-members-sub-left t)
-    (put-members-loop-less t)
+    (λ c κs. search needs)  -- put-members-extent-at-requires
+    (λ c. search needs)  -- put-members-sub-left
+    (λ c. search needs)  -- put-members-loop-less
     (put-members-loop-again t)
-    (put-members-same-length-2 t)
+    (λ c. search needs)  -- put-members-same-length-2
     (put-members-returns-2 t))
-    λ t. put-type-lts.spec (
-      put-line-reads.Asked,
-      put-line-reads.Learnt,
-      inside-at-reads.Asked,
-      inside-at-reads.Learnt,
-      put-members-below t,
-      put-members.Post,
-      put-type-below t,
-      put-type.Post,
-    )
+    λ t. put-type-lts.spec
+    (put-type-calls t)
     (put-type-at t)
     put-type.Post
     (put-type-returns t)
-    (put-type-put-line-requires t)
-    (put-type-inside-at-requires t)
-    (put-type-enum-told t)
-    (put-type-enum-known-inside t)
+    (λ c κs. search needs)  -- put-type-put-line-requires
+    (λ c κs. search needs)  -- put-type-inside-at-requires
+    (λ c. search needs)  -- put-type-enum-told
+    (λ c. search needs)  -- put-type-enum-known-inside
     (put-type-add-put-members t)
-    (put-type-sub-put-members t)
-    (put-type-put-members-requires t)
-    (put-type-enum-known-inside-2 t)
+    (λ c. search needs)  -- put-type-sub-put-members
+    (λ c κs. search needs)  -- put-type-put-members-requires
+    (λ c. search needs)  -- put-type-enum-known-inside-2
     (put-type-add-put-type t)
-    (put-type-sub-put-type t)
+    (λ c. search needs)  -- put-type-sub-put-type
     (put-type-put-type-requires t)
-    (put-type-same-length t)
+    (λ c. search needs)  -- put-type-same-length
     (put-type-returns-2 t)
-    (put-type-same-length-2 t)
+    (λ c. search needs)  -- put-type-same-length-2
     (put-type-returns-3 t)
-    (put-type-same-length-3 t)
+    (λ c. search needs)  -- put-type-same-length-3
     (put-type-returns-4 t)

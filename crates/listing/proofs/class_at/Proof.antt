@@ -3,27 +3,6 @@ use borrow.Author.Needs.{needs}
 use Rattle.listing.proofs.class_at.Statement.{statement}
 use Rattle.listing.proofs.class_at.Tie as tie
 
-entry-at-requires : tie.Need-entry-at-requires
-entry-at-requires c κs = search needs
-
-enum-told : tie.Need-enum-told
-enum-told c = search needs
-
-enum-known-entry : tie.Need-enum-known-entry
-enum-known-entry c = search needs
-
-enum-told-2 : tie.Need-enum-told-2
-enum-told-2 c = search needs
-
-enum-told-3 : tie.Need-enum-told-3
-enum-told-3 c = search needs
-
-enum-told-4 : tie.Need-enum-told-4
-enum-told-4 c = search needs
-
-enum-told-5 : tie.Need-enum-told-5
-enum-told-5 c = search needs
-
 returns : tie.Need-returns
 returns c = search class-unknown
 
@@ -46,13 +25,13 @@ pub class-at-spec : {M : Type 1} → statement M
 class-at-spec =
     tie.close
     (tie.spec
-    entry-at-requires
-    enum-told
-    enum-known-entry
-    enum-told-2
-    enum-told-3
-    enum-told-4
-    enum-told-5
+    (λ c κs. search needs)  -- entry-at-requires
+    (λ c. search needs)  -- enum-told
+    (λ c. search needs)  -- enum-known-entry
+    (λ c. search needs)  -- enum-told-2
+    (λ c. search needs)  -- enum-told-3
+    (λ c. search needs)  -- enum-told-4
+    (λ c. search needs)  -- enum-told-5
     returns
     returns-2
     returns-3

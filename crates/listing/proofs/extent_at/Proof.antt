@@ -3,15 +3,6 @@ use borrow.Author.Needs.{needs}
 use Rattle.listing.proofs.extent_at.Statement.{statement}
 use Rattle.listing.proofs.extent_at.Tie as tie
 
-survey-type-requires : tie.Need-survey-type-requires
-survey-type-requires c κs = search needs
-
-enum-told : tie.Need-enum-told
-enum-told c = search needs
-
-enum-known-surveyed : tie.Need-enum-known-surveyed
-enum-known-surveyed c = search needs
-
 returns : tie.Need-returns
 returns c = search nowhere
 
@@ -20,4 +11,10 @@ returns-2 c = search reached
 
 pub extent-at-spec : {M : Type 1} → statement M
 extent-at-spec =
-    tie.close (tie.spec survey-type-requires enum-told enum-known-surveyed returns returns-2)
+    tie.close
+    (tie.spec
+    (λ c κs. search needs)  -- survey-type-requires
+    (λ c. search needs)  -- enum-told
+    (λ c. search needs)  -- enum-known-surveyed
+    returns
+    returns-2)

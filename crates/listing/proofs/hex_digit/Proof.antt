@@ -3,17 +3,16 @@ use borrow.Author.Needs.{needs}
 use Rattle.listing.proofs.hex_digit.Statement.{statement}
 use Rattle.listing.proofs.hex_digit.Tie as tie
 
-add-result : tie.Need-add-result
-add-result c = search needs
-
 returns : tie.Need-returns
 returns c = search hex-low
-
-add-result-2 : tie.Need-add-result-2
-add-result-2 c = search needs
 
 returns-2 : tie.Need-returns-2
 returns-2 c = search hex-high
 
 pub hex-digit-spec : {M : Type 1} → statement M
-hex-digit-spec = tie.close (tie.spec add-result returns add-result-2 returns-2)
+hex-digit-spec = tie.close
+    (tie.spec
+    (λ c. search needs)  -- add-result
+    returns
+    (λ c. search needs)  -- add-result-2
+    returns-2)

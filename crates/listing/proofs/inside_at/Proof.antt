@@ -5,33 +5,6 @@ use borrow.Author.Needs.{needs}
 use Rattle.listing.proofs.inside_at.Statement.{statement}
 use Rattle.listing.proofs.inside_at.Tie as tie
 
-entry-at-requires : tie.Need-entry-at-requires
-entry-at-requires c κs = search needs
-
-enum-told : tie.Need-enum-told
-enum-told c = search needs
-
-enum-told-2 : tie.Need-enum-told-2
-enum-told-2 c = search needs
-
-enum-known-entry : tie.Need-enum-known-entry
-enum-known-entry c = search needs
-
-enum-told-3 : tie.Need-enum-told-3
-enum-told-3 c = search needs
-
-enum-told-4 : tie.Need-enum-told-4
-enum-told-4 c = search needs
-
-enum-known-entry-2 : tie.Need-enum-known-entry-2
-enum-known-entry-2 c = search needs
-
-cast-t9 : tie.Need-cast-t9
-cast-t9 c = search needs
-
-mul-t10 : tie.Need-mul-t10
-mul-t10 c = search needs
-
 add-t11 : tie.Need-add-t11
 add-t11 c = omega (arith, array-inside _ _ _ _ ((c .before .before .before .entry-at) .ensures .1) ((c .before .entry2) .given .1))
 
@@ -57,15 +30,15 @@ pub inside-at-spec : {M : Type 1} → statement M
 inside-at-spec =
     tie.close
     (tie.spec
-    entry-at-requires
-    enum-told
-    enum-told-2
-    enum-known-entry
-    enum-told-3
-    enum-told-4
-    enum-known-entry-2
-    cast-t9
-    mul-t10
+    (λ c κs. search needs)  -- entry-at-requires
+    (λ c. search needs)  -- enum-told
+    (λ c. search needs)  -- enum-told-2
+    (λ c. search needs)  -- enum-known-entry
+    (λ c. search needs)  -- enum-told-3
+    (λ c. search needs)  -- enum-told-4
+    (λ c. search needs)  -- enum-known-entry-2
+    (λ c. search needs)  -- cast-t9
+    (λ c. search needs)  -- mul-t10
     add-t11
     returns
     returns-2

@@ -4,18 +4,9 @@ use borrow.Author.Needs.{needs}
 use Rattle.listing.proofs.put_fields.Statement.{statement}
 use Rattle.listing.proofs.put_fields.Tie as tie
 
-slice-aggregate-put-text : tie.Need-slice-aggregate-put-text
-slice-aggregate-put-text c = search needs
-
-put-text-requires : tie.Need-put-text-requires
-put-text-requires c κs = search needs
-
 put-type-requires : tie.Need-put-type-requires
 unfolding NameInside
 put-type-requires c κs = search needs
-
-same-length : tie.Need-same-length
-same-length c = search needs
 
 returns : tie.Need-returns
 returns c = search fields-put
@@ -23,4 +14,9 @@ returns c = search fields-put
 pub put-fields-spec : {M : Type 1} → statement M
 put-fields-spec =
     tie.close
-    (tie.spec slice-aggregate-put-text put-text-requires put-type-requires same-length returns)
+    (tie.spec
+    (λ c. search needs)  -- slice-aggregate-put-text
+    (λ c κs. search needs)  -- put-text-requires
+    put-type-requires
+    (λ c. search needs)  -- same-length
+    returns)

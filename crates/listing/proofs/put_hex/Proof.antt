@@ -16,35 +16,11 @@ abbrev μ-loop : tie.MeasureT-loop
 loop-holds : tie.Need-loop-holds Inv-loop μ-loop
 loop-holds c = search hex-begun
 
-add-byte : tie.Need-add-byte Inv-loop μ-loop
-add-byte c = search needs
-
-shared-slice-read-byte : tie.Need-shared-slice-read-byte Inv-loop μ-loop
-shared-slice-read-byte c = search needs
-
 hex-digit-requires : tie.Need-hex-digit-requires Inv-loop μ-loop
 hex-digit-requires c κs = omega (arith, (c .shared-slice-known2) .given ((c .before .before .before .before .before) .args .from + (c .before .before .loop) .i))
 
-put-byte-requires : tie.Need-put-byte-requires Inv-loop μ-loop
-put-byte-requires c κs = search needs
-
-hex-digit-requires-2 : tie.Need-hex-digit-requires-2 Inv-loop μ-loop
-hex-digit-requires-2 c κs = omega arith
-
-put-byte-requires-2 : tie.Need-put-byte-requires-2 Inv-loop μ-loop
-put-byte-requires-2 c κs = search needs
-
-add-i : tie.Need-add-i Inv-loop μ-loop
-add-i c = search needs
-
-loop-less : tie.Need-loop-less Inv-loop μ-loop
-loop-less c = search needs
-
 loop-again : tie.Need-loop-again Inv-loop μ-loop
 loop-again c = search hex-next
-
-same-length : tie.Need-same-length Inv-loop μ-loop
-same-length c = search needs
 
 returns : tie.Need-returns Inv-loop μ-loop
 returns c = search hex-ended
@@ -56,14 +32,14 @@ put-hex-spec =
     Inv-loop
     μ-loop
     loop-holds
-    add-byte
-    shared-slice-read-byte
+    (λ c. search needs)  -- add-byte
+    (λ c. search needs)  -- shared-slice-read-byte
     hex-digit-requires
-    put-byte-requires
-    hex-digit-requires-2
-    put-byte-requires-2
-    add-i
-    loop-less
+    (λ c κs. search needs)  -- put-byte-requires
+    (λ c κs. omega arith)  -- hex-digit-requires-2
+    (λ c κs. search needs)  -- put-byte-requires-2
+    (λ c. search needs)  -- add-i
+    (λ c. search needs)  -- loop-less
     loop-again
-    same-length
+    (λ c. search needs)  -- same-length
     returns)

@@ -3,9 +3,6 @@ use borrow.Author.Needs.{needs}
 use Rattle.names.proofs.go_on.Statement.{statement}
 use Rattle.names.proofs.go_on.Tie as tie
 
-nothing-requires : tie.Need-nothing-requires
-nothing-requires c κs = search needs
-
 returns : tie.Need-returns
 returns c = search whole-2
 
@@ -14,9 +11,6 @@ sub-t8 c = search waits-more
 
 returns-2 : tie.Need-returns-2
 returns-2 c = search longer-2
-
-nothing-requires-2 : tie.Need-nothing-requires-2
-nothing-requires-2 c κs = search needs
 
 returns-3 : tie.Need-returns-3
 returns-3 c = search whole-3
@@ -27,9 +21,6 @@ sub-t14 c = search waits-more
 returns-4 : tie.Need-returns-4
 returns-4 c = search longer-3
 
-nothing-requires-3 : tie.Need-nothing-requires-3
-nothing-requires-3 c κs = search needs
-
 returns-5 : tie.Need-returns-5
 returns-5 c = search whole-4
 
@@ -37,13 +28,13 @@ pub go-on-spec : {M : Type 1} → statement M
 go-on-spec =
     tie.close
     (tie.spec
-    nothing-requires
+    (λ c κs. search needs)  -- nothing-requires
     returns
     sub-t8
     returns-2
-    nothing-requires-2
+    (λ c κs. search needs)  -- nothing-requires-2
     returns-3
     sub-t14
     returns-4
-    nothing-requires-3
+    (λ c κs. search needs)  -- nothing-requires-3
     returns-5)

@@ -15,32 +15,14 @@ Inv-loop pool₀ pos room n bytes i₀ pool i = (i ≤ n) × (pool ≡ sets pool
 abbrev μ-loop : tie.MeasureT-loop
 μ-loop pool₀ pos room n bytes i₀ pool i = n - i
 
-add-if1 : tie.Need-add-if1 Inv-loop μ-loop
-add-if1 c = omega arith
-
-add-result : tie.Need-add-result Inv-loop μ-loop
-add-result c = omega arith
-
 returns : tie.Need-returns Inv-loop μ-loop
 returns c = search all-past
 
 loop-holds : tie.Need-loop-holds Inv-loop μ-loop
 loop-holds c = (omega arith, refl)
 
-array-read-pool : tie.Need-array-read-pool Inv-loop μ-loop
-array-read-pool c = omega arith
-
-add-pool : tie.Need-add-pool Inv-loop μ-loop
-add-pool c = omega arith
-
 slice-write-pool : tie.Need-slice-write-pool Inv-loop μ-loop
 slice-write-pool c = let a = c .before .before .before .args in omega (arith, ap length (c .before .loop .inv .1), length-sets (a .pool .now) (a .pos) (take (c .before .loop .i) (a .t4)))
-
-add-i : tie.Need-add-i Inv-loop μ-loop
-add-i c = omega arith
-
-loop-less : tie.Need-loop-less Inv-loop μ-loop
-loop-less c = omega arith
 
 loop-again : tie.Need-loop-again Inv-loop μ-loop
 loop-again c =
@@ -50,9 +32,6 @@ loop-again c =
       ap (λ (p : List ℕ). set p (a .pos + l .i) (getD (a .t4) (l .i) 0)) (l .inv .1)
           ∙ sets-take (a .t4) (a .pool .now) (a .pos) (l .i) (omega arith),
     )
-
-add-result-2 : tie.Need-add-result-2 Inv-loop μ-loop
-add-result-2 c = omega arith
 
 same-length : tie.Need-same-length Inv-loop μ-loop
 same-length c = ap length (c .before .loop .inv .1) ∙ simp length-sets
@@ -66,16 +45,16 @@ store-spec =
     (tie.spec
     Inv-loop
     μ-loop
-    add-if1
-    add-result
+    (λ c. omega arith)  -- add-if1
+    (λ c. omega arith)  -- add-result
     returns
     loop-holds
-    array-read-pool
-    add-pool
+    (λ c. omega arith)  -- array-read-pool
+    (λ c. omega arith)  -- add-pool
     slice-write-pool
-    add-i
-    loop-less
+    (λ c. omega arith)  -- add-i
+    (λ c. omega arith)  -- loop-less
     loop-again
-    add-result-2
+    (λ c. omega arith)  -- add-result-2
     same-length
     returns-2)

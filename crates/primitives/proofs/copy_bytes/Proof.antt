@@ -17,23 +17,8 @@ abbrev μ-loop : tie.MeasureT-loop
 loop-holds : tie.Need-loop-holds Inv-loop μ-loop
 loop-holds c = (omega arith, refl)
 
-add-to : tie.Need-add-to Inv-loop μ-loop
-add-to c = omega arith
-
-shared-slice-read-to : tie.Need-shared-slice-read-to Inv-loop μ-loop
-shared-slice-read-to c = omega arith
-
-add-to-2 : tie.Need-add-to-2 Inv-loop μ-loop
-add-to-2 c = omega arith
-
 slice-write-to : tie.Need-slice-write-to Inv-loop μ-loop
 slice-write-to c = let a = c .before .before .before .args in omega (arith, ap length (c .before .before .loop .inv .1), length-sets (a .to .now) (a .place) (take (c .before .before .loop .i) (drop (a .start) (a .from .now))))
-
-add-i : tie.Need-add-i Inv-loop μ-loop
-add-i c = omega arith
-
-loop-less : tie.Need-loop-less Inv-loop μ-loop
-loop-less c = omega arith
 
 loop-again : tie.Need-loop-again Inv-loop μ-loop
 loop-again c =
@@ -63,12 +48,12 @@ copy-bytes-spec =
     Inv-loop
     μ-loop
     loop-holds
-    add-to
-    shared-slice-read-to
-    add-to-2
+    (λ c. omega arith)  -- add-to
+    (λ c. omega arith)  -- shared-slice-read-to
+    (λ c. omega arith)  -- add-to-2
     slice-write-to
-    add-i
-    loop-less
+    (λ c. omega arith)  -- add-i
+    (λ c. omega arith)  -- loop-less
     loop-again
     same-length
     returns)

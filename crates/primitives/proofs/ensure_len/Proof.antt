@@ -5,14 +5,8 @@ use Rattle.primitives.proofs.Laws.{ensured-past, ensured-enough, ensure
 use Rattle.primitives.proofs.ensure_len.Statement.{statement}
 use Rattle.primitives.proofs.ensure_len.Tie as tie
 
-sub-if1 : tie.Need-sub-if1
-sub-if1 c = search needs
-
 returns : tie.Need-returns
 returns c = ensured-past (length (c .before .args .«data» .now)) (c .before .args .offset) (c .before .args .needed) (omega arith) (omega arith)
-
-add-end : tie.Need-add-end
-add-end c = search needs
 
 returns-2 : tie.Need-returns-2
 returns-2 c = ensured-enough (length (c .before .before .args .«data» .now)) (c .before .before .args .offset) (c .before .before .args .needed) (omega arith)
@@ -21,4 +15,10 @@ returns-3 : tie.Need-returns-3
 returns-3 c = ensured-lacking (length (c .before .before .args .«data» .now)) (c .before .before .args .offset) (c .before .before .args .needed) (omega arith) (omega arith)
 
 pub ensure-len-spec : {M : Type 1} → statement M
-ensure-len-spec = tie.close (tie.spec sub-if1 returns add-end returns-2 returns-3)
+ensure-len-spec = tie.close
+    (tie.spec
+    (λ c. search needs)  -- sub-if1
+    returns
+    (λ c. search needs)  -- add-end
+    returns-2
+    returns-3)

@@ -6,9 +6,6 @@ use Rattle.format.specs.Message.{namePadding}
 use Rattle.primitives.proofs.name_padding.Statement.{statement}
 use Rattle.primitives.proofs.name_padding.Tie as tie
 
-padding-to-8-requires : tie.Need-padding-to-8-requires
-padding-to-8-requires c κs = search needs
-
 returns : tie.Need-returns
 unfolding namePadding
 returns c = (c .padding-to-8 .ensures .0 ∙ rw (lt-ltb (c .before .before .args .version) 3 (omega arith)), c .padding-to-8 .ensures .1)
@@ -18,4 +15,8 @@ unfolding namePadding
 returns-2 c = (rw (le-ltb (c .before .args .version) 3 (omega arith)), omega arith)
 
 pub name-padding-spec : {M : Type 1} → statement M
-name-padding-spec = tie.close (tie.spec padding-to-8-requires returns returns-2)
+name-padding-spec = tie.close
+    (tie.spec
+    (λ c κs. search needs)  -- padding-to-8-requires
+    returns
+    returns-2)

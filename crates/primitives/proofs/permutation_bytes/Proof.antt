@@ -5,9 +5,6 @@ use Rattle.format.specs.Message.{permutationBytes}
 use Rattle.primitives.proofs.permutation_bytes.Statement.{statement}
 use Rattle.primitives.proofs.permutation_bytes.Tie as tie
 
-mul-result : tie.Need-mul-result
-mul-result c = search needs
-
 returns : tie.Need-returns
 unfolding permutationBytes
 returns c = (rw (lt-ltb (c .before .args .version) 3 (omega arith)), omega arith)
@@ -17,4 +14,8 @@ unfolding permutationBytes
 returns-2 c = (rw (le-ltb (c .before .args .version) 3 (omega arith)), omega arith)
 
 pub permutation-bytes-spec : {M : Type 1} → statement M
-permutation-bytes-spec = tie.close (tie.spec mul-result returns returns-2)
+permutation-bytes-spec = tie.close
+    (tie.spec
+    (λ c. search needs)  -- mul-result
+    returns
+    returns-2)

@@ -14,32 +14,11 @@ Inv-loop table₀ row words at i₀ table i = ((i ≤ 16) × (length words ≡ 1
 abbrev μ-loop : tie.MeasureT-loop
 μ-loop table₀ row words at i₀ table i = 16 - i
 
-mul-at : tie.Need-mul-at Inv-loop μ-loop
-mul-at c = omega arith
-
 loop-holds : tie.Need-loop-holds Inv-loop μ-loop
 loop-holds c = ((omega arith, c .pre .1), refl)
 
-mul-table : tie.Need-mul-table Inv-loop μ-loop
-mul-table c = omega arith
-
-array-read-table : tie.Need-array-read-table Inv-loop μ-loop
-array-read-table c = omega arith
-
-add-table : tie.Need-add-table Inv-loop μ-loop
-add-table c = omega arith
-
-mul-table-2 : tie.Need-mul-table-2 Inv-loop μ-loop
-mul-table-2 c = omega arith
-
 slice-write-table : tie.Need-slice-write-table Inv-loop μ-loop
 slice-write-table c = let a = c .before .before .args in omega (arith, ap length (c .before .loop .inv .1), length-sets (a .table .now) (a .row * 16) (take (c .before .loop .i) (a .t3)))
-
-add-i : tie.Need-add-i Inv-loop μ-loop
-add-i c = omega arith
-
-loop-less : tie.Need-loop-less Inv-loop μ-loop
-loop-less c = omega arith
 
 loop-again : tie.Need-loop-again Inv-loop μ-loop
 loop-again c =
@@ -63,15 +42,15 @@ put-row-spec =
     (tie.spec
     Inv-loop
     μ-loop
-    mul-at
+    (λ c. omega arith)  -- mul-at
     loop-holds
-    mul-table
-    array-read-table
-    add-table
-    mul-table-2
+    (λ c. omega arith)  -- mul-table
+    (λ c. omega arith)  -- array-read-table
+    (λ c. omega arith)  -- add-table
+    (λ c. omega arith)  -- mul-table-2
     slice-write-table
-    add-i
-    loop-less
+    (λ c. omega arith)  -- add-i
+    (λ c. omega arith)  -- loop-less
     loop-again
     same-length
     returns)

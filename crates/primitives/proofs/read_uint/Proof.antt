@@ -18,29 +18,11 @@ loop-holds : tie.Need-loop-holds Inv-loop μ-loop
 unfolding numberFrom
 loop-holds c = (omega arith, (omega arith, refl))
 
-add-i : tie.Need-add-i Inv-loop μ-loop
-add-i c = omega arith
-
 mul-value : tie.Need-mul-value Inv-loop μ-loop
 mul-value c = omega (arith, byte-room (c .before .loop .i) (omega arith))
 
-sub-wide32 : tie.Need-sub-wide32 Inv-loop μ-loop
-sub-wide32 c = omega arith
-
-add-wide32 : tie.Need-add-wide32 Inv-loop μ-loop
-add-wide32 c = omega arith
-
-shared-slice-read-wide32 : tie.Need-shared-slice-read-wide32 Inv-loop μ-loop
-shared-slice-read-wide32 c = omega arith
-
-wide32-requires : tie.Need-wide32-requires Inv-loop μ-loop
-wide32-requires c κs = search needs
-
 add-value : tie.Need-add-value Inv-loop μ-loop
 add-value c = omega (arith, byte-room (c .before .before .before .loop .i) (omega arith))
-
-loop-less : tie.Need-loop-less Inv-loop μ-loop
-loop-less c = omega arith
 
 loop-again : tie.Need-loop-again Inv-loop μ-loop
 loop-again c =
@@ -66,13 +48,13 @@ read-uint-spec =
     Inv-loop
     μ-loop
     loop-holds
-    add-i
+    (λ c. omega arith)  -- add-i
     mul-value
-    sub-wide32
-    add-wide32
-    shared-slice-read-wide32
-    wide32-requires
+    (λ c. omega arith)  -- sub-wide32
+    (λ c. omega arith)  -- add-wide32
+    (λ c. omega arith)  -- shared-slice-read-wide32
+    (λ c κs. search needs)  -- wide32-requires
     add-value
-    loop-less
+    (λ c. omega arith)  -- loop-less
     loop-again
     returns)

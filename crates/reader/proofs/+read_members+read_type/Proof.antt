@@ -68,9 +68,6 @@ read-members-loop-holds t c = search members-begun
 read-members-enter-member-requires : (t : ℕ) → read-members-lts.Need-enter-member-requires (read-members-calls t) (read-members-at t) read-members.Post read-members-Inv-loop read-members-μ-loop
 read-members-enter-member-requires t c κs = search members-ready
 
-read-members-enum-known-entered : (t : ℕ) → read-members-lts.Need-enum-known-entered (read-members-calls t) (read-members-at t) read-members.Post read-members-Inv-loop read-members-μ-loop
-read-members-enum-known-entered t c = search needs
-
 read-members-same-length : (t : ℕ) → read-members-lts.Need-same-length (read-members-calls t) (read-members-at t) read-members.Post read-members-Inv-loop read-members-μ-loop
 read-members-same-length t c = search table-entered
 
@@ -79,9 +76,6 @@ read-members-same-length-2 t c = search pool-entered
 
 read-members-returns : (t : ℕ) → read-members-lts.Need-returns (read-members-calls t) (read-members-at t) read-members.Post read-members-Inv-loop read-members-μ-loop
 read-members-returns t c = search members-stopped
-
-read-members-enum-known-entered-2 : (t : ℕ) → read-members-lts.Need-enum-known-entered-2 (read-members-calls t) (read-members-at t) read-members.Post read-members-Inv-loop read-members-μ-loop
-read-members-enum-known-entered-2 t c = search needs
 
 read-members-sub-read-type : (t : ℕ) → read-members-lts.Need-sub-read-type (read-members-calls t) (read-members-at t) read-members.Post read-members-Inv-loop read-members-μ-loop
 read-members-sub-read-type t c = search (needs, entered-within)
@@ -95,9 +89,6 @@ read-members-part-read-type-end t c = search (needs, entered-within)
 read-members-read-type-requires : (t : ℕ) → read-members-lts.Need-read-type-requires (read-members-calls t) (read-members-at t) read-members.Post read-members-Inv-loop read-members-μ-loop
 read-members-read-type-requires t c κs = (search needs, entered-ready ((c .before .before .before .before .before .before .before .before .before .before .enter-member) .ensures) ((c .before .before .before .before .entered2) .given .1) ((c .before .before .before .before .before .before .before .before .before .before .before .before .before .before .loop) .inv) ((c .before .before .before .before .before .before .before .before .before .before .before .before .before .before .before .before .before .before) .pre .1 .0 .0))
 
-read-members-enum-known-got : (t : ℕ) → read-members-lts.Need-enum-known-got (read-members-calls t) (read-members-at t) read-members.Post read-members-Inv-loop read-members-μ-loop
-read-members-enum-known-got t c = search needs
-
 read-members-same-length-3 : (t : ℕ) → read-members-lts.Need-same-length-3 (read-members-calls t) (read-members-at t) read-members.Post read-members-Inv-loop read-members-μ-loop
 read-members-same-length-3 t c = search table-turned
 
@@ -107,17 +98,11 @@ read-members-same-length-4 t c = search pool-turned
 read-members-returns-2 : (t : ℕ) → read-members-lts.Need-returns-2 (read-members-calls t) (read-members-at t) read-members.Post read-members-Inv-loop read-members-μ-loop
 read-members-returns-2 t c = search members-refused
 
-read-members-enum-known-got-2 : (t : ℕ) → read-members-lts.Need-enum-known-got-2 (read-members-calls t) (read-members-at t) read-members.Post read-members-Inv-loop read-members-μ-loop
-read-members-enum-known-got-2 t c = search needs
-
 read-members-add-at : (t : ℕ) → read-members-lts.Need-add-at (read-members-calls t) (read-members-at t) read-members.Post read-members-Inv-loop read-members-μ-loop
 read-members-add-at t c = omega (arith, turned-near _ _ _ _ _ _ _ _ ((c .before .before .before .before .before .before .before .before .before .before .before .before .before .before .before .before .before .before .before .before .before .before .before .loop) .inv) ((c .before .before .before .before .before .before .before .before .before .before .before .before .before .before .before .before .before .before .before .before .before .before .loop-test) .taken) ((c .before .before .before .before .before .before .before .before .before .before .before .before .before .before .before .before .before .before .before .enter-member) .ensures) ((c .before .before .before .before .before .before .before .before .before .before .before .before .before .entered2) .given .1) ((c .before .before .before .before .before .before .before .before .read-type) .ensures) ((c .before .before .got2) .given .1), (c .before .before .before .before .before .before .before .before .before .before .before .before .before .before .before .before .before .before .before .before .before .before .before .before .before .before .before) .good .0 .1)
 
 read-members-add-i : (t : ℕ) → read-members-lts.Need-add-i (read-members-calls t) (read-members-at t) read-members.Post read-members-Inv-loop read-members-μ-loop
 read-members-add-i t c = omega (arith, (c .before .before .before .before .before .before .before .before .before .before .before .before .before .before .before .before .before .before .before .before .before .before .loop-test) .taken, (c .before .before .before .before .before .before .before .before .before .before .before .before .before .before .before .before .before .before .before .before .before .before .before .before .before .before .before) .pre .1 .1)
-
-read-members-loop-less : (t : ℕ) → read-members-lts.Need-loop-less (read-members-calls t) (read-members-at t) read-members.Post read-members-Inv-loop read-members-μ-loop
-read-members-loop-less t c = omega arith
 
 read-members-loop-again : (t : ℕ) → read-members-lts.Need-loop-again (read-members-calls t) (read-members-at t) read-members.Post read-members-Inv-loop read-members-μ-loop
 read-members-loop-again t c = search members-turned
@@ -134,56 +119,17 @@ read-members-returns-3 t c = search members-ended
 read-type-returns : (t : ℕ) → read-type-lts.Need-returns (read-type-calls t) (read-type-at t) read-type.Post
 read-type-returns t c = search type-ends
 
-read-type-open-type-requires : (t : ℕ) → read-type-lts.Need-open-type-requires (read-type-calls t) (read-type-at t) read-type.Post
-read-type-open-type-requires t c κs = search needs
-
-read-type-enum-known-opened : (t : ℕ) → read-type-lts.Need-enum-known-opened (read-type-calls t) (read-type-at t) read-type.Post
-read-type-enum-known-opened t c = search needs
-
-read-type-enum-known-opened-2 : (t : ℕ) → read-type-lts.Need-enum-known-opened-2 (read-type-calls t) (read-type-at t) read-type.Post
-read-type-enum-known-opened-2 t c = search needs
-
 read-type-read-leaf-requires : (t : ℕ) → read-type-lts.Need-read-leaf-requires (read-type-calls t) (read-type-at t) read-type.Post
 read-type-read-leaf-requires t c κs = search (leaf-free, leaf-long, leaf-kind)
-
-read-type-enum-known-opened-3 : (t : ℕ) → read-type-lts.Need-enum-known-opened-3 (read-type-calls t) (read-type-at t) read-type.Post
-read-type-enum-known-opened-3 t c = search needs
-
-read-type-wide32-requires : (t : ℕ) → read-type-lts.Need-wide32-requires (read-type-calls t) (read-type-at t) read-type.Post
-read-type-wide32-requires t c κs = search needs
-
-read-type-wide32-requires-2 : (t : ℕ) → read-type-lts.Need-wide32-requires-2 (read-type-calls t) (read-type-at t) read-type.Post
-read-type-wide32-requires-2 t c κs = search needs
-
-read-type-mul-count : (t : ℕ) → read-type-lts.Need-mul-count (read-type-calls t) (read-type-at t) read-type.Post
-read-type-mul-count t c = search needs
-
-read-type-add-count : (t : ℕ) → read-type-lts.Need-add-count (read-type-calls t) (read-type-at t) read-type.Post
-read-type-add-count t c = search needs
 
 read-type-add-read-members : (t : ℕ) → read-type-lts.Need-add-read-members (read-type-calls t) (read-type-at t) read-type.Post
 read-type-add-read-members t c = search (needs, compound-free)
 
-read-type-sub-read-members : (t : ℕ) → read-type-lts.Need-sub-read-members (read-type-calls t) (read-type-at t) read-type.Post
-read-type-sub-read-members t c = search needs
-
-read-type-cast-read-members : (t : ℕ) → read-type-lts.Need-cast-read-members (read-type-calls t) (read-type-at t) read-type.Post
-read-type-cast-read-members t c = search needs
-
 read-type-read-members-requires : (t : ℕ) → read-type-lts.Need-read-members-requires (read-type-calls t) (read-type-at t) read-type.Post
 read-type-read-members-requires t c κs = (search needs, ((search compound-ready, search compound-long), search needs))
 
-read-type-enum-known-got : (t : ℕ) → read-type-lts.Need-enum-known-got (read-type-calls t) (read-type-at t) read-type.Post
-read-type-enum-known-got t c = search needs
-
-read-type-enum-known-got-2 : (t : ℕ) → read-type-lts.Need-enum-known-got-2 (read-type-calls t) (read-type-at t) read-type.Post
-read-type-enum-known-got-2 t c = search needs
-
 read-type-end-compound-requires : (t : ℕ) → read-type-lts.Need-end-compound-requires (read-type-calls t) (read-type-at t) read-type.Post
 read-type-end-compound-requires t c κs = compound-filled ((c .before .before .before .before .before .before .before .before .read-members) .ensures) ((c .before .before .got2) .given .1) ((c .before .before .before .before .before .before .before .before .before .before .before .before .before .before .before .before .open-type) .ensures) ((c .before .before .before .before .before .before .before .before .before .before .before .before .before .before .opened3) .given .1) ((c .before .before .before .before .before .before .before .before .before .before .before .before .before .before .before .before .before .before .before .before .before) .pre .1)
-
-read-type-enum-known-opened-4 : (t : ℕ) → read-type-lts.Need-enum-known-opened-4 (read-type-calls t) (read-type-at t) read-type.Post
-read-type-enum-known-opened-4 t c = search needs
 
 read-type-sub-read-type : (t : ℕ) → read-type-lts.Need-sub-read-type (read-type-calls t) (read-type-at t) read-type.Post
 read-type-sub-read-type t c = search (needs, based-within)
@@ -191,23 +137,11 @@ read-type-sub-read-type t c = search (needs, based-within)
 read-type-part-read-type-start : (t : ℕ) → read-type-lts.Need-part-read-type-start (read-type-calls t) (read-type-at t) read-type.Post
 read-type-part-read-type-start t c = search (needs, based-within)
 
-read-type-part-read-type-end : (t : ℕ) → read-type-lts.Need-part-read-type-end (read-type-calls t) (read-type-at t) read-type.Post
-read-type-part-read-type-end t c = search needs
-
 read-type-add-read-type : (t : ℕ) → read-type-lts.Need-add-read-type (read-type-calls t) (read-type-at t) read-type.Post
 read-type-add-read-type t c = search (needs, based-free)
 
-read-type-sub-read-type-2 : (t : ℕ) → read-type-lts.Need-sub-read-type-2 (read-type-calls t) (read-type-at t) read-type.Post
-read-type-sub-read-type-2 t c = search needs
-
 read-type-read-type-requires : (t : ℕ) → read-type-lts.Need-read-type-requires (read-type-calls t) (read-type-at t) read-type.Post
 read-type-read-type-requires t c κs = (search needs, search based-ready)
-
-read-type-enum-known-got-3 : (t : ℕ) → read-type-lts.Need-enum-known-got-3 (read-type-calls t) (read-type-at t) read-type.Post
-read-type-enum-known-got-3 t c = search needs
-
-read-type-enum-known-got-4 : (t : ℕ) → read-type-lts.Need-enum-known-got-4 (read-type-calls t) (read-type-at t) read-type.Post
-read-type-enum-known-got-4 t c = search needs
 
 read-type-add-at : (t : ℕ) → read-type-lts.Need-add-at (read-type-calls t) (read-type-at t) read-type.Post
 read-type-add-at t c = omega (arith, based-near ((c .before .before .before .before .before .before .before .before .before .before .before .before .before .before .before .open-type) .ensures) ((c .before .before .before .before .before .before .before .before .before .before .before .before .before .opened4) .given .1) ((c .before .before .before .before .before .before .before .before .read-type) .ensures) ((c .before .before .got4) .given .1), (c .before .before .before .before .before .before .before .before .before .before .before .before .before .before .before .before .before .before .before .before) .good .0 .1)
@@ -218,47 +152,17 @@ read-type-end-based-requires t c κs = based-asks ((c .before .before .before .b
 read-type-returns-2 : (t : ℕ) → read-type-lts.Need-returns-2 (read-type-calls t) (read-type-at t) read-type.Post
 read-type-returns-2 t c = search type-shuts
 
-read-type-same-length : (t : ℕ) → read-type-lts.Need-same-length (read-type-calls t) (read-type-at t) read-type.Post
-read-type-same-length t c = search needs
-
-read-type-same-length-2 : (t : ℕ) → read-type-lts.Need-same-length-2 (read-type-calls t) (read-type-at t) read-type.Post
-read-type-same-length-2 t c = search needs
-
 read-type-returns-3 : (t : ℕ) → read-type-lts.Need-returns-3 (read-type-calls t) (read-type-at t) read-type.Post
 read-type-returns-3 t c = search type-leaf
-
-read-type-same-length-3 : (t : ℕ) → read-type-lts.Need-same-length-3 (read-type-calls t) (read-type-at t) read-type.Post
-read-type-same-length-3 t c = search needs
-
-read-type-same-length-4 : (t : ℕ) → read-type-lts.Need-same-length-4 (read-type-calls t) (read-type-at t) read-type.Post
-read-type-same-length-4 t c = search needs
 
 read-type-returns-4 : (t : ℕ) → read-type-lts.Need-returns-4 (read-type-calls t) (read-type-at t) read-type.Post
 read-type-returns-4 t c = search compound-refuses
 
-read-type-same-length-5 : (t : ℕ) → read-type-lts.Need-same-length-5 (read-type-calls t) (read-type-at t) read-type.Post
-read-type-same-length-5 t c = search needs
-
-read-type-same-length-6 : (t : ℕ) → read-type-lts.Need-same-length-6 (read-type-calls t) (read-type-at t) read-type.Post
-read-type-same-length-6 t c = search needs
-
 read-type-returns-5 : (t : ℕ) → read-type-lts.Need-returns-5 (read-type-calls t) (read-type-at t) read-type.Post
 read-type-returns-5 t c = search compound-ends
 
-read-type-same-length-7 : (t : ℕ) → read-type-lts.Need-same-length-7 (read-type-calls t) (read-type-at t) read-type.Post
-read-type-same-length-7 t c = search needs
-
-read-type-same-length-8 : (t : ℕ) → read-type-lts.Need-same-length-8 (read-type-calls t) (read-type-at t) read-type.Post
-read-type-same-length-8 t c = search needs
-
 read-type-returns-6 : (t : ℕ) → read-type-lts.Need-returns-6 (read-type-calls t) (read-type-at t) read-type.Post
 read-type-returns-6 t c = search based-refuses
-
-read-type-same-length-9 : (t : ℕ) → read-type-lts.Need-same-length-9 (read-type-calls t) (read-type-at t) read-type.Post
-read-type-same-length-9 t c = search needs
-
-read-type-same-length-10 : (t : ℕ) → read-type-lts.Need-same-length-10 (read-type-calls t) (read-type-at t) read-type.Post
-read-type-same-length-10 t c = search needs
 
 read-type-returns-7 : (t : ℕ) → read-type-lts.Need-returns-7 (read-type-calls t) (read-type-at t) read-type.Post
 read-type-returns-7 t c = search based-ends
@@ -276,86 +180,72 @@ pub +read-members+read-type-spec : {M : Type 1} → statement M
     read-members-μ-loop
     (read-members-loop-holds t)
     (read-members-enter-member-requires t)
-    (read-members-enum-known-entered t)
+    (λ c. search needs)  -- read-members-enum-known-entered
     (read-members-same-length t)
     (read-members-same-length-2 t)
     (read-members-returns t)
-    (read-members-enum-known-entered-2 t)
+    (λ c. search needs)  -- read-members-enum-known-entered-2
     (read-members-sub-read-type t)
     (read-members-part-read-type-start t)
     (read-members-part-read-type-end t)
     (read-members-read-type-requires t)
-    (read-members-enum-known-got t)
+    (λ c. search needs)  -- read-members-enum-known-got
     (read-members-same-length-3 t)
     (read-members-same-length-4 t)
     (read-members-returns-2 t)
-    (read-members-enum-known-got-2 t)
+    (λ c. search needs)  -- read-members-enum-known-got-2
     (read-members-add-at t)
     (read-members-add-i t)
-    (read-members-loop-less t)
+    (λ c. omega arith)  -- read-members-loop-less
     (read-members-loop-again t)
     (read-members-same-length-5 t)
     (read-members-same-length-6 t)
     (read-members-returns-3 t))
-    λ t. read-type-lts.spec (
-      open-type-reads.Asked,
-      open-type-reads.Learnt,
-      read-leaf-reads.Asked,
-      read-leaf-reads.Learnt,
-      wide32-reads.Asked,
-      wide32-reads.Learnt,
-      read-members-below t,
-      read-members.Post,
-      end-compound-reads.Asked,
-      end-compound-reads.Learnt,
-      read-type-below t,
-      read-type.Post,
-      end-based-reads.Asked,
-      end-based-reads.Learnt,
-    )
+    λ t. read-type-lts.spec
+    (read-type-calls t)
     (read-type-at t)
     read-type.Post
     (read-type-returns t)
-    (read-type-open-type-requires t)
-    (read-type-enum-known-opened t)
-    (read-type-enum-known-opened-2 t)
+    (λ c κs. search needs)  -- read-type-open-type-requires
+    (λ c. search needs)  -- read-type-enum-known-opened
+    (λ c. search needs)  -- read-type-enum-known-opened-2
     (read-type-read-leaf-requires t)
-    (read-type-enum-known-opened-3 t)
-    (read-type-wide32-requires t)
-    (read-type-wide32-requires-2 t)
-    (read-type-mul-count t)
-    (read-type-add-count t)
+    (λ c. search needs)  -- read-type-enum-known-opened-3
+    (λ c κs. search needs)  -- read-type-wide32-requires
+    (λ c κs. search needs)  -- read-type-wide32-requires-2
+    (λ c. search needs)  -- read-type-mul-count
+    (λ c. search needs)  -- read-type-add-count
     (read-type-add-read-members t)
-    (read-type-sub-read-members t)
-    (read-type-cast-read-members t)
+    (λ c. search needs)  -- read-type-sub-read-members
+    (λ c. search needs)  -- read-type-cast-read-members
     (read-type-read-members-requires t)
-    (read-type-enum-known-got t)
-    (read-type-enum-known-got-2 t)
+    (λ c. search needs)  -- read-type-enum-known-got
+    (λ c. search needs)  -- read-type-enum-known-got-2
     (read-type-end-compound-requires t)
-    (read-type-enum-known-opened-4 t)
+    (λ c. search needs)  -- read-type-enum-known-opened-4
     (read-type-sub-read-type t)
     (read-type-part-read-type-start t)
-    (read-type-part-read-type-end t)
+    (λ c. search needs)  -- read-type-part-read-type-end
     (read-type-add-read-type t)
-    (read-type-sub-read-type-2 t)
+    (λ c. search needs)  -- read-type-sub-read-type-2
     (read-type-read-type-requires t)
-    (read-type-enum-known-got-3 t)
-    (read-type-enum-known-got-4 t)
+    (λ c. search needs)  -- read-type-enum-known-got-3
+    (λ c. search needs)  -- read-type-enum-known-got-4
     (read-type-add-at t)
     (read-type-end-based-requires t)
     (read-type-returns-2 t)
-    (read-type-same-length t)
-    (read-type-same-length-2 t)
+    (λ c. search needs)  -- read-type-same-length
+    (λ c. search needs)  -- read-type-same-length-2
     (read-type-returns-3 t)
-    (read-type-same-length-3 t)
-    (read-type-same-length-4 t)
+    (λ c. search needs)  -- read-type-same-length-3
+    (λ c. search needs)  -- read-type-same-length-4
     (read-type-returns-4 t)
-    (read-type-same-length-5 t)
-    (read-type-same-length-6 t)
+    (λ c. search needs)  -- read-type-same-length-5
+    (λ c. search needs)  -- read-type-same-length-6
     (read-type-returns-5 t)
-    (read-type-same-length-7 t)
-    (read-type-same-length-8 t)
+    (λ c. search needs)  -- read-type-same-length-7
+    (λ c. search needs)  -- read-type-same-length-8
     (read-type-returns-6 t)
-    (read-type-same-length-9 t)
-    (read-type-same-length-10 t)
+    (λ c. search needs)  -- read-type-same-length-9
+    (λ c. search needs)  -- read-type-same-length-10
     (read-type-returns-7 t)

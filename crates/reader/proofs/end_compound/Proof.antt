@@ -11,15 +11,14 @@ use Rattle.primitives.proofs.put_row.Reads as put-row-reads
 returns : tie.Need-returns
 returns c = search compound-empty
 
-put-row-requires : tie.Need-put-row-requires
-put-row-requires c κs = search needs
-
-same-length : tie.Need-same-length
-same-length c = search needs
-
 returns-2 : tie.Need-returns-2
 unfolding row padded zeros
 returns-2 c = search compound-stored
 
 pub end-compound-spec : {M : Type 1} → statement M
-end-compound-spec = tie.close (tie.spec returns put-row-requires same-length returns-2)
+end-compound-spec = tie.close
+    (tie.spec
+    returns
+    (λ c κs. search needs)  -- put-row-requires
+    (λ c. search needs)  -- same-length
+    returns-2)

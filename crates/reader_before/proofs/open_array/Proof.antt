@@ -3,50 +3,14 @@ use borrow.Author.Needs.{needs}
 use Rattle.reader_before.proofs.open_array.Statement.{statement}
 use Rattle.reader_before.proofs.open_array.Tie as tie
 
-reserved-bytes-requires : tie.Need-reserved-bytes-requires
-reserved-bytes-requires c κs = search needs
-
-add-start : tie.Need-add-start
-add-start c = search needs
-
 returns : tie.Need-returns
 returns c = search array-no-rank
-
-shared-slice-read-wide : tie.Need-shared-slice-read-wide
-shared-slice-read-wide c = search needs
-
-wide-requires : tie.Need-wide-requires
-wide-requires c κs = search needs
-
-mul-from : tie.Need-mul-from
-mul-from c = search needs
-
-add-from : tie.Need-add-from
-add-from c = search needs
-
-permutation-bytes-requires : tie.Need-permutation-bytes-requires
-permutation-bytes-requires c κs = search needs
-
-add-from-2 : tie.Need-add-from-2
-add-from-2 c = search needs
 
 returns-2 : tie.Need-returns-2
 returns-2 c = search array-cut
 
-sub-if5 : tie.Need-sub-if5
-sub-if5 c = search needs
-
-mul-if5 : tie.Need-mul-if5
-mul-if5 c = search needs
-
 returns-3 : tie.Need-returns-3
 returns-3 c = search array-full
-
-mul-t12 : tie.Need-mul-t12
-mul-t12 c = search needs
-
-add-t18 : tie.Need-add-t18
-add-t18 c = search needs
 
 returns-4 : tie.Need-returns-4
 returns-4 c = search array-based
@@ -61,21 +25,21 @@ pub open-array-spec : {M : Type 1} → statement M
 open-array-spec =
     tie.close
     (tie.spec
-    reserved-bytes-requires
-    add-start
+    (λ c κs. search needs)  -- reserved-bytes-requires
+    (λ c. search needs)  -- add-start
     returns
-    shared-slice-read-wide
-    wide-requires
-    mul-from
-    add-from
-    permutation-bytes-requires
-    add-from-2
+    (λ c. search needs)  -- shared-slice-read-wide
+    (λ c κs. search needs)  -- wide-requires
+    (λ c. search needs)  -- mul-from
+    (λ c. search needs)  -- add-from
+    (λ c κs. search needs)  -- permutation-bytes-requires
+    (λ c. search needs)  -- add-from-2
     returns-2
-    sub-if5
-    mul-if5
+    (λ c. search needs)  -- sub-if5
+    (λ c. search needs)  -- mul-if5
     returns-3
-    mul-t12
-    add-t18
+    (λ c. search needs)  -- mul-t12
+    (λ c. search needs)  -- add-t18
     returns-4
     returns-5
     returns-6)

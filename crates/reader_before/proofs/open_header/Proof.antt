@@ -9,32 +9,8 @@ returns c = search heads-full
 returns-2 : tie.Need-returns-2
 returns-2 c = search heads-short
 
-shared-slice-read-high4 : tie.Need-shared-slice-read-high4
-shared-slice-read-high4 c = search needs
-
-high4-requires : tie.Need-high4-requires
-high4-requires c κs = search needs
-
-cast-if3 : tie.Need-cast-if3
-cast-if3 c = search needs
-
 returns-3 : tie.Need-returns-3
 returns-3 c = search heads-new
-
-shared-slice-read-low4 : tie.Need-shared-slice-read-low4
-shared-slice-read-low4 c = search needs
-
-low4-requires : tie.Need-low4-requires
-low4-requires c κs = search needs
-
-shared-slice-read-t17 : tie.Need-shared-slice-read-t17
-shared-slice-read-t17 c = search needs
-
-shared-slice-read-t19 : tie.Need-shared-slice-read-t19
-shared-slice-read-t19 c = search needs
-
-read-uint-requires : tie.Need-read-uint-requires
-read-uint-requires c κs = search needs
 
 returns-4 : tie.Need-returns-4
 returns-4 c = search heads-head
@@ -45,13 +21,13 @@ open-header-spec =
     (tie.spec
     returns
     returns-2
-    shared-slice-read-high4
-    high4-requires
-    cast-if3
+    (λ c. search needs)  -- shared-slice-read-high4
+    (λ c κs. search needs)  -- high4-requires
+    (λ c. search needs)  -- cast-if3
     returns-3
-    shared-slice-read-low4
-    low4-requires
-    shared-slice-read-t17
-    shared-slice-read-t19
-    read-uint-requires
+    (λ c. search needs)  -- shared-slice-read-low4
+    (λ c κs. search needs)  -- low4-requires
+    (λ c. search needs)  -- shared-slice-read-t17
+    (λ c. search needs)  -- shared-slice-read-t19
+    (λ c κs. search needs)  -- read-uint-requires
     returns-4)

@@ -3,15 +3,6 @@ use borrow.Author.Needs.{needs}
 use Rattle.reader_before.proofs.open_type.Statement.{statement}
 use Rattle.reader_before.proofs.open_type.Tie as tie
 
-open-header-requires : tie.Need-open-header-requires
-open-header-requires c κs = search needs
-
-enum-known-headed : tie.Need-enum-known-headed
-enum-known-headed c = search needs
-
-enum-known-headed-2 : tie.Need-enum-known-headed-2
-enum-known-headed-2 c = search needs
-
 open-variable-requires : tie.Need-open-variable-requires
 open-variable-requires c κs = asks-variable (c .before .before .before .before .open-header .ensures) (c .before .before .headed2 .given .1) (search needs) (search needs)
 
@@ -36,12 +27,6 @@ returns-5 c = search opens-reference
 returns-6 : tie.Need-returns-6
 returns-6 c = search opens-enumeration
 
-returns-7 : tie.Need-returns-7
-returns-7 c = search needs
-
-returns-8 : tie.Need-returns-8
-returns-8 c = search needs
-
 returns-9 : tie.Need-returns-9
 returns-9 c = search opens-packed
 
@@ -55,9 +40,9 @@ pub open-type-spec : {M : Type 1} → statement M
 open-type-spec =
     tie.close
     (tie.spec
-    open-header-requires
-    enum-known-headed
-    enum-known-headed-2
+    (λ c κs. search needs)  -- open-header-requires
+    (λ c. search needs)  -- enum-known-headed
+    (λ c. search needs)  -- enum-known-headed-2
     open-variable-requires
     open-array-requires
     returns
@@ -66,8 +51,8 @@ open-type-spec =
     returns-4
     returns-5
     returns-6
-    returns-7
-    returns-8
+    (λ c. search needs)  -- returns-7
+    (λ c. search needs)  -- returns-8
     returns-9
     returns-10
     returns-11)

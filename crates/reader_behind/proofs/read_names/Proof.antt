@@ -15,38 +15,11 @@ abbrev μ-loop : tie.MeasureT-loop
 loop-holds : tie.Need-loop-holds Inv-loop μ-loop
 loop-holds c = search names-begun
 
-enter-enum-member-requires : tie.Need-enter-enum-member-requires Inv-loop μ-loop
-enter-enum-member-requires c κs = search needs
-
-enum-known-step : tie.Need-enum-known-step Inv-loop μ-loop
-enum-known-step c = search needs
-
-same-length : tie.Need-same-length Inv-loop μ-loop
-same-length c = search needs
-
-same-length-2 : tie.Need-same-length-2 Inv-loop μ-loop
-same-length-2 c = search needs
-
 returns : tie.Need-returns Inv-loop μ-loop
 returns c = search names-stopped
 
-enum-known-step-2 : tie.Need-enum-known-step-2 Inv-loop μ-loop
-enum-known-step-2 c = search needs
-
-add-i : tie.Need-add-i Inv-loop μ-loop
-add-i c = search needs
-
-loop-less : tie.Need-loop-less Inv-loop μ-loop
-loop-less c = search needs
-
 loop-again : tie.Need-loop-again Inv-loop μ-loop
 loop-again c = search names-turned
-
-same-length-3 : tie.Need-same-length-3 Inv-loop μ-loop
-same-length-3 c = search needs
-
-same-length-4 : tie.Need-same-length-4 Inv-loop μ-loop
-same-length-4 c = search needs
 
 returns-2 : tie.Need-returns-2 Inv-loop μ-loop
 returns-2 c = search names-ended
@@ -58,15 +31,15 @@ read-names-spec =
     Inv-loop
     μ-loop
     loop-holds
-    enter-enum-member-requires
-    enum-known-step
-    same-length
-    same-length-2
+    (λ c κs. search needs)  -- enter-enum-member-requires
+    (λ c. search needs)  -- enum-known-step
+    (λ c. search needs)  -- same-length
+    (λ c. search needs)  -- same-length-2
     returns
-    enum-known-step-2
-    add-i
-    loop-less
+    (λ c. search needs)  -- enum-known-step-2
+    (λ c. search needs)  -- add-i
+    (λ c. search needs)  -- loop-less
     loop-again
-    same-length-3
-    same-length-4
+    (λ c. search needs)  -- same-length-3
+    (λ c. search needs)  -- same-length-4
     returns-2)

@@ -17,20 +17,11 @@ abbrev μ-loop : tie.MeasureT-loop
 loop-holds : tie.Need-loop-holds Inv-loop μ-loop
 loop-holds c = ((omega arith, omega arith), ((omega arith, omega arith), (refl, onward-start _ _ _ _ _ _ _ _)))
 
-add-if1 : tie.Need-add-if1 Inv-loop μ-loop
-add-if1 c = omega arith
-
-add-t13 : tie.Need-add-t13 Inv-loop μ-loop
-add-t13 c = omega arith
-
 same-length : tie.Need-same-length Inv-loop μ-loop
 same-length c = c .before .before .loop .inv .1 .1 .0
 
 returns : tie.Need-returns Inv-loop μ-loop
 returns c = onward-short _ _ _ _ _ _ _ _ _ _ _ _ (c .before .before .loop .inv .1 .1 .1) (omega arith) (omega arith) (omega arith)
-
-sub-if2 : tie.Need-sub-if2 Inv-loop μ-loop
-sub-if2 c = omega arith
 
 same-length-2 : tie.Need-same-length-2 Inv-loop μ-loop
 same-length-2 c = c .before .before .before .before .loop .inv .1 .1 .0
@@ -40,18 +31,6 @@ returns-2 c = onward-full _ _ _ _ _ _ _ _ _ _ _ _ (c .before .before .before .be
 
 copy-bytes-requires : tie.Need-copy-bytes-requires Inv-loop μ-loop
 copy-bytes-requires c κs = (omega arith, omega arith)
-
-add-at : tie.Need-add-at Inv-loop μ-loop
-add-at c = omega arith
-
-add-pooled : tie.Need-add-pooled Inv-loop μ-loop
-add-pooled c = omega arith
-
-add-i : tie.Need-add-i Inv-loop μ-loop
-add-i c = omega arith
-
-loop-less : tie.Need-loop-less Inv-loop μ-loop
-loop-less c = omega arith
 
 loop-again : tie.Need-loop-again Inv-loop μ-loop
 loop-again c =
@@ -72,18 +51,18 @@ read-values-spec =
     Inv-loop
     μ-loop
     loop-holds
-    add-if1
-    add-t13
+    (λ c. omega arith)  -- add-if1
+    (λ c. omega arith)  -- add-t13
     same-length
     returns
-    sub-if2
+    (λ c. omega arith)  -- sub-if2
     same-length-2
     returns-2
     copy-bytes-requires
-    add-at
-    add-pooled
-    add-i
-    loop-less
+    (λ c. omega arith)  -- add-at
+    (λ c. omega arith)  -- add-pooled
+    (λ c. omega arith)  -- add-i
+    (λ c. omega arith)  -- loop-less
     loop-again
     same-length-3
     returns-3)

@@ -21,26 +21,11 @@ abbrev μ-loop : tie.MeasureT-loop
 loop-holds : tie.Need-loop-holds Inv-loop μ-loop
 loop-holds c = ((omega arith, omega arith), (c .before .pre, scale-start _ _ _ _ _ _ _ refl refl))
 
-mul-read-uint : tie.Need-mul-read-uint Inv-loop μ-loop
-mul-read-uint c = omega arith
-
-add-read-uint : tie.Need-add-read-uint Inv-loop μ-loop
-add-read-uint c = omega arith
-
 read-uint-requires : tie.Need-read-uint-requires Inv-loop μ-loop
 read-uint-requires c κs = (omega arith, omega arith)
 
-cast-next : tie.Need-cast-next Inv-loop μ-loop
-cast-next c = search needs
-
 mul-next : tie.Need-mul-next Inv-loop μ-loop
 mul-next c = omega (arith, cap-room (c .before .before .loop .scaled) (c .read-uint .result) (omega arith) (omega arith))
-
-add-i : tie.Need-add-i Inv-loop μ-loop
-add-i c = omega arith
-
-loop-less : tie.Need-loop-less Inv-loop μ-loop
-loop-less c = omega arith
 
 loop-again : tie.Need-loop-again Inv-loop μ-loop
 loop-again c =
@@ -50,9 +35,6 @@ loop-again c =
       (omega arith, ⊎-elim (λ w. omega arith) (λ w. omega arith) (c .if1 .came)),
       (l .inv .1 .0, scale-next _ _ _ _ (l .i) (l .scaled) (c .if1 .scaled) x _ (omega arith) (c .before .read-uint .ensures) (l .inv .1 .1) e),
     )
-
-cast-result : tie.Need-cast-result Inv-loop μ-loop
-cast-result c = omega arith
 
 returns : tie.Need-returns Inv-loop μ-loop
 returns c = let l = c .before .loop in scale-end _ _ _ _ (l .i) (l .scaled) _ (omega arith) (l .inv .0 .1) (l .inv .1 .1)
@@ -64,13 +46,13 @@ scaled-size-spec =
     Inv-loop
     μ-loop
     loop-holds
-    mul-read-uint
-    add-read-uint
+    (λ c. omega arith)  -- mul-read-uint
+    (λ c. omega arith)  -- add-read-uint
     read-uint-requires
-    cast-next
+    (λ c. search needs)  -- cast-next
     mul-next
-    add-i
-    loop-less
+    (λ c. omega arith)  -- add-i
+    (λ c. omega arith)  -- loop-less
     loop-again
-    cast-result
+    (λ c. omega arith)  -- cast-result
     returns)

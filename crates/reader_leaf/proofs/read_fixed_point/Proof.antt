@@ -9,27 +9,6 @@ returns c = search (block-cut fixed-points)
 returns-2 : tie.Need-returns-2
 returns-2 c = search (block-zero fixed-points)
 
-bit0-requires : tie.Need-bit0-requires
-bit0-requires c κs = search needs
-
-bit3-requires : tie.Need-bit3-requires
-bit3-requires c κs = search needs
-
-read-uint-requires : tie.Need-read-uint-requires
-read-uint-requires c κs = search needs
-
-read-uint-requires-2 : tie.Need-read-uint-requires-2
-read-uint-requires-2 c κs = search needs
-
-put-row-requires : tie.Need-put-row-requires
-put-row-requires c κs = search needs
-
-add-t12 : tie.Need-add-t12
-add-t12 c = search needs
-
-same-length : tie.Need-same-length
-same-length c = search needs
-
 returns-3 : tie.Need-returns-3
 returns-3 c = search fixed-point-lands
 
@@ -39,11 +18,11 @@ read-fixed-point-spec =
     (tie.spec
     returns
     returns-2
-    bit0-requires
-    bit3-requires
-    read-uint-requires
-    read-uint-requires-2
-    put-row-requires
-    add-t12
-    same-length
+    (λ c κs. search needs)  -- bit0-requires
+    (λ c κs. search needs)  -- bit3-requires
+    (λ c κs. search needs)  -- read-uint-requires
+    (λ c κs. search needs)  -- read-uint-requires-2
+    (λ c κs. search needs)  -- put-row-requires
+    (λ c. search needs)  -- add-t12
+    (λ c. search needs)  -- same-length
     returns-3)

@@ -9,21 +9,6 @@ returns c = search (block-cut times)
 returns-2 : tie.Need-returns-2
 returns-2 c = search (block-zero times)
 
-bit0-requires : tie.Need-bit0-requires
-bit0-requires c κs = search needs
-
-read-uint-requires : tie.Need-read-uint-requires
-read-uint-requires c κs = search needs
-
-put-row-requires : tie.Need-put-row-requires
-put-row-requires c κs = search needs
-
-add-t10 : tie.Need-add-t10
-add-t10 c = search needs
-
-same-length : tie.Need-same-length
-same-length c = search needs
-
 returns-3 : tie.Need-returns-3
 returns-3 c = search time-lands
 
@@ -33,9 +18,9 @@ read-time-spec =
     (tie.spec
     returns
     returns-2
-    bit0-requires
-    read-uint-requires
-    put-row-requires
-    add-t10
-    same-length
+    (λ c κs. search needs)  -- bit0-requires
+    (λ c κs. search needs)  -- read-uint-requires
+    (λ c κs. search needs)  -- put-row-requires
+    (λ c. search needs)  -- add-t10
+    (λ c. search needs)  -- same-length
     returns-3)

@@ -21,22 +21,10 @@ returns c =
     let l = c .before .before .loop in
     outside-here _ _ (l .i) (omega arith) (omega arith) ∙ sym (l .inv .1)
 
-mul-if2 : tie.Need-mul-if2 Inv-loop μ-loop
-mul-if2 c = omega arith
-
-shared-slice-read-if2 : tie.Need-shared-slice-read-if2 Inv-loop μ-loop
-shared-slice-read-if2 c = omega arith
-
 returns-2 : tie.Need-returns-2 Inv-loop μ-loop
 returns-2 c =
     let l = c .before .before .before .before .loop in
     outside-here _ _ (l .i) (omega arith) (omega arith) ∙ sym (l .inv .1)
-
-add-i : tie.Need-add-i Inv-loop μ-loop
-add-i c = omega arith
-
-loop-less : tie.Need-loop-less Inv-loop μ-loop
-loop-less c = omega arith
 
 loop-again : tie.Need-loop-again Inv-loop μ-loop
 loop-again c =
@@ -56,10 +44,10 @@ some-outside-spec =
     μ-loop
     loop-holds
     returns
-    mul-if2
-    shared-slice-read-if2
+    (λ c. omega arith)  -- mul-if2
+    (λ c. omega arith)  -- shared-slice-read-if2
     returns-2
-    add-i
-    loop-less
+    (λ c. omega arith)  -- add-i
+    (λ c. omega arith)  -- loop-less
     loop-again
     returns-3)

@@ -17,12 +17,6 @@ abbrev μ-loop : tie.MeasureT-loop
 loop-holds : tie.Need-loop-holds Inv-loop μ-loop
 loop-holds c = ((omega arith, (refl, refl)), (refl, refl))
 
-mul-slot : tie.Need-mul-slot Inv-loop μ-loop
-mul-slot c = omega arith
-
-shared-slice-read-slot : tie.Need-shared-slice-read-slot Inv-loop μ-loop
-shared-slice-read-slot c = omega arith
-
 add-place : tie.Need-add-place Inv-loop μ-loop
 add-place c =
     let l = c .before .before .loop in
@@ -32,30 +26,6 @@ read-u64-requires : tie.Need-read-u64-requires Inv-loop μ-loop
 read-u64-requires c κs =
     let l = c .before .before .loop in
     c .before .before .before .before .before .before .before .pre .0 (l .i) (omega arith)
-
-add-places : tie.Need-add-places Inv-loop μ-loop
-add-places c = omega arith
-
-mul-places : tie.Need-mul-places Inv-loop μ-loop
-mul-places c = omega arith
-
-slice-write-places : tie.Need-slice-write-places Inv-loop μ-loop
-slice-write-places c = omega arith
-
-add-values : tie.Need-add-values Inv-loop μ-loop
-add-values c = omega arith
-
-mul-values : tie.Need-mul-values Inv-loop μ-loop
-mul-values c = omega arith
-
-slice-write-values : tie.Need-slice-write-values Inv-loop μ-loop
-slice-write-values c = omega arith
-
-add-i : tie.Need-add-i Inv-loop μ-loop
-add-i c = omega arith
-
-loop-less : tie.Need-loop-less Inv-loop μ-loop
-loop-less c = omega arith
 
 loop-again : tie.Need-loop-again Inv-loop μ-loop
 loop-again c =
@@ -85,18 +55,18 @@ store-record-spec =
     Inv-loop
     μ-loop
     loop-holds
-    mul-slot
-    shared-slice-read-slot
+    (λ c. omega arith)  -- mul-slot
+    (λ c. omega arith)  -- shared-slice-read-slot
     add-place
     read-u64-requires
-    add-places
-    mul-places
-    slice-write-places
-    add-values
-    mul-values
-    slice-write-values
-    add-i
-    loop-less
+    (λ c. omega arith)  -- add-places
+    (λ c. omega arith)  -- mul-places
+    (λ c. omega arith)  -- slice-write-places
+    (λ c. omega arith)  -- add-values
+    (λ c. omega arith)  -- mul-values
+    (λ c. omega arith)  -- slice-write-values
+    (λ c. omega arith)  -- add-i
+    (λ c. omega arith)  -- loop-less
     loop-again
     same-length
     same-length-2

@@ -8,23 +8,8 @@ use borrow.Author.Needs.{needs}
 use Rattle.references.proofs.stored_object_references.Statement.{statement}
 use Rattle.references.proofs.stored_object_references.Tie as tie
 
-at-least-one-requires : tie.Need-at-least-one-requires
-at-least-one-requires c κs = search needs
-
-some-outside-requires : tie.Need-some-outside-requires
-some-outside-requires c κs = search needs
-
 returns : tie.Need-returns
 returns c = search is-outside
-
-div-records : tie.Need-div-records
-div-records c = search needs
-
-times-requires : tie.Need-times-requires
-times-requires c κs = search needs
-
-shorter-requires : tie.Need-shorter-requires
-shorter-requires c κs = search needs
 
 returns-2 : tie.Need-returns-2
 returns-2 c = search (is-no-room, arith)
@@ -38,12 +23,6 @@ store-records-requires c κs =
     let m = c .before .before .before .shorter in
     let f : o .result ≡ false = c .before .before .before .before .before .if1 .left in
     may-store (a .block .now) (a .slots .now) (a .places .now) (a .values .now) (a .record-size) (z .result) (o .result) (z .ensures .0) (o .ensures) f (length (a .block .now) / z .result) (t .result) (m .result) refl (t .ensures) (m .ensures) (omega arith) (omega arith)
-
-same-length : tie.Need-same-length
-same-length c = search needs
-
-same-length-2 : tie.Need-same-length-2
-same-length-2 c = search needs
 
 returns-3 : tie.Need-returns-3
 returns-3 c =
@@ -59,14 +38,14 @@ pub stored-object-references-spec : {M : Type 1} → statement M
 stored-object-references-spec =
     tie.close
     (tie.spec
-    at-least-one-requires
-    some-outside-requires
+    (λ c κs. search needs)  -- at-least-one-requires
+    (λ c κs. search needs)  -- some-outside-requires
     returns
-    div-records
-    times-requires
-    shorter-requires
+    (λ c. search needs)  -- div-records
+    (λ c κs. search needs)  -- times-requires
+    (λ c κs. search needs)  -- shorter-requires
     returns-2
     store-records-requires
-    same-length
-    same-length-2
+    (λ c. search needs)  -- same-length
+    (λ c. search needs)  -- same-length-2
     returns-3)

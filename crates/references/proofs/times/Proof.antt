@@ -8,9 +8,6 @@ use Rattle.references.proofs.times.Tie as tie
 returns : tie.Need-returns
 returns c = search times-none
 
-div-if2 : tie.Need-div-if2
-div-if2 c = search needs
-
 returns-2 : tie.Need-returns-2
 returns-2 c = search (times-past, arith)
 
@@ -24,4 +21,10 @@ returns-3 : tie.Need-returns-3
 returns-3 c = search (times-whole, arith)
 
 pub times-spec : {M : Type 1} → statement M
-times-spec = tie.close (tie.spec returns div-if2 returns-2 mul-result returns-3)
+times-spec = tie.close
+    (tie.spec
+    returns
+    (λ c. search needs)  -- div-if2
+    returns-2
+    mul-result
+    returns-3)

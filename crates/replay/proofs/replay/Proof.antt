@@ -9,11 +9,9 @@ use Rattle.replay.proofs.replay.Tie as tie
 slice-aggregate-named : tie.Need-slice-aggregate-named
 slice-aggregate-named c = sym (length-replicate {0} {A = ℕ} 1048576 0)
 
-named-requires : tie.Need-named-requires
-named-requires c κs = search needs
-
-returns : tie.Need-returns
-returns c = search needs
-
 pub replay-spec : {M : Type 1} → statement M
-replay-spec = tie.close (tie.spec slice-aggregate-named named-requires returns)
+replay-spec = tie.close
+    (tie.spec
+    slice-aggregate-named
+    (λ c κs. search needs)  -- named-requires
+    (λ c. search needs))  -- returns

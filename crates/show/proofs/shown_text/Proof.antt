@@ -8,14 +8,10 @@ use Rattle.show.proofs.shown_text.Tie as tie
 slice-aggregate-text : tie.Need-slice-aggregate-text
 slice-aggregate-text c = sym (length-take-le _ _ (omega arith))
 
-text-requires : tie.Need-text-requires
-text-requires c κs = search needs
-
-returns : tie.Need-returns
-returns c = search needs
-
-returns-2 : tie.Need-returns-2
-returns-2 c = search needs
-
 pub shown-text-spec : {M : Type 1} → statement M
-shown-text-spec = tie.close (tie.spec slice-aggregate-text text-requires returns returns-2)
+shown-text-spec = tie.close
+    (tie.spec
+    slice-aggregate-text
+    (λ c κs. search needs)  -- text-requires
+    (λ c. search needs)  -- returns
+    (λ c. search needs))  -- returns-2

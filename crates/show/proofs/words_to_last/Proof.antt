@@ -13,29 +13,8 @@ Inv-loop words last₀ i₀ last i = (i ≤ length words) × (last ≤ i)
 abbrev μ-loop : tie.MeasureT-loop
 μ-loop words last₀ i₀ last i = length words - i
 
-loop-holds : tie.Need-loop-holds Inv-loop μ-loop
-loop-holds c = search needs
-
-mul-if1 : tie.Need-mul-if1 Inv-loop μ-loop
-mul-if1 c = search needs
-
-shared-slice-read-if1 : tie.Need-shared-slice-read-if1 Inv-loop μ-loop
-shared-slice-read-if1 c = search needs
-
-add-last : tie.Need-add-last Inv-loop μ-loop
-add-last c = search needs
-
-add-i : tie.Need-add-i Inv-loop μ-loop
-add-i c = search needs
-
-loop-less : tie.Need-loop-less Inv-loop μ-loop
-loop-less c = search needs
-
 loop-again : tie.Need-loop-again Inv-loop μ-loop
 loop-again c = ⊎-elim (λ w. (omega arith, omega arith)) (λ w. (omega arith, omega arith)) (c .if1 .came)
-
-returns : tie.Need-returns Inv-loop μ-loop
-returns c = search needs
 
 pub words-to-last-spec : {M : Type 1} → statement M
 words-to-last-spec =
@@ -43,11 +22,11 @@ words-to-last-spec =
     (tie.spec
     Inv-loop
     μ-loop
-    loop-holds
-    mul-if1
-    shared-slice-read-if1
-    add-last
-    add-i
-    loop-less
+    (λ c. search needs)  -- loop-holds
+    (λ c. search needs)  -- mul-if1
+    (λ c. search needs)  -- shared-slice-read-if1
+    (λ c. search needs)  -- add-last
+    (λ c. search needs)  -- add-i
+    (λ c. search needs)  -- loop-less
     loop-again
-    returns)
+    (λ c. search needs))  -- returns

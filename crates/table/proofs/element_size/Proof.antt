@@ -4,15 +4,6 @@ use Rattle.table.proofs.Answers.{element-bad, element-good, element-zer
 use Rattle.table.proofs.element_size.Statement.{statement}
 use Rattle.table.proofs.element_size.Tie as tie
 
-check-requires : tie.Need-check-requires
-check-requires c κs = search needs
-
-enum-told : tie.Need-enum-told
-enum-told c = search needs
-
-enum-known-checked : tie.Need-enum-known-checked
-enum-known-checked c = search needs
-
 shared-slice-read-class-of : tie.Need-shared-slice-read-class-of
 shared-slice-read-class-of c =
     omega (arith, outermost _ _ (c .before .before .before .before .before .before .check .ensures) (c .before .before .before .before .checked .given .1) (λ i. omega (arith, c .before .before .before .before .before .before .before .shared-slice-known2 .given i)))
@@ -36,9 +27,9 @@ pub element-size-spec : {M : Type 1} → statement M
 element-size-spec =
     tie.close
     (tie.spec
-    check-requires
-    enum-told
-    enum-known-checked
+    (λ c κs. search needs)  -- check-requires
+    (λ c. search needs)  -- enum-told
+    (λ c. search needs)  -- enum-known-checked
     shared-slice-read-class-of
     class-of-requires
     returns

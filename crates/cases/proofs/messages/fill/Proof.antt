@@ -19,65 +19,8 @@ Inv-loop2 message₀ count inner i start j₀ message j = (j ≤ length inner) �
 abbrev μ-loop2 : tie.MeasureT-loop2
 μ-loop2 message₀ count inner i start j₀ message j = length inner - j
 
-loop-holds : tie.Need-loop-holds Inv-loop μ-loop Inv-loop2 μ-loop2
-loop-holds c = search needs
-
-mul-message : tie.Need-mul-message Inv-loop μ-loop Inv-loop2 μ-loop2
-mul-message c = search needs
-
-slice-write-message : tie.Need-slice-write-message Inv-loop μ-loop Inv-loop2 μ-loop2
-slice-write-message c = search needs
-
-mul-message-2 : tie.Need-mul-message-2 Inv-loop μ-loop Inv-loop2 μ-loop2
-mul-message-2 c = search needs
-
-add-message : tie.Need-add-message Inv-loop μ-loop Inv-loop2 μ-loop2
-add-message c = search needs
-
 slice-write-message-2 : tie.Need-slice-write-message-2 Inv-loop μ-loop Inv-loop2 μ-loop2
 slice-write-message-2 c = rw length-set (omega arith)
-
-add-i : tie.Need-add-i Inv-loop μ-loop Inv-loop2 μ-loop2
-add-i c = search needs
-
-loop-less : tie.Need-loop-less Inv-loop μ-loop Inv-loop2 μ-loop2
-loop-less c = search needs
-
-loop-again : tie.Need-loop-again Inv-loop μ-loop Inv-loop2 μ-loop2
-loop-again c = search needs
-
-mul-start : tie.Need-mul-start Inv-loop μ-loop Inv-loop2 μ-loop2
-mul-start c = search needs
-
-loop2-holds : tie.Need-loop2-holds Inv-loop μ-loop Inv-loop2 μ-loop2
-loop2-holds c = search needs
-
-shared-slice-read-message : tie.Need-shared-slice-read-message Inv-loop μ-loop Inv-loop2 μ-loop2
-shared-slice-read-message c = search needs
-
-add-message-2 : tie.Need-add-message-2 Inv-loop μ-loop Inv-loop2 μ-loop2
-add-message-2 c = search needs
-
-slice-write-message-3 : tie.Need-slice-write-message-3 Inv-loop μ-loop Inv-loop2 μ-loop2
-slice-write-message-3 c = search needs
-
-add-j : tie.Need-add-j Inv-loop μ-loop Inv-loop2 μ-loop2
-add-j c = search needs
-
-loop2-less : tie.Need-loop2-less Inv-loop μ-loop Inv-loop2 μ-loop2
-loop2-less c = search needs
-
-loop2-again : tie.Need-loop2-again Inv-loop μ-loop Inv-loop2 μ-loop2
-loop2-again c = search needs
-
-add-result : tie.Need-add-result Inv-loop μ-loop Inv-loop2 μ-loop2
-add-result c = search needs
-
-same-length : tie.Need-same-length Inv-loop μ-loop Inv-loop2 μ-loop2
-same-length c = search needs
-
-returns : tie.Need-returns Inv-loop μ-loop Inv-loop2 μ-loop2
-returns c = search needs
 
 pub fill-spec : {M : Type 1} → statement M
 fill-spec =
@@ -87,23 +30,23 @@ fill-spec =
     μ-loop
     Inv-loop2
     μ-loop2
-    loop-holds
-    mul-message
-    slice-write-message
-    mul-message-2
-    add-message
+    (λ c. search needs)  -- loop-holds
+    (λ c. search needs)  -- mul-message
+    (λ c. search needs)  -- slice-write-message
+    (λ c. search needs)  -- mul-message-2
+    (λ c. search needs)  -- add-message
     slice-write-message-2
-    add-i
-    loop-less
-    loop-again
-    mul-start
-    loop2-holds
-    shared-slice-read-message
-    add-message-2
-    slice-write-message-3
-    add-j
-    loop2-less
-    loop2-again
-    add-result
-    same-length
-    returns)
+    (λ c. search needs)  -- add-i
+    (λ c. search needs)  -- loop-less
+    (λ c. search needs)  -- loop-again
+    (λ c. search needs)  -- mul-start
+    (λ c. search needs)  -- loop2-holds
+    (λ c. search needs)  -- shared-slice-read-message
+    (λ c. search needs)  -- add-message-2
+    (λ c. search needs)  -- slice-write-message-3
+    (λ c. search needs)  -- add-j
+    (λ c. search needs)  -- loop2-less
+    (λ c. search needs)  -- loop2-again
+    (λ c. search needs)  -- add-result
+    (λ c. search needs)  -- same-length
+    (λ c. search needs))  -- returns

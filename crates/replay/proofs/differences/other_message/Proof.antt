@@ -11,45 +11,18 @@ Inv-loop out count bytes i₀ i = i ≤ length bytes
 abbrev μ-loop : tie.MeasureT-loop
 μ-loop out count bytes i₀ i = length bytes - i
 
-returns : tie.Need-returns Inv-loop μ-loop
-returns c = search needs
-
-loop-holds : tie.Need-loop-holds Inv-loop μ-loop
-loop-holds c = search needs
-
-byte-at-requires : tie.Need-byte-at-requires Inv-loop μ-loop
-byte-at-requires c κs = search needs
-
-byte-at-requires-2 : tie.Need-byte-at-requires-2 Inv-loop μ-loop
-byte-at-requires-2 c κs = search needs
-
-returns-2 : tie.Need-returns-2 Inv-loop μ-loop
-returns-2 c = search needs
-
-add-i : tie.Need-add-i Inv-loop μ-loop
-add-i c = search needs
-
-loop-less : tie.Need-loop-less Inv-loop μ-loop
-loop-less c = search needs
-
-loop-again : tie.Need-loop-again Inv-loop μ-loop
-loop-again c = search needs
-
-returns-3 : tie.Need-returns-3 Inv-loop μ-loop
-returns-3 c = search needs
-
 pub other-message-spec : {M : Type 1} → statement M
 other-message-spec =
     tie.close
     (tie.spec
     Inv-loop
     μ-loop
-    returns
-    loop-holds
-    byte-at-requires
-    byte-at-requires-2
-    returns-2
-    add-i
-    loop-less
-    loop-again
-    returns-3)
+    (λ c. search needs)  -- returns
+    (λ c. search needs)  -- loop-holds
+    (λ c κs. search needs)  -- byte-at-requires
+    (λ c κs. search needs)  -- byte-at-requires-2
+    (λ c. search needs)  -- returns-2
+    (λ c. search needs)  -- add-i
+    (λ c. search needs)  -- loop-less
+    (λ c. search needs)  -- loop-again
+    (λ c. search needs))  -- returns-3

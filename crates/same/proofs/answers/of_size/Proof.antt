@@ -3,9 +3,6 @@ use borrow.Author.Needs.{needs}
 use Rattle.same.proofs.answers.of_size.Statement.{statement}
 use Rattle.same.proofs.answers.of_size.Tie as tie
 
-record-count-requires : tie.Need-record-count-requires
-record-count-requires c κs = search needs
-
 returns : tie.Need-returns
 returns c =
     let k = c .before .record-count in
@@ -15,18 +12,6 @@ returns-2 : tie.Need-returns-2
 returns-2 c =
     let k = c .before .before .record-count in
     past-second _ _ _ _ _ _ (k .result) (k .ensures) (c .before .if1 .left) (c .if2 .taken)
-
-compare-records-requires : tie.Need-compare-records-requires
-compare-records-requires c κs = search needs
-
-enum-told : tie.Need-enum-told
-enum-told c = search needs
-
-enum-told-2 : tie.Need-enum-told-2
-enum-told-2 c = search needs
-
-enum-known-compared : tie.Need-enum-known-compared
-enum-known-compared c = search needs
 
 returns-3 : tie.Need-returns-3
 returns-3 c = search are-same
@@ -41,13 +26,13 @@ pub of-size-spec : {M : Type 1} → statement M
 of-size-spec =
     tie.close
     (tie.spec
-    record-count-requires
+    (λ c κs. search needs)  -- record-count-requires
     returns
     returns-2
-    compare-records-requires
-    enum-told
-    enum-told-2
-    enum-known-compared
+    (λ c κs. search needs)  -- compare-records-requires
+    (λ c. search needs)  -- enum-told
+    (λ c. search needs)  -- enum-told-2
+    (λ c. search needs)  -- enum-known-compared
     returns-3
     returns-4
     returns-5)

@@ -20,12 +20,6 @@ returns c = no-digits _ (c .if1 .taken)
 loop-holds : tie.Need-loop-holds Inv-loop μ-loop
 loop-holds c = (omega arith, some-digits _ (c .if1 .left))
 
-shared-slice-read-wide : tie.Need-shared-slice-read-wide Inv-loop μ-loop
-shared-slice-read-wide c = omega arith
-
-wide-requires : tie.Need-wide-requires Inv-loop μ-loop
-wide-requires c κs = search needs
-
 returns-2 : tie.Need-returns-2 Inv-loop μ-loop
 returns-2 c =
     let l = c .before .before .before .before .loop in
@@ -36,25 +30,10 @@ returns-3 c =
     let l = c .before .before .before .before .before .loop in
     above-digits _ (l .value) (l .i) (c .before .before .wide .result) (omega arith) (c .before .before .wide .ensures) (omega arith) (omega arith) ∙ sym (l .inv .1)
 
-sub-if4 : tie.Need-sub-if4 Inv-loop μ-loop
-sub-if4 c = omega arith
-
 returns-4 : tie.Need-returns-4 Inv-loop μ-loop
 returns-4 c =
     let l = c .before .before .before .before .before .before .loop in
     too-large _ (l .value) (l .i) (c .before .before .before .wide .result) (omega arith) (c .before .before .before .wide .ensures) (omega arith) (omega arith) (omega arith) ∙ sym (l .inv .1)
-
-mul-value : tie.Need-mul-value Inv-loop μ-loop
-mul-value c = omega arith
-
-add-value : tie.Need-add-value Inv-loop μ-loop
-add-value c = omega arith
-
-add-i : tie.Need-add-i Inv-loop μ-loop
-add-i c = omega arith
-
-loop-less : tie.Need-loop-less Inv-loop μ-loop
-loop-less c = omega arith
 
 loop-again : tie.Need-loop-again Inv-loop μ-loop
 loop-again c =
@@ -74,15 +53,15 @@ decimal-spec =
     μ-loop
     returns
     loop-holds
-    shared-slice-read-wide
-    wide-requires
+    (λ c. omega arith)  -- shared-slice-read-wide
+    (λ c κs. search needs)  -- wide-requires
     returns-2
     returns-3
-    sub-if4
+    (λ c. omega arith)  -- sub-if4
     returns-4
-    mul-value
-    add-value
-    add-i
-    loop-less
+    (λ c. omega arith)  -- mul-value
+    (λ c. omega arith)  -- add-value
+    (λ c. omega arith)  -- add-i
+    (λ c. omega arith)  -- loop-less
     loop-again
     returns-5)
