@@ -31,9 +31,12 @@ use Rattle.table.specs.declared.Found.{Found as Walked}
 use Rattle.table.specs.declared.Found.the-variants.{At, Lost as Astray}
 use Rattle.table.proofs.Surveys.{Told, told, untold}
 use Rattle.table.specs.Path.{topOf}
-use Rattle.compare.specs.Agreeing.{Read, isField, Admitted, Agrees, AgreesIn, AgreesEach, AgreesBytes}
+use Rattle.compare.specs.Agreeing.{Read, isField, Admitted, Agrees, AgreesIn, AgreesEach, AgreesBytes, BaseIs, BaseIn, Standing}
 use Rattle.table.specs.declared.Path.{Path}
 use Rattle.compare.specs.declared.Agreed.{Agreed}
+use Rattle.compare.specs.declared.Base.{Base}
+use Rattle.compare.specs.declared.Based.{Based}
+use Rattle.compare.specs.declared.Based.the-variants.{At as BasedAt, Lost as BasedLost}
 use Rattle.compare.proofs.Fields.{OwnsAll, owns-agrees, leaf-owns, enumeration-owns, Solid, field-solid}
 
 -- ---- an enumeration
@@ -160,6 +163,36 @@ module _ (ds : List ℕ) (s : Survey) (a b : List ℕ) (at : ℕ) (x : Agreed) w
         rw (fr, fp, k, f) at v (base-admitted ds t d) refl (omega (arith, array-size ds t (d .inside), l))
     array-each bad h v = tt
 
+-- ---- an array's base, at the array's row
+
+module _ (table pool : List ℕ) (row place k levels : ℕ) {y : Surveyed} (g : y ≡ surveyOf (typeAt levels table pool (row + 1) (place + k * 4))) where
+  pub base-unsound : y ≡ Unsound → BaseIn table pool row place k levels BasedLost
+  unfolding BaseIn fromEntry andThen Agrees
+  base-unsound u a b at x = rw (← add-one row, untold _ g u) tt
+
+  module _ {s : Survey} (u : y ≡ Sound s) where
+    pub base-zero : s .size ≡ 0 → BaseIn table pool row place k levels BasedLost
+    unfolding BaseIn fromEntry
+    base-zero z a b at x = rw (← add-one row) (array-zero _ s a b at x _ (told _ s g u) z)
+
+    -- where a walk found something there was a level left
+    base-deep : 0 < levels
+    base-deep = go levels refl (told _ s g u)
+      where
+        go : (l : ℕ) → levels ≡ l → Told (typeAt l table pool (row + 1) (place + k * 4)) s → 0 < levels
+        go zero j h = absurd (unfold Told typeAt in h)
+        go (suc l) j h = omega arith
+
+    pub base-found : {total : ℕ} → total ≡ min (s .size * product (dimensionsFrom k (take (k * 4) (drop place pool)))) 4294967296
+        → BaseIn table pool row place k levels (BasedAt (record { stride = s .size; bytes = total; count = total / s .size; next = record { row = s .row; place = s .place } }))
+    unfolding BaseIn fromEntry
+    base-found ht =
+        record {
+          deep = base-deep;
+          solid = λ e i f a b at x v. rw (← add-one row) (array-solid _ s a b at x ht _ (told _ s g u) (field-solid _ table pool (row + 1) _ e i (sym f) refl) v);
+          each = λ a b at x v. rw (← add-one row) (array-each _ s a b at x ht _ (told _ s g u) v);
+        }
+
 -- ---- by the row
 
 module _ (table pool : List ℕ) (depth row place : ℕ) (a b : List ℕ) (at : ℕ) {e : Entry} (shallow : depth ≤ 32) (known : EntryIfKnown (entryAt table pool row place) e) where
@@ -202,40 +235,34 @@ module _ (table pool : List ℕ) (depth row place : ℕ) (a b : List ℕ) (at : 
           λ d l. w n (unfold firstZero outside heapHeld in record { sized = or-else-none _ _ (d .sized) .1; inside = d .inside; plain = d .plain }) l
       go bad w = unfold andThen Agrees in tt
 
-  module _ (x : Agreed) {k : ℕ} {y : Surveyed} (h : e ≡ Array k) (g : y ≡ surveyOf (typeAt (32 - depth) table pool (row + 1) (place + k * 4))) where
-    pub type-array-unsound : y ≡ Unsound → Agrees (typeAt (33 - depth) table pool row place) a b at x
-    unfolding fromEntry andThen Agrees
-    type-array-unsound u = by-row x h (λ q. rw (← add-one row, untold _ g u) tt)
+  module _ (x : Agreed) {k : ℕ} {y : Based} (h : e ≡ Array k) (g : BaseIn table pool row place k (32 - depth) y) where
+    pub type-array-lost : y ≡ BasedLost → Agrees (typeAt (33 - depth) table pool row place) a b at x
+    unfolding BaseIn
+    type-array-lost u = by-row x h (λ q. rw u at g a b at x)
 
-    module _ {s : Survey} (u : y ≡ Sound s) where
-      pub type-array-zero : s .size ≡ 0 → Agrees (typeAt (33 - depth) table pool row place) a b at x
-      unfolding fromEntry
-      type-array-zero z = by-row x h (λ q. rw (← add-one row) (array-zero _ s a b at x _ (told _ s g u) z))
+    module _ {v : Base} (u : y ≡ BasedAt v) where
+      pub base-is : BaseIs table pool row place k (32 - depth) v
+      unfolding BaseIn
+      base-is = rw u at g
 
-      module _ {total : ℕ} (ht : total ≡ min (s .size * product (dimensionsFrom k (take (k * 4) (drop place pool)))) 4294967296) {solid : Bool} (i : Entry)
-          (hi : EntryIfKnown (entryAt table pool (row + 1) (place + k * 4)) i) (hs : solid ≡ isField i) where
-        pub type-array-solid : solid ≡ true → AgreesBytes total a b at (record { row = s .row; place = s .place }) x → Agrees (typeAt (33 - depth) table pool row place) a b at x
-        unfolding fromEntry
-        type-array-solid w v = by-row x h (λ q. rw (← add-one row) (array-solid _ s a b at x ht _ (told _ s g u) (field-solid _ table pool (row + 1) _ i hi hs w) v))
+      pub type-array-solid : {solid : Bool} (i : Entry) → EntryIfKnown (entryAt table pool (row + 1) (place + k * 4)) i → solid ≡ isField i → solid ≡ true → AgreesBytes (v .bytes) a b at (v .next) x → Agrees (typeAt (33 - depth) table pool row place) a b at x
+      type-array-solid i n f w z = by-row x h (λ q. base-is .solid i n (sym f ∙ w) a b at x z)
 
-      pub type-array : {total : ℕ} (inner : Path) → total ≡ min (s .size * product (dimensionsFrom k (take (k * 4) (drop place pool)))) 4294967296
-          → inner .depth ≡ depth + 1 → topOf inner ≡ row + 1
-          → AgreesEach (typeAt (33 - inner .depth) table pool (topOf inner) (place + k * 4)) (s .size) (total / s .size) a b at (record { row = s .row; place = s .place }) x
+      pub type-array : (inner : Path) → inner .depth ≡ depth + 1 → topOf inner ≡ row + 1
+          → AgreesEach (typeAt (33 - inner .depth) table pool (topOf inner) (place + k * 4)) (v .stride) (v .count) a b at (v .next) x
           → Agrees (typeAt (33 - depth) table pool row place) a b at x
-      unfolding fromEntry
-      type-array inner ht hd hr v =
+      type-array inner hd hr z =
           let j : 33 - inner .depth ≡ 32 - depth = omega arith in
-          by-row x h (λ q. rw (← add-one row) (array-each _ s a b at x ht _ (told _ s g u) (rw (j, hr) at v)))
-
--- where a walk found something there was a level left
-pub sound-level : (table pool : List ℕ) (depth row place : ℕ) {y : Surveyed} {s : Survey} → y ≡ surveyOf (typeAt (32 - depth) table pool row place) → y ≡ Sound s → depth < 32
-sound-level table pool depth row place {s = s} g e = go (32 - depth) refl (told _ s g e)
-  where
-    go : (k : ℕ) → 32 - depth ≡ k → Told (typeAt k table pool row place) s → depth < 32
-    go zero j h = absurd (unfold Told typeAt in h)
-    go (suc k) j h = omega arith
+          by-row x h (λ q. base-is .each a b at x (rw (j, hr) at z))
 
 -- ---- one level further down
+
+pub base-deeper : (table pool : List ℕ) (depth row place k : ℕ) {y : Based} {v : Base} → BaseIn table pool row place k (32 - depth) y → y ≡ BasedAt v → depth < 32
+unfolding BaseIn
+base-deeper table pool depth row place k g u = let i : BaseIs table pool row place k (32 - depth) _ = rw u at g in omega (arith, i .deep)
+
+pub standing-entered : {path : Path} {a b : List ℕ} {at : ℕ} (inner : Path) → Standing path a b at → inner .depth ≡ path .depth + 1 → path .depth < 32 → Standing inner a b at
+standing-entered inner s e h = record { deep = omega arith; shallow = omega arith; begins = s .begins; lengths = s .lengths }
 
 pub read-entered : {table pool : List ℕ} {row place : ℕ} {e : Entry} (inner : Path) → topOf inner ≡ row → EntryIfKnown (entryAt table pool row place) e
     → EntryInside e (length table) (length pool) row place → Read e table pool (topOf inner) place

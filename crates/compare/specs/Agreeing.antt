@@ -12,14 +12,17 @@ use Rattle.format.specs.Datatype.{Datatype, Members, typeSize}
 use Rattle.format.specs.Outcome.{Outcome, gives, refuses, outcomeNumber, outcomeValues}
 use Rattle.format.specs.Ownership.{inEntries, owned, memberOwned, outside, memberOutside, heapHeld, memberHeapHeld}
 use Rattle.format.specs.Slots.{firstZero, memberFirstZero}
-use Rattle.format.specs.Table.{Found, found, bad}
-use Rattle.rows.specs.Entries.{entryAt, EntryInside, EntryIfKnown}
+use Rattle.format.specs.Table.{Found, found, bad, typeAt}
+use Rattle.rows.specs.Entries.{entryAt, EntryInside, EntryIfKnown, fromEntry}
 use Rattle.rows.specs.declared.Entry.{Entry}
 use Rattle.rows.specs.declared.Entry.the-variants.{Leaf, Compound, Enumeration, VariableLength, Array, Unknown}
 use Rattle.table.specs.declared.Spot.{Spot}
 use Rattle.table.specs.declared.Path.{Path}
 use Rattle.compare.specs.declared.Agreed.{Agreed}
 use Rattle.compare.specs.declared.Agreed.the-variants.{Apart, Together, Lost}
+use Rattle.compare.specs.declared.Base.{Base}
+use Rattle.compare.specs.declared.Based.{Based}
+use Rattle.compare.specs.declared.Based.the-variants.{At as BasedAt, Lost as BasedLost}
 use Rattle.compare.specs.declared.Comparison.{Comparison}
 use Rattle.compare.specs.declared.Comparison.the-variants.{Same, Differs, Refused}
 
@@ -100,6 +103,19 @@ below n i = ltb i n
 
 unfoldable pub AgreesBytes : (n : ℕ) (a b : List ℕ) (at : ℕ) → Spot → Agreed → Type 0
 AgreesBytes n a b at next x = at + n ≤ length a → Answers (below n) a b at next x
+
+-- what an array's base, with so many levels left below the array, gives for its fields: either all bytes are owned, or entry by entry
+pub record BaseIs (table pool : List ℕ) (row place rank levels : ℕ) (v : Base) : Type 0 where
+  pub deep : 0 < levels
+  pub solid : (e : Entry) → EntryIfKnown (entryAt table pool (row + 1) (place + rank * 4)) e → isField e ≡ true → (a b : List ℕ) (at : ℕ) (x : Agreed) → AgreesBytes (v .bytes) a b at (v .next) x
+      → Agrees (fromEntry (typeAt levels table pool) table pool row place (Array rank)) a b at x
+  pub each : (a b : List ℕ) (at : ℕ) (x : Agreed) → AgreesEach (typeAt levels table pool (row + 1) (place + rank * 4)) (v .stride) (v .count) a b at (v .next) x
+      → Agrees (fromEntry (typeAt levels table pool) table pool row place (Array rank)) a b at x
+
+unfoldable pub BaseIn : (table pool : List ℕ) (row place rank levels : ℕ) → Based → Type 0
+BaseIn table pool row place rank levels (BasedAt v) = BaseIs table pool row place rank levels v
+BaseIn table pool row place rank levels BasedLost =
+    (a b : List ℕ) (at : ℕ) (x : Agreed) → Agrees (fromEntry (typeAt levels table pool) table pool row place (Array rank)) a b at x
 
 -- Document 01's number and values of an answer of `same`: 0 and 0 for same, 0 and 1 for differs, or the refusal's
 unfoldable pub comparisonNumber : Comparison → ℕ

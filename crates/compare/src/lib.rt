@@ -25,12 +25,25 @@ ghost use Rattle.rows.specs.Entries.{fromEntry};
 ghost use Rattle.rows.specs.declared.Entry.the-variants.{Enumeration};
 ghost use Rattle.table.specs.Path.{topOf};
 ghost use Rattle.table.specs.Survey.{Sets};
-ghost use Rattle.compare.specs.Agreeing.{equalRange, isField, Standing, Read, Agrees, AgreesIn, AgreesEach, AgreesBytes, SameFields, Compares};
+ghost use Rattle.compare.specs.Agreeing.{equalRange, isField, Standing, Read, Agrees, AgreesIn, AgreesEach, AgreesBytes, BaseIn, SameFields, Compares};
 
 // What a walk over a type's fields finds: two bytes of a field differ, or none do, with the next row and pool place.
 pub enum Agreed {
     Apart,
     Together(Spot),
+    Lost,
+}
+
+// An array's base: its size, what all its entries take, their number, and the next row and pool place.
+pub struct Base {
+    pub stride: usize,
+    pub bytes: usize,
+    pub count: usize,
+    pub next: Spot,
+}
+
+pub enum Based {
+    At(Base),
     Lost,
 }
 
@@ -135,6 +148,41 @@ fn is_field(entry: Entry) -> bool
     }
 }
 
+// The base of an array at a row, with so many levels left below it: Lost where there is none, or one of size 0.
+fn array_base(
+    table: &[u32],
+    pool: &[u8],
+    row: usize,
+    place: usize,
+    rank: u32,
+    levels: usize,
+) -> Based
+    requires { ⌜ (row * 16 + 16 ≤ length (now table)) × (place + rank * 4 ≤ length (now pool)) ⌝ }
+    ensures { λ r. ⌜ BaseIn (now (table .entry)) (now (pool .entry)) row place rank levels r ⌝ }
+{
+    let inner = place + (rank as usize) * 4;
+    let got = survey_type(table, pool, row + 1, inner, levels);
+    match got {
+        Surveyed::Unsound => Based::Lost,
+        Surveyed::Sound(s) => {
+            let size = s.size as u64;
+            if size == 0 {
+                return Based::Lost;
+            }
+            let total = scaled(pool, place, rank, s.size);
+            Based::At(Base {
+                stride: size as usize,
+                bytes: total as usize,
+                count: (total / size) as usize,
+                next: Spot {
+                    row: s.row,
+                    place: s.place,
+                },
+            })
+        }
+    }
+}
+
 // The fields of the type at the top of the path, of which `entry` is the row and `place` the place of its pool bytes; its record begins at `at`.
 fn agree_type(
     table: &[u32],
@@ -191,22 +239,13 @@ fn agree_type(
         Entry::Array(rank) => {
             let below = row + 1;
             let inner = place + (rank as usize) * 4;
-            let base = survey_type(table, pool, below, inner, 32 - depth);
-            match base {
-                Surveyed::Unsound => Agreed::Lost,
-                Surveyed::Sound(s) => {
-                    let size = s.size as u64;
-                    if size == 0 {
-                        return Agreed::Lost;
-                    }
-                    let next = Spot {
-                        row: s.row,
-                        place: s.place,
-                    };
-                    let total = scaled(pool, place, rank, s.size);
+            let based = array_base(table, pool, row, place, rank, 32 - depth);
+            match based {
+                Based::Lost => Agreed::Lost,
+                Based::At(base) => {
                     let base_entry = known_entry_at(table, pool, below, inner);
                     if is_field(base_entry) {
-                        return agree_field(a, b, at, total as usize, next);
+                        return agree_field(a, b, at, base.bytes, base.next);
                     }
                     agree_entries(
                         table,
@@ -217,9 +256,9 @@ fn agree_type(
                         a,
                         b,
                         at,
-                        size as usize,
-                        (total / size) as usize,
-                        next,
+                        base.stride,
+                        base.count,
+                        base.next,
                     )
                 }
             }

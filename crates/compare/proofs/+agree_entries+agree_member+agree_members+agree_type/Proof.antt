@@ -6,7 +6,7 @@ use lib.ListN.{length}
 use Rattle.format.specs.Table.{typeAt, membersAt}
 use Rattle.rows.proofs.Decode.{leaf-inside, compound-inside, enumeration-inside, array-inside, named-inside}
 use Rattle.table.specs.Path.{topOf}
-use Rattle.compare.proofs.Types.{type-unknown, type-variableLength, type-leaf, type-enumeration, type-compound, type-array-unsound, type-array-zero, type-array-solid, type-array, sound-level, read-entered, member-leaf, member-enumeration, member-entered}
+use Rattle.compare.proofs.Types.{type-unknown, type-variableLength, type-leaf, type-enumeration, type-compound, type-array-lost, type-array-solid, type-array, base-deeper, standing-entered, read-entered, member-leaf, member-enumeration, member-entered}
 use Rattle.compare.proofs.Inside.{Leads, leads-same, members-end, members-deep, members-unnamed, members-past, members-lost, members-apart, members-next, Done, done-none, entries-end, entries-start, entries-past, entries-lost, entries-apart, entries-next}
 use borrow.Fn.Kinds.{In}
 use borrow.Fn.PlainCycle.{Measures, is, falls, and}
@@ -24,12 +24,11 @@ use Rattle.compare.proofs.agree_type.Kinds as agree-type-kinds
 use Rattle.compare.proofs.+agree_entries+agree_member+agree_members+agree_type.Lts-agree_type as agree-type-lts
 use Rattle.compare.proofs.agree_enumeration.Reads as agree-enumeration-reads
 use Rattle.compare.proofs.agree_field.Reads as agree-field-reads
-use Rattle.table.proofs.enter.Reads as enter-reads
+use Rattle.compare.proofs.array_base.Reads as array-base-reads
 use Rattle.compare.proofs.is_field.Reads as is-field-reads
 use Rattle.rows.proofs.known_entry_at.Reads as known-entry-at-reads
 use Rattle.rows.proofs.known_member_at.Reads as known-member-at-reads
-use Rattle.table.proofs.scaled.Reads as scaled-reads
-use Rattle.table.proofs.survey_type.Reads as survey-type-reads
+use Rattle.table.proofs.enter.Reads as enter-reads
 use Rattle.compare.proofs.+agree_entries+agree_member+agree_members+agree_type.{statement}
 use Rattle.compare.proofs.+agree_entries+agree_member+agree_members+agree_type.Tie.{close}
 
@@ -57,8 +56,8 @@ agree-entries-below t =
     (falls 4 agree-entries-kinds.ps _<_ μ-agree-entries t)
     agree-entries.Pre
 
-abbrev agree-known-member-at : ℕ → In 4 agree-member-kinds.ps
-agree-known-member-at t =
+abbrev agree-member-at : ℕ → In 4 agree-member-kinds.ps
+agree-member-at t =
     and 4 agree-member-kinds.ps (is 4 agree-member-kinds.ps μ-agree-member t) agree-member.Pre
 
 abbrev agree-member-below : ℕ → In 4 agree-member-kinds.ps
@@ -89,23 +88,29 @@ abbrev agree-type-below : ℕ → In 4 agree-type-kinds.ps
 agree-type-below t =
     and 4 agree-type-kinds.ps (falls 4 agree-type-kinds.ps _<_ μ-agree-type t) agree-type.Pre
 
-abbrev agree-entries-calls : ℕ → agree-entries-lts.Claims
-agree-entries-calls t = (agree-type-below t, agree-type.Post)
-
-abbrev agree-members-calls : ℕ → agree-members-lts.Claims
-agree-members-calls t = (known-member-at-reads.Asked, known-member-at-reads.Learnt, agree-member-below t, agree-member.Post)
-
 abbrev agree-entries-Inv-loop : agree-entries-lts.InvT-loop
 agree-entries-Inv-loop table pool path place entry a b at stride count next start₀ done₀ start done = (done ≤ count) × ((start ≡ at + done * stride) × ((start ≤ length a) × Done (typeAt (33 - path .depth) table pool (topOf path) place) stride done a b at))
 
 abbrev agree-entries-μ-loop : agree-entries-lts.MeasureT-loop
 agree-entries-μ-loop table pool path place entry a b at stride count next start₀ done₀ start done = count - done
 
+abbrev agree-members-Inv-loop : agree-members-lts.InvT-loop
+agree-members-Inv-loop table pool path row place count a b at depth r₀ p₀ left₀ r p left = Leads (membersAt (typeAt (32 - path .depth) table pool) table pool left r p) (membersAt (typeAt (32 - path .depth) table pool) table pool count row place) a b at
+
+abbrev agree-members-μ-loop : agree-members-lts.MeasureT-loop
+agree-members-μ-loop table pool path row place count a b at depth r₀ p₀ left₀ r p left = left
+
+abbrev agree-entries-calls : ℕ → agree-entries-lts.Claims
+agree-entries-calls t = (agree-type-below t, agree-type.Post)
+
 abbrev agree-member-calls : ℕ → agree-member-lts.Claims
 agree-member-calls t = (known-entry-at-reads.Asked, known-entry-at-reads.Learnt, agree-field-reads.Asked, agree-field-reads.Learnt, agree-enumeration-reads.Asked, agree-enumeration-reads.Learnt, enter-reads.Asked, enter-reads.Learnt, agree-type-below t, agree-type.Post)
 
+abbrev agree-members-calls : ℕ → agree-members-lts.Claims
+agree-members-calls t = (known-member-at-reads.Asked, known-member-at-reads.Learnt, agree-member-below t, agree-member.Post)
+
 abbrev agree-type-calls : ℕ → agree-type-lts.Claims
-agree-type-calls t = (agree-field-reads.Asked, agree-field-reads.Learnt, agree-enumeration-reads.Asked, agree-enumeration-reads.Learnt, agree-members-below t, agree-members.Post, survey-type-reads.Asked, survey-type-reads.Learnt, scaled-reads.Asked, scaled-reads.Learnt, known-entry-at-reads.Asked, known-entry-at-reads.Learnt, is-field-reads.Asked, is-field-reads.Learnt, enter-reads.Asked, enter-reads.Learnt, agree-entries-below t, agree-entries.Post)
+agree-type-calls t = (agree-field-reads.Asked, agree-field-reads.Learnt, agree-enumeration-reads.Asked, agree-enumeration-reads.Learnt, agree-members-below t, agree-members.Post, array-base-reads.Asked, array-base-reads.Learnt, known-entry-at-reads.Asked, known-entry-at-reads.Learnt, is-field-reads.Asked, is-field-reads.Learnt, enter-reads.Asked, enter-reads.Learnt, agree-entries-below t, agree-entries.Post)
 
 agree-entries-loop-holds : (t : ℕ) → agree-entries-lts.Need-loop-holds (agree-entries-calls t) (agree-entries-at t) agree-entries.Post agree-entries-Inv-loop agree-entries-μ-loop
 agree-entries-loop-holds t c = (omega arith, (omega arith, (omega arith, done-none _ _ _ _ _)))
@@ -128,48 +133,30 @@ agree-entries-loop-again t c =
 agree-entries-returns-4 : (t : ℕ) → agree-entries-lts.Need-returns-4 (agree-entries-calls t) (agree-entries-at t) agree-entries.Post agree-entries-Inv-loop agree-entries-μ-loop
 agree-entries-returns-4 t c = search entries-end
 
-agree-member-add-t17 : (t : ℕ) → agree-member-lts.Need-add-t17 (agree-member-calls t) (agree-known-member-at t) agree-member.Post
+agree-member-add-t17 : (t : ℕ) → agree-member-lts.Need-add-t17 (agree-member-calls t) (agree-member-at t) agree-member.Post
 agree-member-add-t17 t c = omega (arith, leaf-inside _ _ _ _ (c .before .before .before .known-entry-at .ensures .1) (c .before .entry .given .1))
 
-agree-member-add-t19 : (t : ℕ) → agree-member-lts.Need-add-t19 (agree-member-calls t) (agree-known-member-at t) agree-member.Post
+agree-member-add-t19 : (t : ℕ) → agree-member-lts.Need-add-t19 (agree-member-calls t) (agree-member-at t) agree-member.Post
 agree-member-add-t19 t c = omega (arith, leaf-inside _ _ _ _ (c .before .before .before .known-entry-at .ensures .1) (c .before .entry .given .1))
 
-agree-member-agree-enumeration-requires :
-    (t : ℕ) → agree-member-lts.Need-agree-enumeration-requires (
-      known-entry-at-reads.Asked,
-      known-entry-at-reads.Learnt,
-      agree-field-reads.Asked,
-      agree-field-reads.Learnt,
-      agree-enumeration-reads.Asked,
-      agree-enumeration-reads.Learnt,
-      enter-reads.Asked,
-      enter-reads.Learnt,
-      agree-type-below t,
-      agree-type.Post,
-    ) (agree-known-member-at t) agree-member.Post
+agree-member-agree-enumeration-requires : (t : ℕ) → agree-member-lts.Need-agree-enumeration-requires (agree-member-calls t) (agree-member-at t) agree-member.Post
 agree-member-agree-enumeration-requires t c κs = (enumeration-inside _ _ _ _ (c .before .before .before .known-entry-at .ensures .1) (c .before .entry2 .given .1), c .before .before .before .before .before .before .before .before .pre .1 .1)
 
-agree-member-agree-type-requires : (t : ℕ) → agree-member-lts.Need-agree-type-requires (agree-member-calls t) (agree-known-member-at t) agree-member.Post
+agree-member-agree-type-requires : (t : ℕ) → agree-member-lts.Need-agree-type-requires (agree-member-calls t) (agree-member-at t) agree-member.Post
 agree-member-agree-type-requires t c κs =
     let p = c .before .before .before .before .before .before .before .pre in
     let d = c .enter .ensures .0 in
     let r = read-entered (c .enter .result) (c .enter .ensures .1) (c .before .before .known-entry-at .ensures .0) (c .before .before .known-entry-at .ensures .1) in
     (omega (arith, p .0, p .1 .0), (record { deep = omega arith; shallow = omega (arith, p .1 .0); begins = p .1 .1 .0; lengths = p .1 .1 .1 }, r))
 
-agree-member-returns : (t : ℕ) → agree-member-lts.Need-returns (agree-member-calls t) (agree-known-member-at t) agree-member.Post
+agree-member-returns : (t : ℕ) → agree-member-lts.Need-returns (agree-member-calls t) (agree-member-at t) agree-member.Post
 agree-member-returns t c = search member-leaf
 
-agree-member-returns-2 : (t : ℕ) → agree-member-lts.Need-returns-2 (agree-member-calls t) (agree-known-member-at t) agree-member.Post
+agree-member-returns-2 : (t : ℕ) → agree-member-lts.Need-returns-2 (agree-member-calls t) (agree-member-at t) agree-member.Post
 agree-member-returns-2 t c = search member-enumeration
 
-agree-member-returns-3 : (t : ℕ) → agree-member-lts.Need-returns-3 (agree-member-calls t) (agree-known-member-at t) agree-member.Post
+agree-member-returns-3 : (t : ℕ) → agree-member-lts.Need-returns-3 (agree-member-calls t) (agree-member-at t) agree-member.Post
 agree-member-returns-3 t c = search member-entered
-
-abbrev agree-members-Inv-loop : agree-members-lts.InvT-loop
-agree-members-Inv-loop table pool path row place count a b at depth r₀ p₀ left₀ r p left = Leads (membersAt (typeAt (32 - path .depth) table pool) table pool left r p) (membersAt (typeAt (32 - path .depth) table pool) table pool count row place) a b at
-
-abbrev agree-members-μ-loop : agree-members-lts.MeasureT-loop
-agree-members-μ-loop table pool path row place count a b at depth r₀ p₀ left₀ r p left = left
 
 agree-members-loop-holds : (t : ℕ) → agree-members-lts.Need-loop-holds (agree-members-calls t) (agree-members-at t) agree-members.Post agree-members-Inv-loop agree-members-μ-loop
 agree-members-loop-holds t c = leads-same _ _ _ _
@@ -201,11 +188,11 @@ agree-members-loop-again t c = search members-next
 agree-members-returns-6 : (t : ℕ) → agree-members-lts.Need-returns-6 (agree-members-calls t) (agree-members-at t) agree-members.Post agree-members-Inv-loop agree-members-μ-loop
 agree-members-returns-6 t c = search members-end
 
-agree-type-add-t33 : (t : ℕ) → agree-type-lts.Need-add-t33 (agree-type-calls t) (agree-type-at t) agree-type.Post
-agree-type-add-t33 t c = omega (arith, leaf-inside _ _ _ _ (c .before .before .before .before .before .before .before .before .pre .1 .1 .inside) (c .before .entry .given .1))
+agree-type-add-t30 : (t : ℕ) → agree-type-lts.Need-add-t30 (agree-type-calls t) (agree-type-at t) agree-type.Post
+agree-type-add-t30 t c = omega (arith, leaf-inside _ _ _ _ (c .before .before .before .before .before .before .before .before .pre .1 .1 .inside) (c .before .entry .given .1))
 
-agree-type-add-t35 : (t : ℕ) → agree-type-lts.Need-add-t35 (agree-type-calls t) (agree-type-at t) agree-type.Post
-agree-type-add-t35 t c = omega (arith, leaf-inside _ _ _ _ (c .before .before .before .before .before .before .before .before .pre .1 .1 .inside) (c .before .entry .given .1))
+agree-type-add-t32 : (t : ℕ) → agree-type-lts.Need-add-t32 (agree-type-calls t) (agree-type-at t) agree-type.Post
+agree-type-add-t32 t c = omega (arith, leaf-inside _ _ _ _ (c .before .before .before .before .before .before .before .before .pre .1 .1 .inside) (c .before .entry .given .1))
 
 agree-type-agree-enumeration-requires : (t : ℕ) → agree-type-lts.Need-agree-enumeration-requires (agree-type-calls t) (agree-type-at t) agree-type.Post
 agree-type-agree-enumeration-requires t c κs =
@@ -221,57 +208,48 @@ agree-type-add-below t c = let i = array-inside _ _ _ _ (c .before .before .befo
 agree-type-add-inner : (t : ℕ) → agree-type-lts.Need-add-inner (agree-type-calls t) (agree-type-at t) agree-type.Post
 agree-type-add-inner t c = let i = array-inside _ _ _ _ (c .before .before .before .before .before .before .before .before .pre .1 .1 .inside) (c .before .entry4 .given .1) in omega arith
 
+agree-type-array-base-requires : (t : ℕ) → agree-type-lts.Need-array-base-requires (agree-type-calls t) (agree-type-at t) agree-type.Post
+agree-type-array-base-requires t c κs = array-inside _ _ _ _ (c .before .before .before .before .before .before .before .before .pre .1 .1 .inside) (c .before .entry4 .given .1)
+
 agree-type-returns : (t : ℕ) → agree-type-lts.Need-returns (agree-type-calls t) (agree-type-at t) agree-type.Post
 agree-type-returns t c =
-    let p = c .before .before .before .before .before .before .before .before .before .before .before .before .before .before .pre .1 in
-    type-array-zero _ _ _ _ _ _ _ _ (p .0 .shallow) (p .1 .is) _ (c .before .before .before .before .before .before .before .entry4 .given .1) (c .before .before .before .before .before .survey-type .ensures) (c .before .before .before .base .given .1) (c .if1 .taken)
-
-agree-type-scaled-requires : (t : ℕ) → agree-type-lts.Need-scaled-requires (agree-type-calls t) (agree-type-at t) agree-type.Post
-agree-type-scaled-requires t c κs = array-inside _ _ _ _ (c .before .before .before .before .before .before .before .before .before .before .before .before .before .before .pre .1 .1 .inside) (c .before .before .before .before .before .before .before .entry4 .given .1) .1
-
-agree-type-agree-field-requires-2 : (t : ℕ) → agree-type-lts.Need-agree-field-requires-2 (agree-type-calls t) (agree-type-at t) agree-type.Post
-agree-type-agree-field-requires-2 t c κs =
-    let p = c .before .before .before .before .before .before .before .before .before .before .before .before .before .before .before .before .before .before .pre .1 .0 in
-    (p .begins, p .lengths)
-
-agree-type-returns-2 : (t : ℕ) → agree-type-lts.Need-returns-2 (agree-type-calls t) (agree-type-at t) agree-type.Post
-agree-type-returns-2 t c =
-    let p = c .before .before .before .before .before .before .before .before .before .before .before .before .before .before .before .before .before .before .before .pre .1 in
-    type-array-solid _ _ _ _ _ _ _ _ (p .0 .shallow) (p .1 .is) _ (c .before .before .before .before .before .before .before .before .before .before .before .before .entry4 .given .1) (c .before .before .before .before .before .before .before .before .before .before .survey-type .ensures) (c .before .before .before .before .before .before .before .before .base .given .1) (c .before .before .before .before .scaled .ensures) _ (c .before .before .before .known-entry-at .ensures .0) (c .before .before .is-field .ensures) (c .before .if2 .taken) (c .agree-field2 .ensures)
+    let p = c .before .before .before .before .before .before .before .before .before .before .before .before .before .before .before .before .pre .1 in
+    type-array-solid _ _ _ _ _ _ _ _ (p .0 .shallow) (p .1 .is) _ (c .before .before .before .before .before .before .before .before .before .entry4 .given .1) (c .before .before .before .before .before .before .before .array-base .ensures) (c .before .before .before .before .before .based .given .1) _ (c .before .before .before .known-entry-at .ensures .0) (c .before .before .is-field .ensures) (c .before .if1 .taken) (c .agree-field2 .ensures)
 
 agree-type-enter-requires : (t : ℕ) → agree-type-lts.Need-enter-requires (agree-type-calls t) (agree-type-at t) agree-type.Post
-agree-type-enter-requires t c κs = sound-level _ _ _ _ _ (c .before .before .before .before .before .before .before .before .before .survey-type .ensures) (c .before .before .before .before .before .before .before .base .given .1)
+agree-type-enter-requires t c κs = search base-deeper
 
 agree-type-agree-entries-requires : (t : ℕ) → agree-type-lts.Need-agree-entries-requires (agree-type-calls t) (agree-type-at t) agree-type.Post
 agree-type-agree-entries-requires t c κs =
-    let p = c .before .before .before .before .before .before .before .before .before .before .before .before .before .before .before .before .before .before .before .pre in
+    let p = c .before .before .before .before .before .before .before .before .before .before .before .before .before .before .before .before .pre in
+    let base = c .before .before .before .before .before .before .before .array-base .ensures in
     let d = c .enter .ensures .0 in
-    let l = sound-level _ _ _ _ _ (c .before .before .before .before .before .before .before .before .before .before .survey-type .ensures) (c .before .before .before .before .before .before .before .before .base .given .1) in
+    let l = base-deeper _ _ _ _ _ _ base (c .before .before .before .before .before .based .given .1) in
     let r = read-entered (c .enter .result) (c .enter .ensures .1) (c .before .before .before .known-entry-at .ensures .0) (c .before .before .before .known-entry-at .ensures .1) in
-    (omega (arith, p .0), (record { deep = omega arith; shallow = omega arith; begins = p .1 .0 .begins; lengths = p .1 .0 .lengths }, r))
+    (omega (arith, p .0), (standing-entered (c .enter .result) (p .1 .0) d l, r))
+
+agree-type-returns-2 : (t : ℕ) → agree-type-lts.Need-returns-2 (agree-type-calls t) (agree-type-at t) agree-type.Post
+agree-type-returns-2 t c = search type-unknown
 
 agree-type-returns-3 : (t : ℕ) → agree-type-lts.Need-returns-3 (agree-type-calls t) (agree-type-at t) agree-type.Post
-agree-type-returns-3 t c = search type-unknown
+agree-type-returns-3 t c = search type-variableLength
 
 agree-type-returns-4 : (t : ℕ) → agree-type-lts.Need-returns-4 (agree-type-calls t) (agree-type-at t) agree-type.Post
-agree-type-returns-4 t c = search type-variableLength
+agree-type-returns-4 t c = search type-leaf
 
 agree-type-returns-5 : (t : ℕ) → agree-type-lts.Need-returns-5 (agree-type-calls t) (agree-type-at t) agree-type.Post
-agree-type-returns-5 t c = search type-leaf
+agree-type-returns-5 t c = search type-enumeration
 
 agree-type-returns-6 : (t : ℕ) → agree-type-lts.Need-returns-6 (agree-type-calls t) (agree-type-at t) agree-type.Post
-agree-type-returns-6 t c = search type-enumeration
+agree-type-returns-6 t c = search type-compound
 
 agree-type-returns-7 : (t : ℕ) → agree-type-lts.Need-returns-7 (agree-type-calls t) (agree-type-at t) agree-type.Post
-agree-type-returns-7 t c = search type-compound
+agree-type-returns-7 t c = search type-array-lost
 
 agree-type-returns-8 : (t : ℕ) → agree-type-lts.Need-returns-8 (agree-type-calls t) (agree-type-at t) agree-type.Post
-agree-type-returns-8 t c = search type-array-unsound
-
-agree-type-returns-9 : (t : ℕ) → agree-type-lts.Need-returns-9 (agree-type-calls t) (agree-type-at t) agree-type.Post
-agree-type-returns-9 t c =
-    let p = c .before .before .before .before .before .before .before .before .before .before .before .before .before .before .before .before .before .before .before .before .pre .1 in
-    type-array _ _ _ _ _ _ _ _ (p .0 .shallow) (p .1 .is) _ (c .before .before .before .before .before .before .before .before .before .before .before .before .before .entry4 .given .1) (c .before .before .before .before .before .before .before .before .before .before .before .survey-type .ensures) (c .before .before .before .before .before .before .before .before .before .base .given .1) (c .before .enter .result) (c .before .before .before .before .before .scaled .ensures) (c .before .enter .ensures .0) (c .before .enter .ensures .1) (c .agree-entries .ensures)
+agree-type-returns-8 t c =
+    let p = c .before .before .before .before .before .before .before .before .before .before .before .before .before .before .before .before .before .pre .1 in
+    type-array _ _ _ _ _ _ _ _ (p .0 .shallow) (p .1 .is) _ (c .before .before .before .before .before .before .before .before .before .before .entry4 .given .1) (c .before .before .before .before .before .before .before .before .array-base .ensures) (c .before .before .before .before .before .before .based .given .1) (c .before .enter .result) (c .before .enter .ensures .0) (c .before .enter .ensures .1) (c .agree-entries .ensures)
 
 pub +agree-entries+agree-member+agree-members+agree-type-spec : {M : Type 1} → statement M
 +agree-entries+agree-member+agree-members+agree-type-spec =
@@ -297,7 +275,7 @@ pub +agree-entries+agree-member+agree-members+agree-type-spec : {M : Type 1} →
     (agree-entries-returns-4 t))
     (λ t. agree-member-lts.spec
     (agree-member-calls t)
-    (agree-known-member-at t)
+    (agree-member-at t)
     agree-member.Post
     (λ c κs. search needs)  -- agree-member-known-entry-at-requires
     (λ c. search needs)  -- agree-member-enum-known-entry
@@ -355,9 +333,9 @@ pub +agree-entries+agree-member+agree-members+agree-type-spec : {M : Type 1} →
     (λ c. search needs)  -- agree-type-enum-told-2
     (λ c. search needs)  -- agree-type-enum-known-entry
     (λ c. search needs)  -- agree-type-cast-agree-field
-    (agree-type-add-t33 t)
-    (λ c. search needs)  -- agree-type-cast-t34
-    (agree-type-add-t35 t)
+    (agree-type-add-t30 t)
+    (λ c. search needs)  -- agree-type-cast-t31
+    (agree-type-add-t32 t)
     (λ c κs. search needs)  -- agree-type-agree-field-requires
     (λ c. search needs)  -- agree-type-enum-known-entry-2
     (λ c. search needs)  -- agree-type-sub-agree-enumeration
@@ -370,24 +348,20 @@ pub +agree-entries+agree-member+agree-members+agree-type-spec : {M : Type 1} →
     (λ c. search needs)  -- agree-type-cast-inner
     (λ c. search needs)  -- agree-type-mul-inner
     (agree-type-add-inner t)
-    (λ c. search needs)  -- agree-type-sub-survey-type
-    (λ c κs. search needs)  -- agree-type-survey-type-requires
+    (λ c. search needs)  -- agree-type-sub-array-base
+    (agree-type-array-base-requires t)
     (λ c. search needs)  -- agree-type-enum-told-3
-    (λ c. search needs)  -- agree-type-enum-known-base
-    (λ c. search needs)  -- agree-type-cast-size
-    (agree-type-returns t)
-    (agree-type-scaled-requires t)
+    (λ c. search needs)  -- agree-type-enum-known-based
     (λ c κs. search needs)  -- agree-type-known-entry-at-requires
     (λ c κs. search needs)  -- agree-type-is-field-requires
-    (agree-type-agree-field-requires-2 t)
-    (agree-type-returns-2 t)
+    (λ c κs. search needs)  -- agree-type-agree-field-requires-2
+    (agree-type-returns t)
     (agree-type-enter-requires t)
-    (λ c. search needs)  -- agree-type-div-agree-entries
     (agree-type-agree-entries-requires t)
+    (agree-type-returns-2 t)
     (agree-type-returns-3 t)
     (agree-type-returns-4 t)
     (agree-type-returns-5 t)
     (agree-type-returns-6 t)
     (agree-type-returns-7 t)
     (agree-type-returns-8 t)
-    (agree-type-returns-9 t)
