@@ -43,11 +43,12 @@ fn number<T>(answer: &Result<T, Refusal>) -> u32 {
 /// Reads a message by both, into so many rows and pool bytes; gives the oracle's type where both accept it.
 fn reading(message: &[u8], rows: usize, room: usize, counts: &mut Counts) -> Option<(Datatype, Flat, usize)> {
     let (mut table, mut pool) = (vec![7; rows * ROW], vec![7; room]);
-    let ours = library::read(message, 15, &mut table, &mut pool);
+    let limit = [15, 16, u32::MAX][message.len() % 3];
+    let ours = library::read(message, limit, &mut table, &mut pool);
     if ours.is_err() && (table.iter().any(|w| *w != 0) || pool.iter().any(|b| *b != 0)) {
         differs("zeros after a refusal", &hex(message), ours, 0);
     }
-    if let Err(Refusal::TooDeep | Refusal::TooMany | Refusal::TooNew { .. } | Refusal::PoolFull) = ours {
+    if let Err(Refusal::TooDeep | Refusal::TooMany | Refusal::PoolFull) = ours {
         counts.left_out(Call::Read, number(&ours));
         return None;
     }
