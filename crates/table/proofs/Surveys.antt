@@ -25,7 +25,7 @@ use Rattle.rows.specs.declared.Member.{Member}
 use Rattle.rows.specs.declared.Member.the-variants.{Named, Unnamed}
 use Rattle.rows.proofs.Decode.{typeAt-entry, membersAt-entry}
 use Rattle.rows.proofs.Leaves.{leaf-law}
-use Rattle.table.specs.Survey.{leafSurvey, zeroCode, zeroNote, firstOf, surveyOf, surveyIn, spotOf, enumSpotOf}
+use Rattle.table.specs.Survey.{leafSurvey, enumerationSurvey, variableSurvey, arraySurvey, zeroCode, zeroNote, firstOf, surveyOf, surveyIn, spotOf, enumSpotOf}
 use Rattle.table.specs.declared.Survey.{Survey}
 use Rattle.table.specs.declared.Surveyed.{Surveyed}
 use Rattle.table.specs.declared.Surveyed.the-variants.{Sound, Unsound}
@@ -221,33 +221,30 @@ module _ (table pool : List ℕ) (row place levels : ℕ) where
     unfolding fromEntry
     type-enumeration-lost {s = s} h g e v f = rw (type-as h) (enumeration-lost table pool _ _ s _ (told _ s (rw (add-one row) at g) e) (sym f ∙ v))
 
-    pub type-enumeration : {n k note first : ℕ} {y : Surveyed} {s : Survey} {w : Walked} {end : Spot} → x ≡ Enumeration n k → y ≡ surveyOf (typeAt (levels - 1) table pool (row + 1) place) → y ≡ Sound s
-        → w ≡ enumSpotOf table pool k (s .row) (s .place) → w ≡ At end → note ≡ zeroNote 9 n → first ≡ firstOf note (s .zero)
-        → Sound (record { row = end .row; place = end .place; size = n; zero = first; outside = s .outside; heap = s .heap; object = s .object; file = s .file }) ≡ surveyOf (typeAt levels table pool row place)
-    unfolding fromEntry
-    type-enumeration {s = s} h g e v f hn hf = rw (type-as h, hf, hn) (enumeration-sound table pool _ _ s _ (told _ s (rw (add-one row) at g) e) (sym f ∙ v))
+    pub type-enumeration : {n k : ℕ} {y : Surveyed} {s v : Survey} {w : Walked} {end : Spot} → x ≡ Enumeration n k → y ≡ surveyOf (typeAt (levels - 1) table pool (row + 1) place) → y ≡ Sound s
+        → w ≡ enumSpotOf table pool k (s .row) (s .place) → w ≡ At end → v ≡ enumerationSurvey n s end → Sound v ≡ surveyOf (typeAt levels table pool row place)
+    unfolding fromEntry enumerationSurvey
+    type-enumeration {s = s} h g e v f hv = rw (type-as h, hv) (enumeration-sound table pool _ _ s _ (told _ s (rw (add-one row) at g) e) (sym f ∙ v))
 
     pub type-variableLength-unsound : {i a c : ℕ} {y : Surveyed} → x ≡ VariableLength i a c → y ≡ surveyOf (typeAt (levels - 1) table pool (row + 1) place) → y ≡ Unsound
         → Unsound ≡ surveyOf (typeAt levels table pool row place)
     unfolding fromEntry
     type-variableLength-unsound h g e = rw (type-as h) (unsound-then _ _ (rw (add-one row) at g) e)
 
-    pub type-variableLength : {i a c : ℕ} {y : Surveyed} {s : Survey} → x ≡ VariableLength i a c → y ≡ surveyOf (typeAt (levels - 1) table pool (row + 1) place) → y ≡ Sound s
-        → Sound (record { row = s .row; place = s .place; size = 16; zero = s .zero; outside = s .outside; heap = true; object = s .object; file = true }) ≡ surveyOf (typeAt levels table pool row place)
-    unfolding fromEntry
-    type-variableLength {s = s} h g e = rw (type-as h) (variableLength-sound _ _ _ s _ (told _ s (rw (add-one row) at g) e))
+    pub type-variableLength : {i a c : ℕ} {y : Surveyed} {s v : Survey} → x ≡ VariableLength i a c → y ≡ surveyOf (typeAt (levels - 1) table pool (row + 1) place) → y ≡ Sound s
+        → v ≡ variableSurvey s → Sound v ≡ surveyOf (typeAt levels table pool row place)
+    unfolding fromEntry variableSurvey
+    type-variableLength {s = s} h g e hv = rw (type-as h, hv) (variableLength-sound _ _ _ s _ (told _ s (rw (add-one row) at g) e))
 
     pub type-array-unsound : {k : ℕ} {y : Surveyed} → x ≡ Array k → y ≡ surveyOf (typeAt (levels - 1) table pool (row + 1) (place + k * 4)) → y ≡ Unsound
         → Unsound ≡ surveyOf (typeAt levels table pool row place)
     unfolding fromEntry
     type-array-unsound h g e = rw (type-as h) (unsound-then _ _ (rw (add-one row) at g) e)
 
-    pub type-array : {k total size note first : ℕ} {out : Bool} {y : Surveyed} {s : Survey} → x ≡ Array k → y ≡ surveyOf (typeAt (levels - 1) table pool (row + 1) (place + k * 4)) → y ≡ Sound s
-        → total ≡ min (s .size * product (dimensionsFrom k (take (k * 4) (drop place pool)))) 4294967296 → size ≡ min total 4294967295 → note ≡ zeroNote 11 size → first ≡ firstOf note (s .zero)
-        → out ≡ (ltb 4294967295 total || s .outside)
-        → Sound (record { row = s .row; place = s .place; size = size; zero = first; outside = out; heap = s .heap; object = s .object; file = s .file }) ≡ surveyOf (typeAt levels table pool row place)
-    unfolding fromEntry
-    type-array {s = s} h g e ht hs hn hf ho = rw (type-as h) (array-sound _ s ht hs hn hf ho _ (told _ s (rw (add-one row) at g) e))
+    pub type-array : {k : ℕ} {y : Surveyed} {s v : Survey} → x ≡ Array k → y ≡ surveyOf (typeAt (levels - 1) table pool (row + 1) (place + k * 4)) → y ≡ Sound s
+        → v ≡ arraySurvey (min (s .size * product (dimensionsFrom k (take (k * 4) (drop place pool)))) 4294967296) s → Sound v ≡ surveyOf (typeAt levels table pool row place)
+    unfolding fromEntry arraySurvey
+    type-array {s = s} h g e hv = rw (type-as h, hv) (array-sound _ s refl refl refl refl refl _ (told _ s (rw (add-one row) at g) e))
 
 -- ---- the members of a compound
 

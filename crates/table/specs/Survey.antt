@@ -1,11 +1,11 @@
 -- What the walk over a table answers, as a function of the type that is found there; and the answers of the public calls.
-use Prim.Native.Nat.{ℕ, zero, suc, _+_, _*_}
+use Prim.Native.Nat.{ℕ, zero, suc, _+_, _*_, min}
 use mathlib.Core.Path.{_≡_}
-use mathlib.Core.Bool.{Bool, true, false, cond, _&&_}
+use mathlib.Core.Bool.{Bool, true, false, cond, _&&_, _||_}
 use mathlib.Core.List.{List, [], _∷_}
 use mathlib.Core.Option.{Option, none, some}
 use lib.ListN.{drop}
-use lib.Dec.{eqb, leb}
+use lib.Dec.{eqb, leb, ltb}
 use Rattle.refusal.specs.Refusal.{numberOf, valuesOf}
 use Rattle.refusal.specs.declared.Refusal.the-variants.{BadTable}
 use Rattle.format.specs.Bytes.{allZero}
@@ -16,6 +16,7 @@ use Rattle.format.specs.Sizes.{holdsObjectAddress, memberHoldsObjectAddress, ho
 use Rattle.format.specs.Slots.{firstZero, memberFirstZero, orElse, zeroClass}
 use Rattle.format.specs.Table.{Found, found, bad, andThen, typeAt, typeOf, maxRows, maxPool, enumNamesAt, enumValuesAt}
 use Rattle.table.specs.declared.Survey.{Survey}
+use Rattle.table.specs.declared.Spot.{Spot}
 use Rattle.table.specs.declared.Surveyed.{Surveyed}
 use Rattle.table.specs.declared.Surveyed.the-variants.{Sound, Unsound}
 use Rattle.table.specs.declared.Found.{Found as Walked}
@@ -48,6 +49,18 @@ surveyOf bad = Unsound
 unfoldable pub leafSurvey : (row place class size length code : ℕ) → Survey
 leafSurvey r p k n l x =
     record { row = r + 1; place = p + l; size = n; zero = zeroNote (k + 1) n; outside = false; heap = eqb k 7 && eqb x 1; object = eqb k 7; file = eqb k 7 }
+
+-- of an enumeration that ends at a spot, a variable-length type and an array of so many bytes, by the base's
+unfoldable pub enumerationSurvey : (size : ℕ) → Survey → Spot → Survey
+enumerationSurvey n s end =
+    record { row = end .row; place = end .place; size = n; zero = firstOf (zeroNote 9 n) (s .zero); outside = s .outside; heap = s .heap; object = s .object; file = s .file }
+
+unfoldable pub variableSurvey : Survey → Survey
+variableSurvey s = record { row = s .row; place = s .place; size = 16; zero = s .zero; outside = s .outside; heap = true; object = s .object; file = true }
+
+unfoldable pub arraySurvey : (total : ℕ) → Survey → Survey
+arraySurvey total s =
+    record { row = s .row; place = s .place; size = min total 4294967295; zero = firstOf (zeroNote 11 (min total 4294967295)) (s .zero); outside = ltb 4294967295 total || s .outside; heap = s .heap; object = s .object; file = s .file }
 
 -- of the members of a compound of size n, with the compound's own size noted
 unfoldable pub surveyIn : (size : ℕ) → Found Members → Surveyed

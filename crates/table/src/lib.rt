@@ -19,7 +19,7 @@ ghost use Rattle.format.specs.Datatype.{product};
 ghost use Rattle.format.specs.Sizes.{sizing, elementSizing, classMayHoldObjectAddress, objectAddressHeld, fileAddressHeld};
 ghost use Rattle.format.specs.Table.{typeAt, membersAt};
 ghost use Rattle.table.specs.Path.{topOf};
-ghost use Rattle.table.specs.Survey.{surveyOf, surveyIn, leafSurvey, enumSpotOf, endsAt, Checks, firstOf, zeroNote, SizedAs, HeldAs};
+ghost use Rattle.table.specs.Survey.{surveyOf, surveyIn, leafSurvey, enumerationSurvey, variableSurvey, arraySurvey, enumSpotOf, endsAt, Checks, firstOf, zeroNote, SizedAs, HeldAs};
 ghost use Rattle.table.specs.Names.{nameOf, namePlace, further, PartIs};
 ghost use denote.Ref.{ptr};
 
@@ -221,6 +221,54 @@ fn leaf_survey(row: usize, place: usize, class: u32, size: u32, length: u32, cod
     }
 }
 
+fn enumeration_survey(size: u32, base: Survey, end: Spot) -> Survey
+    ensures { λ r. ⌜ r ≡ enumerationSurvey size base end ⌝ }
+{
+    Survey {
+        row: end.row,
+        place: end.place,
+        size: size,
+        zero: first_of(zero_note(9, size), base.zero),
+        outside: base.outside,
+        heap: base.heap,
+        object: base.object,
+        file: base.file,
+    }
+}
+
+fn variable_survey(base: Survey) -> Survey
+    ensures { λ r. ⌜ r ≡ variableSurvey base ⌝ }
+{
+    Survey {
+        row: base.row,
+        place: base.place,
+        size: 16,
+        zero: base.zero,
+        outside: base.outside,
+        heap: true,
+        object: base.object,
+        file: true,
+    }
+}
+
+fn array_survey(pool: &[u8], place: usize, rank: u32, base: Survey) -> Survey
+    requires { ⌜ place + rank * 4 ≤ length (now pool) ⌝ }
+    ensures { λ r. ⌜ r ≡ arraySurvey (min (base .size * product (dimensionsFrom rank (take (rank * 4) (drop place (now (pool .entry)))))) 4294967296) base ⌝ }
+{
+    let total = scaled(pool, place, rank, base.size);
+    let size = capped(total);
+    Survey {
+        row: base.row,
+        place: base.place,
+        size: size,
+        zero: first_of(zero_note(11, size), base.zero),
+        outside: either(total > 4294967295, base.outside),
+        heap: base.heap,
+        object: base.object,
+        file: base.file,
+    }
+}
+
 // The type at a row, its pool bytes at a place, with so many levels left. Costs one pass over its rows.
 pub fn survey_type(table: &[u32], pool: &[u8], row: usize, place: usize, levels: usize) -> Surveyed
     ensures { λ r. ⌜ r ≡ surveyOf (typeAt levels (now (table .entry)) (now (pool .entry)) row place) ⌝ }
@@ -251,16 +299,7 @@ pub fn survey_type(table: &[u32], pool: &[u8], row: usize, place: usize, levels:
                     let spot = skip_enum_members(table, pool, s.row, s.place, count);
                     match spot {
                         Found::Lost => Surveyed::Unsound,
-                        Found::At(end) => Surveyed::Sound(Survey {
-                            row: end.row,
-                            place: end.place,
-                            size: size,
-                            zero: first_of(zero_note(9, size), s.zero),
-                            outside: s.outside,
-                            heap: s.heap,
-                            object: s.object,
-                            file: s.file,
-                        }),
+                        Found::At(end) => Surveyed::Sound(enumeration_survey(size, s, end)),
                     }
                 }
             }
@@ -269,16 +308,7 @@ pub fn survey_type(table: &[u32], pool: &[u8], row: usize, place: usize, levels:
             let got = survey_type(table, pool, row + 1, place, levels - 1);
             match got {
                 Surveyed::Unsound => Surveyed::Unsound,
-                Surveyed::Sound(s) => Surveyed::Sound(Survey {
-                    row: s.row,
-                    place: s.place,
-                    size: 16,
-                    zero: s.zero,
-                    outside: s.outside,
-                    heap: true,
-                    object: s.object,
-                    file: true,
-                }),
+                Surveyed::Sound(s) => Surveyed::Sound(variable_survey(s)),
             }
         }
         Entry::Array(rank) => {
@@ -291,20 +321,7 @@ pub fn survey_type(table: &[u32], pool: &[u8], row: usize, place: usize, levels:
             );
             match got {
                 Surveyed::Unsound => Surveyed::Unsound,
-                Surveyed::Sound(s) => {
-                    let total = scaled(pool, place, rank, s.size);
-                    let size = capped(total);
-                    Surveyed::Sound(Survey {
-                        row: s.row,
-                        place: s.place,
-                        size: size,
-                        zero: first_of(zero_note(11, size), s.zero),
-                        outside: either(total > 4294967295, s.outside),
-                        heap: s.heap,
-                        object: s.object,
-                        file: s.file,
-                    })
-                }
+                Surveyed::Sound(s) => Surveyed::Sound(array_survey(pool, place, rank, s)),
             }
         }
     }

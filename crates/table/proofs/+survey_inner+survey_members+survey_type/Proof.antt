@@ -19,13 +19,14 @@ use Rattle.table.proofs.survey_type.Kinds as survey-type-kinds
 use Rattle.table.proofs.+survey_inner+survey_members+survey_type.Lts-survey_type as survey-type-lts
 use Rattle.rows.proofs.entry_at.Reads as entry-at-reads
 use Rattle.rows.proofs.member_at.Reads as member-at-reads
-use Rattle.table.proofs.capped.Reads as capped-reads
+use Rattle.table.proofs.array_survey.Reads as array-survey-reads
 use Rattle.table.proofs.either.Reads as either-reads
+use Rattle.table.proofs.enumeration_survey.Reads as enumeration-survey-reads
 use Rattle.table.proofs.first_of.Reads as first-of-reads
 use Rattle.table.proofs.leaf_survey.Reads as leaf-survey-reads
 use Rattle.table.proofs.past.Reads as past-reads
-use Rattle.table.proofs.scaled.Reads as scaled-reads
 use Rattle.table.proofs.skip_enum_members.Reads as skip-enum-members-reads
+use Rattle.table.proofs.variable_survey.Reads as variable-survey-reads
 use Rattle.table.proofs.zero_note.Reads as zero-note-reads
 use Rattle.table.proofs.+survey_inner+survey_members+survey_type.{statement}
 use Rattle.table.proofs.+survey_inner+survey_members+survey_type.Tie.{close}
@@ -72,7 +73,7 @@ abbrev survey-members-calls : ℕ → survey-members-lts.Claims
 survey-members-calls t = (zero-note-reads.Asked, zero-note-reads.Learnt, member-at-reads.Asked, member-at-reads.Learnt, survey-inner-below t, survey-inner.Post, first-of-reads.Asked, first-of-reads.Learnt, past-reads.Asked, past-reads.Learnt, either-reads.Asked, either-reads.Learnt)
 
 abbrev survey-type-calls : ℕ → survey-type-lts.Claims
-survey-type-calls t = (entry-at-reads.Asked, entry-at-reads.Learnt, leaf-survey-reads.Asked, leaf-survey-reads.Learnt, survey-members-below t, survey-members.Post, survey-type-below t, survey-type.Post, skip-enum-members-reads.Asked, skip-enum-members-reads.Learnt, zero-note-reads.Asked, zero-note-reads.Learnt, first-of-reads.Asked, first-of-reads.Learnt, scaled-reads.Asked, scaled-reads.Learnt, capped-reads.Asked, capped-reads.Learnt, either-reads.Asked, either-reads.Learnt)
+survey-type-calls t = (entry-at-reads.Asked, entry-at-reads.Learnt, leaf-survey-reads.Asked, leaf-survey-reads.Learnt, survey-members-below t, survey-members.Post, survey-type-below t, survey-type.Post, skip-enum-members-reads.Asked, skip-enum-members-reads.Learnt, enumeration-survey-reads.Asked, enumeration-survey-reads.Learnt, variable-survey-reads.Asked, variable-survey-reads.Learnt, array-survey-reads.Asked, array-survey-reads.Learnt)
 
 survey-inner-returns : (t : ℕ) → survey-inner-lts.Need-returns (survey-inner-calls t) (survey-inner-at t) survey-inner.Post
 survey-inner-returns t c = search type-none
@@ -134,8 +135,8 @@ survey-type-add-survey-type-3 t c = let i = array-inside _ _ _ _ (c .before .bef
 survey-type-add-survey-type-4 : (t : ℕ) → survey-type-lts.Need-add-survey-type-4 (survey-type-calls t) (survey-type-at t) survey-type.Post
 survey-type-add-survey-type-4 t c = let i = array-inside _ _ _ _ (c .before .before .before .entry-at .ensures .1) (c .before .entry4 .given .1) in omega arith
 
-survey-type-scaled-requires : (t : ℕ) → survey-type-lts.Need-scaled-requires (survey-type-calls t) (survey-type-at t) survey-type.Post
-survey-type-scaled-requires t c κs = array-inside _ _ _ _ (c .before .before .before .before .before .before .before .entry-at .ensures .1) (c .before .before .before .before .before .entry4 .given .1) .1
+survey-type-array-survey-requires : (t : ℕ) → survey-type-lts.Need-array-survey-requires (survey-type-calls t) (survey-type-at t) survey-type.Post
+survey-type-array-survey-requires t c κs = array-inside _ _ _ _ (c .before .before .before .before .before .before .before .entry-at .ensures .1) (c .before .before .before .before .before .entry4 .given .1) .1
 
 survey-type-returns-2 : (t : ℕ) → survey-type-lts.Need-returns-2 (survey-type-calls t) (survey-type-at t) survey-type.Post
 survey-type-returns-2 t c = search type-unknown
@@ -232,14 +233,14 @@ pub +survey-inner+survey-members+survey-type-spec : {M : Type 1} → statement M
     (λ c κs. search needs)  -- survey-type-skip-enum-members-requires
     (λ c. search needs)  -- survey-type-enum-told-3
     (λ c. search needs)  -- survey-type-enum-known-spot
-    (λ c κs. search needs)  -- survey-type-zero-note-requires
-    (λ c κs. search needs)  -- survey-type-first-of-requires
+    (λ c κs. search needs)  -- survey-type-enumeration-survey-requires
     (λ c. search needs)  -- survey-type-enum-told-4
     (survey-type-add-survey-type-2 t)
     (λ c. search needs)  -- survey-type-sub-survey-type-2
     (λ c κs. search needs)  -- survey-type-survey-type-requires-2
     (λ c. search needs)  -- survey-type-enum-told-5
     (λ c. search needs)  -- survey-type-enum-known-got-2
+    (λ c κs. search needs)  -- survey-type-variable-survey-requires
     (λ c. search needs)  -- survey-type-enum-known-entry-4
     (survey-type-add-survey-type-3 t)
     (λ c. search needs)  -- survey-type-cast-survey-type
@@ -249,11 +250,7 @@ pub +survey-inner+survey-members+survey-type-spec : {M : Type 1} → statement M
     (λ c κs. search needs)  -- survey-type-survey-type-requires-3
     (λ c. search needs)  -- survey-type-enum-told-6
     (λ c. search needs)  -- survey-type-enum-known-got-3
-    (survey-type-scaled-requires t)
-    (λ c κs. search needs)  -- survey-type-capped-requires
-    (λ c κs. search needs)  -- survey-type-zero-note-requires-2
-    (λ c κs. search needs)  -- survey-type-first-of-requires-2
-    (λ c κs. search needs)  -- survey-type-either-requires
+    (survey-type-array-survey-requires t)
     (survey-type-returns-2 t)
     (survey-type-returns-3 t)
     (survey-type-returns-4 t)
