@@ -8,7 +8,7 @@ returns : tie.Need-returns
 returns c = answered-enumMember _ _ _ _ (short-enumMember _ _ _ _ (c .if1 .taken))
 
 returns-2 : tie.Need-returns-2
-returns-2 c = tested-enumMember _ _ _ _ _ (enumMember-entry _ _ _ _ (c .before .before .before .before .before .before .before .before .if1 .left)) (c .member-if .ensures) (c .before .before .before .both2 .ensures ∙ rw (c .before .before .before .before .before .both .ensures, c .before .before .before .before .piece-columns .ensures))
+returns-2 c = tested-enumMember _ _ _ _ _ (enumMember-entry _ _ _ _ (search needs)) (c .member-if .ensures) (c .before .before .before .both2 .ensures ∙ rw (c .before .before .before .before .before .both .ensures, c .before .before .before .before .piece-columns .ensures))
 
 pub enum-member-at-spec : {M : Type 1} → statement M
 enum-member-at-spec =

@@ -8,7 +8,7 @@ returns : tie.Need-returns
 returns c = answered-member _ _ _ _ (short-member _ _ _ _ (c .if1 .taken))
 
 returns-2 : tie.Need-returns-2
-returns-2 c = tested-member _ _ _ _ _ (member-entry _ _ _ _ (c .before .before .before .before .before .before .if1 .left)) (c .member-if .ensures) (c .before .before .before .both .ensures ∙ rw (c .before .before .before .before .piece-columns .ensures))
+returns-2 c = tested-member _ _ _ _ _ (member-entry _ _ _ _ (search needs)) (c .member-if .ensures) (c .before .before .before .both .ensures ∙ rw (c .before .before .before .before .piece-columns .ensures))
 
 pub member-at-spec : {M : Type 1} → statement M
 member-at-spec =
