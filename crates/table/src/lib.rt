@@ -1,4 +1,5 @@
-// The check of a lent table, the sizes and address predicates of its type, and the names of its members.
+// The check of a lent table, the sizes and address predicates of its type, the names of its members, and the path that a walk over it
+// carries.
 use primitives::low4;
 use primitives::read_uint;
 use refusal::Refusal;
@@ -77,6 +78,12 @@ pub enum Held {
     Refused(Refusal),
 }
 
+// The rows of the open levels, outermost first: its top is the row at hand.
+pub struct Path {
+    pub rows: [usize; 32],
+    pub depth: usize,
+}
+
 fn zero_note(kind: u32, size: u32) -> u32
     ensures { λ r. ⌜ r ≡ zeroNote kind size ⌝ }
 {
@@ -94,12 +101,6 @@ pub fn either(a: bool, b: bool) -> bool
     ensures { λ r. ⌜ r ≡ (a || b) ⌝ }
 {
     if a { true } else { b }
-}
-
-// The rows of the open levels, outermost first: its top is the row at hand.
-pub struct Path {
-    pub rows: [usize; 32],
-    pub depth: usize,
 }
 
 // One level further down, at a row.
@@ -327,7 +328,7 @@ pub fn survey_type(table: &[u32], pool: &[u8], row: usize, place: usize, levels:
     }
 }
 
-// The same, of a member: a leaf is surveyed without a call of `survey_type`.
+// The same, of a member: a leaf is surveyed without a call of `survey_type`, which reads any other row again.
 fn survey_inner(table: &[u32], pool: &[u8], row: usize, place: usize, levels: usize) -> Surveyed
     ensures { λ r. ⌜ r ≡ surveyOf (typeAt levels (now (table .entry)) (now (pool .entry)) row place) ⌝ }
 {
