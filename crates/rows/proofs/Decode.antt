@@ -1,5 +1,5 @@
 -- The walk of a table by its rows' entries: it is `typeAt`. What is known of a row lies in the table and the pool.
-use Prim.Native.Nat.{ℕ, zero, suc, _+_, _*_, _≤_, max}
+use Prim.Native.Nat.{ℕ, zero, suc, _+_, _*_, _<_, _≤_, max}
 use mathlib.Core.Path.{_≡_, refl, sym, ap, _∙_}
 use mathlib.Core.Bool.{Bool, true, false, cond, _&&_}
 use mathlib.Core.List.{List, [], _∷_}
@@ -7,6 +7,8 @@ use native.Mathlib.Omega.{arith}
 use native.Mathlib.Nat.{add-zero}
 use lib.ListN.{length, getD, take, drop}
 use lib.Dec.{leb}
+use mir.Syntax.{w64}
+use mir.Val.{Fits}
 use borrow.Author.Tests.{leb-true}
 use Rattle.format.specs.Datatype.{Datatype, member}
 use Rattle.format.specs.Table.{row, memberRow, enumMemberRow, Found, found, bad, Walk, andThen, Kind, isFixedPoint, isFloatingPoint, isTime, isString, isBitField, isOpaque, isCompound, isReference, isEnumeration, isVariableLength, isArray, isUnknown, kindOf, membersAt, enumNamesAt, typeAt}
@@ -162,3 +164,42 @@ module _ {m : Member} {x y : ℕ} (w b r p : ℕ) (i : m ≡ Named x y) where
   pub enumNamed-inside : MemberInside m w b r p (enumMemberNameLength m) → (r * 16 + 16 ≤ w) × (p + x ≤ b)
   unfolding MemberInside enumMemberNameLength
   enumNamed-inside h = rw i at h
+
+-- The same in the form of a need: the number of the next row and the place behind a piece do not wrap, and a piece lies in the pool.
+module _ {e : Entry} (w b r p : ℕ) (h : EntryInside e w b r p) where
+  pub leaf-next : {c n l x : ℕ} → e ≡ Leaf c n l x → w < 18446744073709551616 → Fits w64 (r + 1)
+  leaf-next i k = let j = leaf-inside w b r p h i in record { fits = omega arith }
+
+  pub leaf-behind : {c n l x : ℕ} → e ≡ Leaf c n l x → b < 18446744073709551616 → p < 18446744073709551616 → Fits w64 (p + l)
+  leaf-behind i k m = let j = leaf-inside w b r p h i in record { fits = omega arith }
+
+  pub compound-next : {n k : ℕ} → e ≡ Compound n k → w < 18446744073709551616 → Fits w64 (r + 1)
+  compound-next i k = let j = compound-inside w b r p h i in record { fits = omega arith }
+
+  pub enumeration-next : {n k : ℕ} → e ≡ Enumeration n k → w < 18446744073709551616 → Fits w64 (r + 1)
+  enumeration-next i k = let j = enumeration-inside w b r p h i in record { fits = omega arith }
+
+  pub variableLength-next : {i a c : ℕ} → e ≡ VariableLength i a c → w < 18446744073709551616 → Fits w64 (r + 1)
+  variableLength-next i k = let j = variableLength-inside w b r p h i in record { fits = omega arith }
+
+  pub array-next : {k : ℕ} → e ≡ Array k → w < 18446744073709551616 → Fits w64 (r + 1)
+  array-next i k = let j = array-inside w b r p h i in record { fits = omega arith }
+
+  pub array-behind : {k : ℕ} → e ≡ Array k → b < 18446744073709551616 → Fits w64 (p + k * 4)
+  array-behind i k = let j = array-inside w b r p h i in record { fits = omega arith }
+
+  pub array-piece : {k : ℕ} → e ≡ Array k → p + k * 4 ≤ b
+  array-piece i = array-inside w b r p h i .1
+
+module _ {m : Member} {x y : ℕ} (w b r p : ℕ) (i : m ≡ Named x y) where
+  pub named-next : MemberInside m w b r p (memberNameLength m) → w < 18446744073709551616 → Fits w64 (r + 1)
+  named-next h k = let j = named-inside w b r p i h in record { fits = omega arith }
+
+  pub named-behind : MemberInside m w b r p (memberNameLength m) → b < 18446744073709551616 → Fits w64 (p + y)
+  named-behind h k = let j = named-inside w b r p i h in record { fits = omega arith }
+
+  pub enumNamed-next : MemberInside m w b r p (enumMemberNameLength m) → w < 18446744073709551616 → Fits w64 (r + 1)
+  enumNamed-next h k = let j = enumNamed-inside w b r p i h in record { fits = omega arith }
+
+  pub enumNamed-behind : MemberInside m w b r p (enumMemberNameLength m) → b < 18446744073709551616 → Fits w64 (p + x)
+  enumNamed-behind h k = let j = enumNamed-inside w b r p i h in record { fits = omega arith }

@@ -4,7 +4,7 @@ use native.Mathlib.Omega.{arith}
 use borrow.Author.Needs.{needs}
 use lib.ListN.{length}
 use Rattle.format.specs.Table.{typeAt, membersAt}
-use Rattle.rows.proofs.Decode.{leaf-inside, compound-inside, enumeration-inside, array-inside, named-inside}
+use Rattle.rows.proofs.Decode.{enumeration-inside, array-inside, array-behind, array-next, compound-next, leaf-behind, leaf-next, named-behind, named-next}
 use Rattle.table.specs.Path.{topOf}
 use Rattle.compare.proofs.Types.{type-unknown, type-variableLength, type-leaf, type-enumeration, type-compound, type-array-lost, type-array-solid, type-array, base-deeper, standing-entered, read-entered, member-leaf, member-enumeration, member-entered}
 use Rattle.compare.proofs.Inside.{Leads, leads-same, members-end, members-deep, members-unnamed, members-past, members-lost, members-apart, members-next, Done, done-none, entries-end, entries-start, entries-past, entries-lost, entries-apart, entries-next}
@@ -134,10 +134,10 @@ agree-entries-returns-4 : (t : ℕ) → agree-entries-lts.Need-returns-4 (agree-
 agree-entries-returns-4 t c = search entries-end
 
 agree-member-add-t17 : (t : ℕ) → agree-member-lts.Need-add-t17 (agree-member-calls t) (agree-member-at t) agree-member.Post
-agree-member-add-t17 t c = omega (arith, leaf-inside _ _ _ _ (c .before .before .before .known-entry-at .ensures .1) (c .before .entry .given .1))
+agree-member-add-t17 t c = search (leaf-next, leaf-behind, needs)
 
 agree-member-add-t19 : (t : ℕ) → agree-member-lts.Need-add-t19 (agree-member-calls t) (agree-member-at t) agree-member.Post
-agree-member-add-t19 t c = omega (arith, leaf-inside _ _ _ _ (c .before .before .before .known-entry-at .ensures .1) (c .before .entry .given .1))
+agree-member-add-t19 t c = search (leaf-next, leaf-behind, needs)
 
 agree-member-agree-enumeration-requires : (t : ℕ) → agree-member-lts.Need-agree-enumeration-requires (agree-member-calls t) (agree-member-at t) agree-member.Post
 agree-member-agree-enumeration-requires t c κs = (enumeration-inside _ _ _ _ (c .before .before .before .known-entry-at .ensures .1) (c .before .entry2 .given .1), c .before .before .before .before .before .before .before .before .pre .1 .1)
@@ -171,10 +171,10 @@ agree-members-returns-3 : (t : ℕ) → agree-members-lts.Need-returns-3 (agree-
 agree-members-returns-3 t c = search members-past
 
 agree-members-add-agree-member : (t : ℕ) → agree-members-lts.Need-add-agree-member (agree-members-calls t) (agree-members-at t) agree-members.Post agree-members-Inv-loop agree-members-μ-loop
-agree-members-add-agree-member t c = let i = named-inside _ _ _ _ (c .before .before .member .given .1) (c .before .before .before .before .known-member-at .ensures .1) in omega arith
+agree-members-add-agree-member t c = search (named-next, named-behind, needs)
 
 agree-members-add-agree-member-2 : (t : ℕ) → agree-members-lts.Need-add-agree-member-2 (agree-members-calls t) (agree-members-at t) agree-members.Post agree-members-Inv-loop agree-members-μ-loop
-agree-members-add-agree-member-2 t c = let i = named-inside _ _ _ _ (c .before .before .member .given .1) (c .before .before .before .before .known-member-at .ensures .1) in omega arith
+agree-members-add-agree-member-2 t c = search (named-next, named-behind, needs)
 
 agree-members-returns-4 : (t : ℕ) → agree-members-lts.Need-returns-4 (agree-members-calls t) (agree-members-at t) agree-members.Post agree-members-Inv-loop agree-members-μ-loop
 agree-members-returns-4 t c = search members-lost
@@ -189,10 +189,10 @@ agree-members-returns-6 : (t : ℕ) → agree-members-lts.Need-returns-6 (agree-
 agree-members-returns-6 t c = search members-end
 
 agree-type-add-t30 : (t : ℕ) → agree-type-lts.Need-add-t30 (agree-type-calls t) (agree-type-at t) agree-type.Post
-agree-type-add-t30 t c = omega (arith, leaf-inside _ _ _ _ (c .before .before .before .before .before .before .before .before .pre .1 .1 .inside) (c .before .entry .given .1))
+agree-type-add-t30 t c = search (leaf-next, leaf-behind, needs)
 
 agree-type-add-t32 : (t : ℕ) → agree-type-lts.Need-add-t32 (agree-type-calls t) (agree-type-at t) agree-type.Post
-agree-type-add-t32 t c = omega (arith, leaf-inside _ _ _ _ (c .before .before .before .before .before .before .before .before .pre .1 .1 .inside) (c .before .entry .given .1))
+agree-type-add-t32 t c = search (leaf-next, leaf-behind, needs)
 
 agree-type-agree-enumeration-requires : (t : ℕ) → agree-type-lts.Need-agree-enumeration-requires (agree-type-calls t) (agree-type-at t) agree-type.Post
 agree-type-agree-enumeration-requires t c κs =
@@ -200,13 +200,13 @@ agree-type-agree-enumeration-requires t c κs =
     (enumeration-inside _ _ _ _ (p .1 .inside) (c .before .entry2 .given .1), (p .0 .begins, p .0 .lengths))
 
 agree-type-add-agree-members : (t : ℕ) → agree-type-lts.Need-add-agree-members (agree-type-calls t) (agree-type-at t) agree-type.Post
-agree-type-add-agree-members t c = omega (arith, compound-inside _ _ _ _ (c .before .before .before .before .before .before .before .before .pre .1 .1 .inside) (c .before .entry3 .given .1))
+agree-type-add-agree-members t c = search (compound-next, needs)
 
 agree-type-add-below : (t : ℕ) → agree-type-lts.Need-add-below (agree-type-calls t) (agree-type-at t) agree-type.Post
-agree-type-add-below t c = let i = array-inside _ _ _ _ (c .before .before .before .before .before .before .before .before .pre .1 .1 .inside) (c .before .entry4 .given .1) in omega arith
+agree-type-add-below t c = search (array-next, array-behind, needs)
 
 agree-type-add-inner : (t : ℕ) → agree-type-lts.Need-add-inner (agree-type-calls t) (agree-type-at t) agree-type.Post
-agree-type-add-inner t c = let i = array-inside _ _ _ _ (c .before .before .before .before .before .before .before .before .pre .1 .1 .inside) (c .before .entry4 .given .1) in omega arith
+agree-type-add-inner t c = search (array-next, array-behind, needs)
 
 agree-type-array-base-requires : (t : ℕ) → agree-type-lts.Need-array-base-requires (agree-type-calls t) (agree-type-at t) agree-type.Post
 agree-type-array-base-requires t c κs = array-inside _ _ _ _ (c .before .before .before .before .before .before .before .before .pre .1 .1 .inside) (c .before .entry4 .given .1)

@@ -2,7 +2,7 @@ use Rattle.listing.proofs.Pieces.{name-in}
 use native.Mathlib.Omega.{arith}
 use Rattle.format.specs.Table.{typeAt}
 use Rattle.listing.specs.Puts.{NameInside}
-use Rattle.rows.proofs.Decode.{named-inside}
+use Rattle.rows.proofs.Decode.{named-inside, named-behind, named-next}
 use Rattle.listing.proofs.Shapes.{members-row, base-row}
 use Rattle.listing.proofs.Lines.{MembersLeft, members-begun, members-ended, members-unnamed, members-next, type-shallow, type-plain, type-members, type-base}
 use borrow.Author.Needs.{needs}
@@ -63,16 +63,16 @@ put-members-returns : (t : ℕ) → put-members-lts.Need-returns (put-members-ca
 put-members-returns t c = search members-unnamed
 
 put-members-add-from : (t : ℕ) → put-members-lts.Need-add-from (put-members-calls t) (put-members-at t) put-members.Post put-members-Inv-loop put-members-μ-loop
-put-members-add-from t c = omega (arith, named-inside _ _ _ _ ((c .before .member) .given .1) ((c .before .before .before .member-at) .ensures .1))
+put-members-add-from t c = search (named-next, named-behind, needs)
 
 put-members-add-put-type : (t : ℕ) → put-members-lts.Need-add-put-type (put-members-calls t) (put-members-at t) put-members.Post put-members-Inv-loop put-members-μ-loop
-put-members-add-put-type t c = omega (arith, named-inside _ _ _ _ ((c .before .member) .given .1) ((c .before .before .before .member-at) .ensures .1))
+put-members-add-put-type t c = search (named-next, named-behind, needs)
 
 put-members-put-type-requires : (t : ℕ) → put-members-lts.Need-put-type-requires (put-members-calls t) (put-members-at t) put-members.Post put-members-Inv-loop put-members-μ-loop
 put-members-put-type-requires t c κs = (search needs, (search needs, name-in _ _ _ (named-inside _ _ _ _ ((c .before .before .member) .given .1) ((c .before .before .before .before .member-at) .ensures .1) .1)))
 
 put-members-add-extent-at : (t : ℕ) → put-members-lts.Need-add-extent-at (put-members-calls t) (put-members-at t) put-members.Post put-members-Inv-loop put-members-μ-loop
-put-members-add-extent-at t c = omega (arith, named-inside _ _ _ _ ((c .before .before .before .before .before .member) .given .1) ((c .before .before .before .before .before .before .before .member-at) .ensures .1))
+put-members-add-extent-at t c = search (named-next, named-behind, needs)
 
 put-members-loop-again : (t : ℕ) → put-members-lts.Need-loop-again (put-members-calls t) (put-members-at t) put-members.Post put-members-Inv-loop put-members-μ-loop
 put-members-loop-again t c = search members-next

@@ -1,12 +1,12 @@
 use native.Mathlib.Omega.{arith}
-use Rattle.rows.proofs.Decode.{array-inside}
+use Rattle.rows.proofs.Decode.{array-behind, array-next}
 use Rattle.listing.proofs.Shapes.{inside-unknown, inside-leaf, inside-compound, inside-enumeration, inside-variable, inside-array}
 use borrow.Author.Needs.{needs}
 use Rattle.listing.proofs.inside_at.Statement.{statement}
 use Rattle.listing.proofs.inside_at.Tie as tie
 
 add-t11 : tie.Need-add-t11
-add-t11 c = omega (arith, array-inside _ _ _ _ ((c .before .before .before .entry-at) .ensures .1) ((c .before .entry2) .given .1))
+add-t11 c = search (array-next, array-behind, needs)
 
 returns : tie.Need-returns
 returns c = search inside-unknown

@@ -3,7 +3,7 @@ use mathlib.Core.Path.{_≡_, refl}
 use native.Mathlib.Omega.{arith}
 use borrow.Author.Needs.{needs}
 use Rattle.format.specs.Table.{typeAt, membersAt}
-use Rattle.rows.proofs.Decode.{leaf-inside, compound-inside, enumeration-inside, variableLength-inside, array-inside, named-inside}
+use Rattle.rows.proofs.Decode.{leaf-inside, array-inside, named-inside, array-behind, array-next, compound-next, enumeration-next, named-behind, named-next, variableLength-next}
 use Rattle.measure.specs.Measure.{measureIn}
 use Rattle.measure.proofs.Measures.{gathered, type-none, type-unknown, type-leaf, type-compound-lost, type-compound, type-enumeration-lost, type-unlisted, type-enumeration, type-variableLength-lost, type-variableLength, type-array-lost, type-array, members-start, members-unnamed, members-lost, members-next, member-size, member-short, members-end}
 use Prim.Native.Nat.{ℕ, _<_}
@@ -117,10 +117,10 @@ measure-members-returns : (t : ℕ) → measure-members-lts.Need-returns (measur
 measure-members-returns t c = search members-unnamed
 
 measure-members-add-end : (t : ℕ) → measure-members-lts.Need-add-end (measure-members-calls t) (measure-members-at t) measure-members.Post measure-members-Inv-loop measure-members-μ-loop
-measure-members-add-end t c = let i = named-inside _ _ _ _ ((c .before .member) .given .1) ((c .before .before .before .member-at) .ensures .1) in omega arith
+measure-members-add-end t c = search (named-next, named-behind, needs)
 
 measure-members-add-measure-inner : (t : ℕ) → measure-members-lts.Need-add-measure-inner (measure-members-calls t) (measure-members-at t) measure-members.Post measure-members-Inv-loop measure-members-μ-loop
-measure-members-add-measure-inner t c = let i = named-inside _ _ _ _ ((c .before .member) .given .1) ((c .before .before .before .member-at) .ensures .1) in omega arith
+measure-members-add-measure-inner t c = search (named-next, named-behind, needs)
 
 measure-members-returns-2 : (t : ℕ) → measure-members-lts.Need-returns-2 (measure-members-calls t) (measure-members-at t) measure-members.Post measure-members-Inv-loop measure-members-μ-loop
 measure-members-returns-2 t c = search members-lost
@@ -141,10 +141,10 @@ measure-type-leaf-measure-requires : (t : ℕ) → measure-type-lts.Need-leaf-me
 measure-type-leaf-measure-requires t c κs = let i = leaf-inside _ _ _ _ ((c .before .before .before .entry-at) .ensures .1) ((c .before .entry) .given .1) in (i .0, omega arith)
 
 measure-type-add-measure-members : (t : ℕ) → measure-type-lts.Need-add-measure-members (measure-type-calls t) (measure-type-at t) measure-type.Post
-measure-type-add-measure-members t c = let i = compound-inside _ _ _ _ ((c .before .before .before .entry-at) .ensures .1) ((c .before .entry2) .given .1) in omega arith
+measure-type-add-measure-members t c = search (compound-next, needs)
 
 measure-type-add-measure-type : (t : ℕ) → measure-type-lts.Need-add-measure-type (measure-type-calls t) (measure-type-at t) measure-type.Post
-measure-type-add-measure-type t c = let i = enumeration-inside _ _ _ _ ((c .before .before .before .entry-at) .ensures .1) ((c .before .entry3) .given .1) in omega arith
+measure-type-add-measure-type t c = search (enumeration-next, needs)
 
 measure-type-measure-enum-members-requires :
     (t : ℕ) → measure-type-lts.Need-measure-enum-members-requires (
@@ -193,16 +193,16 @@ measure-type-enumeration-measure-requires :
 measure-type-enumeration-measure-requires t c κs = search needs
 
 measure-type-add-measure-type-2 : (t : ℕ) → measure-type-lts.Need-add-measure-type-2 (measure-type-calls t) (measure-type-at t) measure-type.Post
-measure-type-add-measure-type-2 t c = let i = variableLength-inside _ _ _ _ ((c .before .before .before .entry-at) .ensures .1) ((c .before .entry4) .given .1) in omega arith
+measure-type-add-measure-type-2 t c = search (variableLength-next, needs)
 
 measure-type-add-measure-type-3 : (t : ℕ) → measure-type-lts.Need-add-measure-type-3 (measure-type-calls t) (measure-type-at t) measure-type.Post
-measure-type-add-measure-type-3 t c = let i = array-inside _ _ _ _ ((c .before .before .before .entry-at) .ensures .1) ((c .before .entry5) .given .1) in omega arith
+measure-type-add-measure-type-3 t c = search (array-next, array-behind, needs)
 
 measure-type-mul-measure-type : (t : ℕ) → measure-type-lts.Need-mul-measure-type (measure-type-calls t) (measure-type-at t) measure-type.Post
-measure-type-mul-measure-type t c = let i = array-inside _ _ _ _ ((c .before .before .before .entry-at) .ensures .1) ((c .before .entry5) .given .1) in omega arith
+measure-type-mul-measure-type t c = search (array-next, array-behind, needs)
 
 measure-type-add-measure-type-4 : (t : ℕ) → measure-type-lts.Need-add-measure-type-4 (measure-type-calls t) (measure-type-at t) measure-type.Post
-measure-type-add-measure-type-4 t c = let i = array-inside _ _ _ _ ((c .before .before .before .entry-at) .ensures .1) ((c .before .entry5) .given .1) in omega arith
+measure-type-add-measure-type-4 t c = search (array-next, array-behind, needs)
 
 measure-type-array-measure-requires : (t : ℕ) → measure-type-lts.Need-array-measure-requires (measure-type-calls t) (measure-type-at t) measure-type.Post
 measure-type-array-measure-requires t c κs = let i = array-inside _ _ _ _ ((c .before .before .before .before .before .before .before .entry-at) .ensures .1) ((c .before .before .before .before .before .entry5) .given .1) in i .1

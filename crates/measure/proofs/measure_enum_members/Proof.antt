@@ -4,7 +4,7 @@ use native.Mathlib.Omega.{arith}
 use borrow.Author.Needs.{needs}
 use lib.ListN.{length}
 use Rattle.format.specs.Table.{enumNamesAt}
-use Rattle.rows.proofs.Decode.{enumNamed-inside}
+use Rattle.rows.proofs.Decode.{enumNamed-inside, enumNamed-behind, enumNamed-next}
 use Rattle.measure.specs.Measure.{enumMeasureOf}
 use Rattle.measure.proofs.Listed.{listed, listed-none, listed-start, listed-unnamed, listed-past-pool, listed-next, listed-behind, listed-lost, listed-ended}
 use Rattle.measure.proofs.measure_enum_members.Statement.{statement}
@@ -29,16 +29,16 @@ returns-3 : tie.Need-returns-3 Inv-loop μ-loop
 returns-3 c = search listed-past-pool
 
 add-valid-name : tie.Need-add-valid-name Inv-loop μ-loop
-add-valid-name c = let i = enumNamed-inside _ _ _ _ ((c .before .before .member) .given .1) ((c .before .before .before .before .enum-member-at) .ensures .1) in omega arith
+add-valid-name c = search (enumNamed-next, enumNamed-behind, needs)
 
 valid-name-requires : tie.Need-valid-name-requires Inv-loop μ-loop
 valid-name-requires c κs = let i = enumNamed-inside _ _ _ _ ((c .before .before .member) .given .1) ((c .before .before .before .before .enum-member-at) .ensures .1) in (omega arith, omega arith)
 
 add-r : tie.Need-add-r Inv-loop μ-loop
-add-r c = let i = enumNamed-inside _ _ _ _ ((c .before .before .before .before .before .before .before .member) .given .1) ((c .before .before .before .before .before .before .before .before .before .enum-member-at) .ensures .1) in omega arith
+add-r c = search (enumNamed-next, enumNamed-behind, needs)
 
 add-p : tie.Need-add-p Inv-loop μ-loop
-add-p c = let i = enumNamed-inside _ _ _ _ ((c .before .before .before .before .before .before .before .member) .given .1) ((c .before .before .before .before .before .before .before .before .before .enum-member-at) .ensures .1) in omega arith
+add-p c = search (enumNamed-next, enumNamed-behind, needs)
 
 loop-again : tie.Need-loop-again Inv-loop μ-loop
 loop-again c =

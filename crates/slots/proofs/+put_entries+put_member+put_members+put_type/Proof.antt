@@ -2,7 +2,7 @@ use Prim.Native.Nat.{ℕ, _<_, _+_, _-_, _*_}
 use native.Mathlib.Omega.{arith}
 use borrow.Author.Needs.{needs}
 use Rattle.format.specs.Table.{typeAt, membersAt}
-use Rattle.rows.proofs.Decode.{compound-inside, array-inside, named-inside}
+use Rattle.rows.proofs.Decode.{array-behind, array-next, array-piece, compound-next, named-behind, named-next}
 use Rattle.table.specs.Path.{topOf}
 use Rattle.slots.proofs.Listing.{type-unknown, type-enumeration, type-variableLength, type-leaf-other, type-leaf-full, type-leaf, type-compound, type-array-deep, type-array-unsound, type-array-none, type-array, member-none, member-far, member-put}
 use Rattle.slots.proofs.ListingInside.{Puts, members-start, members-deep, members-unnamed, members-unsound, members-next, members-end, PutsEach, entries-start, entries-far, entries-next, entries-end}
@@ -130,16 +130,16 @@ put-members-returns-2 : (t : ℕ) → put-members-lts.Need-returns-2 (put-member
 put-members-returns-2 t c = search members-unnamed
 
 put-members-add-inner : (t : ℕ) → put-members-lts.Need-add-inner (put-members-calls t) (put-members-at t) put-members.Post put-members-Inv-loop put-members-μ-loop
-put-members-add-inner t c = let i = named-inside _ _ _ _ (c .before .member .given .1) (c .before .before .before .member-at .ensures .1) in omega arith
+put-members-add-inner t c = search (named-next, named-behind, needs)
 
 put-members-add-survey-type : (t : ℕ) → put-members-lts.Need-add-survey-type (put-members-calls t) (put-members-at t) put-members.Post put-members-Inv-loop put-members-μ-loop
-put-members-add-survey-type t c = let i = named-inside _ _ _ _ (c .before .member .given .1) (c .before .before .before .member-at .ensures .1) in omega arith
+put-members-add-survey-type t c = search (named-next, named-behind, needs)
 
 put-members-returns-3 : (t : ℕ) → put-members-lts.Need-returns-3 (put-members-calls t) (put-members-at t) put-members.Post put-members-Inv-loop put-members-μ-loop
 put-members-returns-3 t c = search members-unsound
 
 put-members-add-put-member : (t : ℕ) → put-members-lts.Need-add-put-member (put-members-calls t) (put-members-at t) put-members.Post put-members-Inv-loop put-members-μ-loop
-put-members-add-put-member t c = omega (arith, named-inside _ _ _ _ (c .before .before .before .before .before .member .given .1) (c .before .before .before .before .before .before .before .member-at .ensures .1) .0)
+put-members-add-put-member t c = search (named-next, named-behind, needs)
 
 put-members-loop-again : (t : ℕ) → put-members-lts.Need-loop-again (put-members-calls t) (put-members-at t) put-members.Post put-members-Inv-loop put-members-μ-loop
 put-members-loop-again t c = search members-next
@@ -154,25 +154,25 @@ put-type-returns-2 : (t : ℕ) → put-type-lts.Need-returns-2 (put-type-calls t
 put-type-returns-2 t c = search type-leaf-full
 
 put-type-add-put-members : (t : ℕ) → put-type-lts.Need-add-put-members (put-type-calls t) (put-type-at t) put-type.Post
-put-type-add-put-members t c = omega (arith, compound-inside _ _ _ _ (c .before .before .before .entry-at .ensures .1) (c .before .entry2 .given .1))
+put-type-add-put-members t c = search (compound-next, needs)
 
 put-type-returns-3 : (t : ℕ) → put-type-lts.Need-returns-3 (put-type-calls t) (put-type-at t) put-type.Post
 put-type-returns-3 t c = search type-array-deep
 
 put-type-add-inner : (t : ℕ) → put-type-lts.Need-add-inner (put-type-calls t) (put-type-at t) put-type.Post
-put-type-add-inner t c = let i = array-inside _ _ _ _ (c .before .before .before .before .entry-at .ensures .1) (c .before .before .entry3 .given .1) in omega arith
+put-type-add-inner t c = search (array-next, array-behind, needs)
 
 put-type-add-survey-type : (t : ℕ) → put-type-lts.Need-add-survey-type (put-type-calls t) (put-type-at t) put-type.Post
-put-type-add-survey-type t c = let i = array-inside _ _ _ _ (c .before .before .before .before .entry-at .ensures .1) (c .before .before .entry3 .given .1) in omega arith
+put-type-add-survey-type t c = search (array-next, array-behind, needs)
 
 put-type-returns-4 : (t : ℕ) → put-type-lts.Need-returns-4 (put-type-calls t) (put-type-at t) put-type.Post
 put-type-returns-4 t c = search type-array-none
 
 put-type-add-enter : (t : ℕ) → put-type-lts.Need-add-enter (put-type-calls t) (put-type-at t) put-type.Post
-put-type-add-enter t c = omega (arith, array-inside _ _ _ _ (c .before .before .before .before .before .before .before .before .before .before .entry-at .ensures .1) (c .before .before .before .before .before .before .before .before .entry3 .given .1) .0)
+put-type-add-enter t c = search (array-next, array-behind, needs)
 
 put-type-scaled-requires : (t : ℕ) → put-type-lts.Need-scaled-requires (put-type-calls t) (put-type-at t) put-type.Post
-put-type-scaled-requires t c κs = array-inside _ _ _ _ (c .before .before .before .before .before .before .before .before .before .before .before .entry-at .ensures .1) (c .before .before .before .before .before .before .before .before .before .entry3 .given .1) .1
+put-type-scaled-requires t c κs = search array-piece
 
 put-type-put-entries-requires : (t : ℕ) → put-type-lts.Need-put-entries-requires (put-type-calls t) (put-type-at t) put-type.Post
 put-type-put-entries-requires t c κs =

@@ -2,7 +2,7 @@ use Prim.Native.Nat.{ℕ, _<_, _+_, _*_}
 use native.Mathlib.Omega.{arith}
 use borrow.Author.Needs.{needs}
 use Rattle.format.specs.Table.{typeAt, membersAt}
-use Rattle.rows.proofs.Decode.{leaf-inside, compound-inside, array-inside, named-inside}
+use Rattle.rows.proofs.Decode.{array-behind, array-next, array-piece, compound-next, leaf-behind, leaf-next, named-behind, named-next}
 use Rattle.slots.proofs.Tallying.{type-none, type-unknown, type-leaf, type-compound, type-enumeration, type-variableLength, type-array-lost, type-array, Counts, members-start, members-unnamed, members-lost, members-next, members-end}
 use borrow.Fn.Kinds.{In}
 use borrow.Fn.PlainCycle.{Measures, is, falls, and}
@@ -71,10 +71,10 @@ tally-members-returns : (t : ℕ) → tally-members-lts.Need-returns (tally-memb
 tally-members-returns t c = search members-unnamed
 
 tally-members-add-tally-type : (t : ℕ) → tally-members-lts.Need-add-tally-type (tally-members-calls t) (tally-members-at t) tally-members.Post tally-members-Inv-loop tally-members-μ-loop
-tally-members-add-tally-type t c = let i = named-inside _ _ _ _ (c .before .member .given .1) (c .before .before .before .member-at .ensures .1) in omega arith
+tally-members-add-tally-type t c = search (named-next, named-behind, needs)
 
 tally-members-add-tally-type-2 : (t : ℕ) → tally-members-lts.Need-add-tally-type-2 (tally-members-calls t) (tally-members-at t) tally-members.Post tally-members-Inv-loop tally-members-μ-loop
-tally-members-add-tally-type-2 t c = let i = named-inside _ _ _ _ (c .before .member .given .1) (c .before .before .before .member-at .ensures .1) in omega arith
+tally-members-add-tally-type-2 t c = search (named-next, named-behind, needs)
 
 tally-members-returns-2 : (t : ℕ) → tally-members-lts.Need-returns-2 (tally-members-calls t) (tally-members-at t) tally-members.Post tally-members-Inv-loop tally-members-μ-loop
 tally-members-returns-2 t c = search members-lost
@@ -89,25 +89,25 @@ tally-type-returns : (t : ℕ) → tally-type-lts.Need-returns (tally-type-calls
 tally-type-returns t c = search type-none
 
 tally-type-add-leaf-tally : (t : ℕ) → tally-type-lts.Need-add-leaf-tally (tally-type-calls t) (tally-type-at t) tally-type.Post
-tally-type-add-leaf-tally t c = omega (arith, leaf-inside _ _ _ _ (c .before .before .before .entry-at .ensures .1) (c .before .entry .given .1))
+tally-type-add-leaf-tally t c = search (leaf-next, leaf-behind, needs)
 
 tally-type-add-leaf-tally-2 : (t : ℕ) → tally-type-lts.Need-add-leaf-tally-2 (tally-type-calls t) (tally-type-at t) tally-type.Post
-tally-type-add-leaf-tally-2 t c = omega (arith, leaf-inside _ _ _ _ (c .before .before .before .entry-at .ensures .1) (c .before .entry .given .1))
+tally-type-add-leaf-tally-2 t c = search (leaf-next, leaf-behind, needs)
 
 tally-type-add-tally-members : (t : ℕ) → tally-type-lts.Need-add-tally-members (tally-type-calls t) (tally-type-at t) tally-type.Post
-tally-type-add-tally-members t c = omega (arith, compound-inside _ _ _ _ (c .before .before .before .entry-at .ensures .1) (c .before .entry2 .given .1))
+tally-type-add-tally-members t c = search (compound-next, needs)
 
 tally-type-add-inner : (t : ℕ) → tally-type-lts.Need-add-inner (tally-type-calls t) (tally-type-at t) tally-type.Post
-tally-type-add-inner t c = let i = array-inside _ _ _ _ (c .before .before .before .entry-at .ensures .1) (c .before .entry3 .given .1) in omega arith
+tally-type-add-inner t c = search (array-next, array-behind, needs)
 
 tally-type-add-tally-type : (t : ℕ) → tally-type-lts.Need-add-tally-type (tally-type-calls t) (tally-type-at t) tally-type.Post
-tally-type-add-tally-type t c = let i = array-inside _ _ _ _ (c .before .before .before .entry-at .ensures .1) (c .before .entry3 .given .1) in omega arith
+tally-type-add-tally-type t c = search (array-next, array-behind, needs)
 
 tally-type-add-tally-entries : (t : ℕ) → tally-type-lts.Need-add-tally-entries (tally-type-calls t) (tally-type-at t) tally-type.Post
-tally-type-add-tally-entries t c = omega (arith, array-inside _ _ _ _ (c .before .before .before .before .before .before .before .entry-at .ensures .1) (c .before .before .before .before .before .entry3 .given .1) .0)
+tally-type-add-tally-entries t c = search (array-next, array-behind, needs)
 
 tally-type-scaled-requires : (t : ℕ) → tally-type-lts.Need-scaled-requires (tally-type-calls t) (tally-type-at t) tally-type.Post
-tally-type-scaled-requires t c κs = array-inside _ _ _ _ (c .before .before .before .before .before .before .before .entry-at .ensures .1) (c .before .before .before .before .before .entry3 .given .1) .1
+tally-type-scaled-requires t c κs = search array-piece
 
 tally-type-tally-entries-requires : (t : ℕ) → tally-type-lts.Need-tally-entries-requires (tally-type-calls t) (tally-type-at t) tally-type.Post
 tally-type-tally-entries-requires t c κs = omega (arith, c .scaled .ensures)

@@ -3,7 +3,7 @@ use mathlib.Core.Path.{_≡_}
 use native.Mathlib.Omega.{arith}
 use borrow.Author.Needs.{needs}
 use Rattle.format.specs.Table.{typeAt, membersAt}
-use Rattle.rows.proofs.Decode.{leaf-inside, compound-inside, enumeration-inside, variableLength-inside, array-inside, named-inside}
+use Rattle.rows.proofs.Decode.{leaf-inside, compound-next, array-behind, array-next, array-piece, enumeration-next, named-behind, named-next, variableLength-next}
 use Rattle.table.specs.Survey.{surveyIn}
 use Rattle.table.proofs.Surveys.{leaf-class, type-none, type-unknown, type-leaf, type-compound, type-enumeration-unsound, type-enumeration-lost, type-enumeration, type-variableLength-unsound, type-variableLength, type-array-unsound, type-array, gathered, members-start, members-unnamed, members-unsound, members-next, members-end}
 use borrow.Fn.Kinds.{In}
@@ -97,10 +97,10 @@ survey-members-returns : (t : ℕ) → survey-members-lts.Need-returns (survey-m
 survey-members-returns t c = search members-unnamed
 
 survey-members-add-survey-inner : (t : ℕ) → survey-members-lts.Need-add-survey-inner (survey-members-calls t) (survey-members-at t) survey-members.Post survey-members-Inv-loop survey-members-μ-loop
-survey-members-add-survey-inner t c = let i = named-inside _ _ _ _ (c .before .member .given .1) (c .before .before .before .member-at .ensures .1) in omega arith
+survey-members-add-survey-inner t c = search (named-next, named-behind, needs)
 
 survey-members-add-survey-inner-2 : (t : ℕ) → survey-members-lts.Need-add-survey-inner-2 (survey-members-calls t) (survey-members-at t) survey-members.Post survey-members-Inv-loop survey-members-μ-loop
-survey-members-add-survey-inner-2 t c = let i = named-inside _ _ _ _ (c .before .member .given .1) (c .before .before .before .member-at .ensures .1) in omega arith
+survey-members-add-survey-inner-2 t c = search (named-next, named-behind, needs)
 
 survey-members-returns-2 : (t : ℕ) → survey-members-lts.Need-returns-2 (survey-members-calls t) (survey-members-at t) survey-members.Post survey-members-Inv-loop survey-members-μ-loop
 survey-members-returns-2 t c = search members-unsound
@@ -121,22 +121,22 @@ survey-type-leaf-survey-requires t c κs =
     (omega arith, (omega arith, k))
 
 survey-type-add-survey-members : (t : ℕ) → survey-type-lts.Need-add-survey-members (survey-type-calls t) (survey-type-at t) survey-type.Post
-survey-type-add-survey-members t c = omega (arith, compound-inside _ _ _ _ (c .before .before .before .entry-at .ensures .1) (c .before .entry2 .given .1))
+survey-type-add-survey-members t c = search (compound-next, needs)
 
 survey-type-add-survey-type : (t : ℕ) → survey-type-lts.Need-add-survey-type (survey-type-calls t) (survey-type-at t) survey-type.Post
-survey-type-add-survey-type t c = omega (arith, enumeration-inside _ _ _ _ (c .before .before .before .entry-at .ensures .1) (c .before .entry3 .given .1))
+survey-type-add-survey-type t c = search (enumeration-next, needs)
 
 survey-type-add-survey-type-2 : (t : ℕ) → survey-type-lts.Need-add-survey-type-2 (survey-type-calls t) (survey-type-at t) survey-type.Post
-survey-type-add-survey-type-2 t c = omega (arith, variableLength-inside _ _ _ _ (c .before .before .entry-at .ensures .1) (c .enum-told4 .given .1))
+survey-type-add-survey-type-2 t c = search (variableLength-next, needs)
 
 survey-type-add-survey-type-3 : (t : ℕ) → survey-type-lts.Need-add-survey-type-3 (survey-type-calls t) (survey-type-at t) survey-type.Post
-survey-type-add-survey-type-3 t c = let i = array-inside _ _ _ _ (c .before .before .before .entry-at .ensures .1) (c .before .entry4 .given .1) in omega arith
+survey-type-add-survey-type-3 t c = search (array-next, array-behind, needs)
 
 survey-type-add-survey-type-4 : (t : ℕ) → survey-type-lts.Need-add-survey-type-4 (survey-type-calls t) (survey-type-at t) survey-type.Post
-survey-type-add-survey-type-4 t c = let i = array-inside _ _ _ _ (c .before .before .before .entry-at .ensures .1) (c .before .entry4 .given .1) in omega arith
+survey-type-add-survey-type-4 t c = search (array-next, array-behind, needs)
 
 survey-type-array-survey-requires : (t : ℕ) → survey-type-lts.Need-array-survey-requires (survey-type-calls t) (survey-type-at t) survey-type.Post
-survey-type-array-survey-requires t c κs = array-inside _ _ _ _ (c .before .before .before .before .before .before .before .entry-at .ensures .1) (c .before .before .before .before .before .entry4 .given .1) .1
+survey-type-array-survey-requires t c κs = search array-piece
 
 survey-type-returns-2 : (t : ℕ) → survey-type-lts.Need-returns-2 (survey-type-calls t) (survey-type-at t) survey-type.Post
 survey-type-returns-2 t c = search type-unknown

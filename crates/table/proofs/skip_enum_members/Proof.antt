@@ -4,7 +4,7 @@ use native.Mathlib.Omega.{arith}
 use borrow.Author.Needs.{needs}
 use lib.ListN.{length}
 use Rattle.format.specs.Table.{enumNamesAt}
-use Rattle.rows.proofs.Decode.{enumNamed-inside}
+use Rattle.rows.proofs.Decode.{enumNamed-behind, enumNamed-next}
 use Rattle.table.specs.Survey.{enumSpotOf}
 use Rattle.table.proofs.Skipping.{valuesEnd, skip-none, skip-start, skip-unnamed, skip-next, skip-past, skip-behind, skip-lost, skip-ended}
 use Rattle.table.proofs.skip_enum_members.Statement.{statement}
@@ -30,14 +30,10 @@ returns-3 : tie.Need-returns-3 Inv-loop μ-loop
 returns-3 c = search skip-past
 
 add-r : tie.Need-add-r Inv-loop μ-loop
-add-r c =
-    let i = enumNamed-inside _ _ _ _ (c .before .before .member .given .1) (c .before .before .before .before .enum-member-at .ensures .1) in
-    omega arith
+add-r c = search (enumNamed-next, enumNamed-behind, needs)
 
 add-p : tie.Need-add-p Inv-loop μ-loop
-add-p c =
-    let i = enumNamed-inside _ _ _ _ (c .before .before .member .given .1) (c .before .before .before .before .enum-member-at .ensures .1) in
-    omega arith
+add-p c = search (enumNamed-next, enumNamed-behind, needs)
 
 loop-again : tie.Need-loop-again Inv-loop μ-loop
 loop-again c = (omega arith, search skip-next)

@@ -3,7 +3,7 @@ use native.Mathlib.Omega.{arith}
 use borrow.Author.Needs.{needs}
 use lib.ListN.{getD}
 use Rattle.format.specs.Table.{typeAt}
-use Rattle.rows.proofs.Decode.{named-inside, leaf-inside, compound-inside, enumeration-inside, variableLength-inside, array-inside}
+use Rattle.rows.proofs.Decode.{leaf-inside, array-behind, array-next, compound-next, enumeration-next, named-behind, named-next, variableLength-next}
 use Rattle.writer.proofs.Compounds.{MembersLeft, members-begun, members-ended, members-unnamed, members-full, members-lost, members-next}
 use Rattle.writer.proofs.Types.{type-shallow, type-unknown, type-leaf, type-compound-full, type-compound, type-enumeration-full, type-enumeration-lost, type-enumeration, type-variable-full, type-variable, type-array-full, type-array}
 use borrow.Fn.Kinds.{In}
@@ -97,10 +97,10 @@ put-members-returns-2 : (t : ℕ) → put-members-lts.Need-returns-2 (put-member
 put-members-returns-2 t c = search members-full
 
 put-members-add-from : (t : ℕ) → put-members-lts.Need-add-from (put-members-calls t) (put-members-at t) put-members.Post put-members-Inv-loop put-members-μ-loop
-put-members-add-from t c = omega (arith, named-inside _ _ _ _ ((c .before .before .before .before .before .before .before .before .member) .given .1) ((c .before .before .before .before .before .before .before .before .before .before .known-member-at) .ensures .1))
+put-members-add-from t c = search (named-next, named-behind, needs)
 
 put-members-add-put-inner : (t : ℕ) → put-members-lts.Need-add-put-inner (put-members-calls t) (put-members-at t) put-members.Post put-members-Inv-loop put-members-μ-loop
-put-members-add-put-inner t c = omega (arith, named-inside _ _ _ _ ((c .before .before .before .before .before .before .before .before .member) .given .1) ((c .before .before .before .before .before .before .before .before .before .before .known-member-at) .ensures .1))
+put-members-add-put-inner t c = search (named-next, named-behind, needs)
 
 put-members-returns-3 : (t : ℕ) → put-members-lts.Need-returns-3 (put-members-calls t) (put-members-at t) put-members.Post put-members-Inv-loop put-members-μ-loop
 put-members-returns-3 t c = search members-lost
@@ -118,19 +118,19 @@ put-type-put-leaf-requires : (t : ℕ) → put-type-lts.Need-put-leaf-requires (
 put-type-put-leaf-requires t c κs = leaf-inside _ _ _ _ ((c .before .before .before .before .known-entry-at) .ensures .1) ((c .before .before .entry) .given .1)
 
 put-type-add-put-members : (t : ℕ) → put-type-lts.Need-add-put-members (put-type-calls t) (put-type-at t) put-type.Post
-put-type-add-put-members t c = omega (arith, compound-inside _ _ _ _ ((c .before .before .before .before .before .before .before .before .before .before .known-entry-at) .ensures .1) ((c .before .before .before .before .before .before .before .before .entry2) .given .1))
+put-type-add-put-members t c = search (compound-next, needs)
 
 put-type-add-put-type : (t : ℕ) → put-type-lts.Need-add-put-type (put-type-calls t) (put-type-at t) put-type.Post
-put-type-add-put-type t c = omega (arith, enumeration-inside _ _ _ _ ((c .before .before .before .before .before .before .before .before .before .before .known-entry-at) .ensures .1) ((c .before .before .before .before .before .before .before .before .entry3) .given .1))
+put-type-add-put-type t c = search (enumeration-next, needs)
 
 put-type-add-put-type-2 : (t : ℕ) → put-type-lts.Need-add-put-type-2 (put-type-calls t) (put-type-at t) put-type.Post
-put-type-add-put-type-2 t c = omega (arith, variableLength-inside _ _ _ _ ((c .before .before .before .before .before .before .before .before .before .before .known-entry-at) .ensures .1) ((c .before .before .before .before .before .before .before .before .entry4) .given .1))
+put-type-add-put-type-2 t c = search (variableLength-next, needs)
 
 put-type-add-from : (t : ℕ) → put-type-lts.Need-add-from (put-type-calls t) (put-type-at t) put-type.Post
-put-type-add-from t c = omega (arith, array-inside _ _ _ _ ((c .before .before .before .before .before .before .before .before .before .before .before .known-entry-at) .ensures .1) ((c .before .before .before .before .before .before .before .before .before .entry5) .given .1))
+put-type-add-from t c = search (array-next, array-behind, needs)
 
 put-type-add-put-type-3 : (t : ℕ) → put-type-lts.Need-add-put-type-3 (put-type-calls t) (put-type-at t) put-type.Post
-put-type-add-put-type-3 t c = omega (arith, array-inside _ _ _ _ ((c .before .before .before .before .before .before .before .before .before .before .before .known-entry-at) .ensures .1) ((c .before .before .before .before .before .before .before .before .before .entry5) .given .1))
+put-type-add-put-type-3 t c = search (array-next, array-behind, needs)
 
 put-type-returns-2 : (t : ℕ) → put-type-lts.Need-returns-2 (put-type-calls t) (put-type-at t) put-type.Post
 put-type-returns-2 t c = search type-unknown

@@ -1,6 +1,6 @@
 use native.Mathlib.Omega.{arith}
 use borrow.Author.Needs.{needs}
-use Rattle.rows.proofs.Decode.{enumNamed-inside}
+use Rattle.rows.proofs.Decode.{enumNamed-behind, enumNamed-next}
 use Rattle.writer_parts.proofs.Enums.{EnumLeft, enum-begun, enum-unnamed, enum-full, enum-past, enum-next, enum-cut, enum-ended}
 use Rattle.writer_parts.proofs.put_enum_members.Statement.{statement}
 use Rattle.writer_parts.proofs.put_enum_members.Tie as tie
@@ -30,10 +30,10 @@ returns-3 : tie.Need-returns-3 Inv-loop μ-loop
 returns-3 c = search enum-past
 
 add-r : tie.Need-add-r Inv-loop μ-loop
-add-r c = omega (arith, enumNamed-inside _ _ _ _ ((c .before .before .before .before .before .before .before .before .before .member) .given .1) ((c .before .before .before .before .before .before .before .before .before .before .before .known-enum-member-at) .ensures .1))
+add-r c = search (enumNamed-next, enumNamed-behind, needs)
 
 add-p : tie.Need-add-p Inv-loop μ-loop
-add-p c = omega (arith, enumNamed-inside _ _ _ _ ((c .before .before .before .before .before .before .before .before .before .member) .given .1) ((c .before .before .before .before .before .before .before .before .before .before .before .known-enum-member-at) .ensures .1))
+add-p c = search (enumNamed-next, enumNamed-behind, needs)
 
 loop-again : tie.Need-loop-again Inv-loop μ-loop
 loop-again c = search enum-next
