@@ -4,6 +4,8 @@ use mathlib.Core.Option.{none}
 use mathlib.Core.List.{List, [], _∷_}
 use Prim.Native.Nat.{ℕ, _+_, _-_, _*_, _<_, _≤_}
 use native.Mathlib.Omega.{arith}
+use mir.Syntax.{w32, w64}
+use mir.Val.{Fits}
 use lib.ListN.{length, take, drop, length-drop}
 use lib.Seq.{sets, length-take-le}
 use Rattle.refusal.specs.declared.Refusal.{Refusal}
@@ -71,6 +73,19 @@ module _ {d : List ℕ} {at : ℕ} {p p′ : List ℕ} {place room n m : ℕ} {x
 
   pub whole-fits : place + m ≤ room
   whole-fits = w .whole n m q .fits
+
+  -- the same in the form of a need: what is counted from them does not wrap
+  pub whole-one : length d < 18446744073709551616 → Fits w64 (n + 1)
+  whole-one l = let i = whole-inside in record { fits = omega arith }
+
+  pub whole-next : length d < 18446744073709551616 → Fits w64 (at + (n + 1))
+  whole-next l = let i = whole-inside in record { fits = omega arith }
+
+  pub whole-pooled : room ≤ 65536 → Fits w64 (place + m)
+  whole-pooled l = let i = whole-fits in record { fits = omega arith }
+
+  pub whole-word : room ≤ 65536 → Fits w32 m
+  whole-word l = let i = whole-fits in record { fits = omega arith }
 
 -- ---- the ways out of `enter_enum_member`
 

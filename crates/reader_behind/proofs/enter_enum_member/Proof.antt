@@ -1,6 +1,6 @@
 -- `enter_enum_member` meets its contract: one law for each way out.
 use native.Mathlib.Omega.{arith}
-use Rattle.reader_behind.proofs.Naming.{whole-inside, whole-fits, enum-full, enum-unnamed, enum-over, enum-named}
+use Rattle.reader_behind.proofs.Naming.{whole-inside, whole-one, whole-next, whole-pooled, whole-word, enum-full, enum-unnamed, enum-over, enum-named}
 use borrow.Author.Needs.{needs}
 use Rattle.reader_behind.proofs.enter_enum_member.Statement.{statement}
 use Rattle.reader_behind.proofs.enter_enum_member.Tie as tie
@@ -9,22 +9,22 @@ returns : tie.Need-returns
 returns c = search enum-full
 
 cast-t27 : tie.Need-cast-t27
-cast-t27 c = omega (arith, whole-fits ((c .before .before .before .before .before .before .read-name) .ensures) ((c .before .before .name) .given .1))
+cast-t27 c = search (whole-pooled, whole-word, needs)
 
 add-next : tie.Need-add-next
-add-next c = omega (arith, whole-inside ((c .before .before .before .before .before .before .before .before .before .read-name) .ensures) ((c .before .before .before .before .before .name) .given .1))
+add-next c = search (whole-one, whole-next)
 
 add-next-2 : tie.Need-add-next-2
-add-next-2 c = omega (arith, whole-inside ((c .before .before .before .before .before .before .before .before .before .read-name) .ensures) ((c .before .before .before .before .before .name) .given .1))
+add-next-2 c = search (whole-one, whole-next)
 
 add-name-padding : tie.Need-add-name-padding
-add-name-padding c = omega (arith, whole-inside ((c .before .before .before .before .before .before .before .before .before .read-name) .ensures) ((c .before .before .before .before .before .name) .given .1))
+add-name-padding c = search (whole-one, whole-next)
 
 add-next-3 : tie.Need-add-next-3
 add-next-3 c = omega (arith, whole-inside ((c .before .before .before .before .before .before .before .before .before .before .read-name) .ensures) ((c .before .before .before .before .before .before .name) .given .1))
 
 add-t32 : tie.Need-add-t32
-add-t32 c = omega (arith, whole-fits ((c .before .before .before .before .before .before .before .before .before .before .read-name) .ensures) ((c .before .before .before .before .before .before .name) .given .1), (c .before .before .before .before .before .before .before .before .before .before .before .before .before .before .before .before .before) .pre .0 .small)
+add-t32 c = search (whole-pooled, whole-word, needs)
 
 returns-2 : tie.Need-returns-2
 returns-2 c = search enum-unnamed

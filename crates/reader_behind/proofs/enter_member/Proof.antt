@@ -1,6 +1,6 @@
 -- `enter_member` meets its contract: one law for each way out.
 use native.Mathlib.Omega.{arith}
-use Rattle.reader_behind.proofs.Naming.{whole-inside, whole-fits}
+use Rattle.reader_behind.proofs.Naming.{whole-inside, whole-one, whole-next, whole-pooled, whole-word}
 use Rattle.reader_behind.proofs.Entering.{enter-full, enter-unnamed, enter-over, enter-narrow, enter-cut, enter-inner}
 use borrow.Author.Needs.{needs}
 use Rattle.reader_behind.proofs.enter_member.Statement.{statement}
@@ -10,13 +10,13 @@ returns : tie.Need-returns
 returns c = search enter-full
 
 add-from : tie.Need-add-from
-add-from c = omega (arith, whole-inside ((c .before .before .before .before .before .read-name) .ensures) ((c .before .name) .given .1))
+add-from c = search (whole-one, whole-next)
 
 add-from-2 : tie.Need-add-from-2
-add-from-2 c = omega (arith, whole-inside ((c .before .before .before .before .before .read-name) .ensures) ((c .before .name) .given .1))
+add-from-2 c = search (whole-one, whole-next)
 
 add-name-padding : tie.Need-add-name-padding
-add-name-padding c = omega (arith, whole-inside ((c .before .before .before .before .before .read-name) .ensures) ((c .before .name) .given .1))
+add-name-padding c = search (whole-one, whole-next)
 
 add-from-3 : tie.Need-add-from-3
 add-from-3 c = omega (arith, whole-inside ((c .before .before .before .before .before .before .read-name) .ensures) ((c .before .before .name) .given .1))
@@ -34,10 +34,10 @@ returns-3 : tie.Need-returns-3
 returns-3 c = search enter-cut
 
 cast-t40 : tie.Need-cast-t40
-cast-t40 c = omega (arith, whole-fits ((c .before .before .before .before .before .before .before .before .before .before .before .before .read-name) .ensures) ((c .before .before .before .before .before .before .before .before .name) .given .1), (c .before .before .before .before .before .before .before .before .before .before .before .before .before .before .before .before .before .before .before) .pre .0 .small)
+cast-t40 c = search (whole-pooled, whole-word, needs)
 
 add-t28 : tie.Need-add-t28
-add-t28 c = omega (arith, whole-fits ((c .before .before .before .before .before .before .before .before .before .before .before .before .before .before .before .read-name) .ensures) ((c .before .before .before .before .before .before .before .before .before .before .before .name) .given .1), (c .before .before .before .before .before .before .before .before .before .before .before .before .before .before .before .before .before .before .before .before .before .before) .pre .0 .small)
+add-t28 c = search (whole-pooled, whole-word, needs)
 
 returns-4 : tie.Need-returns-4
 returns-4 c = search enter-unnamed
