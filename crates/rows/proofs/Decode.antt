@@ -7,7 +7,7 @@ use native.Mathlib.Omega.{arith}
 use native.Mathlib.Nat.{add-zero}
 use lib.ListN.{length, getD, take, drop}
 use lib.Dec.{leb}
-use mir.Syntax.{w64}
+use mir.Syntax.{w8, w32, w64}
 use mir.Val.{Fits}
 use borrow.Author.Tests.{leb-true}
 use Rattle.format.specs.Datatype.{Datatype, member}
@@ -203,3 +203,10 @@ module _ {m : Member} {x y : ℕ} (w b r p : ℕ) (i : m ≡ Named x y) where
 
   pub enumNamed-behind : MemberInside m w b r p (enumMemberNameLength m) → b < 18446744073709551616 → Fits w64 (p + x)
   enumNamed-behind h k = let j = enumNamed-inside w b r p i h in record { fits = omega arith }
+
+-- a word of a table, and a byte of a pool, by what is known of all of them
+pub word-below : (table : List ℕ) (i : ℕ) → ((j : ℕ) → Fits w32 (getD table j 0)) → getD table i 0 < 4294967296
+word-below table i h = h i .fits
+
+pub byte-below : (pool : List ℕ) (i : ℕ) → ((j : ℕ) → Fits w8 (getD pool j 0)) → getD pool i 0 < 256
+byte-below pool i h = h i .fits

@@ -1,30 +1,31 @@
 use Prim.Native.Nat.{_+_, _*_}
 use native.Mathlib.Omega.{arith}
 use Rattle.measure.proofs.Leaves.{leaf-empty, leaf-fixed, leaf-float, leaf-time, leaf-bits, leaf-opaque, leaf-other}
+use Rattle.rows.proofs.Decode.{word-below}
 use borrow.Author.Needs.{needs}
 use Rattle.measure.proofs.leaf_storable.Statement.{statement}
 use Rattle.measure.proofs.leaf_storable.Tie as tie
 
 returns : tie.Need-returns
-returns c = (search leaf-empty, (omega arith, omega (arith, (c .before .shared-slice-known) .given ((c .before .before) .args .row * 16 + 13))))
+returns c = (search leaf-empty, (omega arith, search word-below))
 
 returns-2 : tie.Need-returns-2
-returns-2 c = (search leaf-fixed, (omega arith, omega (arith, (c .before .before .before .before .before .before .before .shared-slice-known) .given ((c .before .before .before .before .before .before .before .before) .args .row * 16 + 13))))
+returns-2 c = (search leaf-fixed, (omega arith, search word-below))
 
 returns-3 : tie.Need-returns-3
-returns-3 c = (search leaf-float, (omega arith, omega (arith, (c .before .before .before .before .before .before .before .before .before .shared-slice-known) .given ((c .before .before .before .before .before .before .before .before .before .before) .args .row * 16 + 13))))
+returns-3 c = (search leaf-float, (omega arith, search word-below))
 
 returns-4 : tie.Need-returns-4
-returns-4 c = (search leaf-time, (omega arith, omega (arith, (c .before .before .before .before .before .before .shared-slice-known) .given ((c .before .before .before .before .before .before .before) .args .row * 16 + 13))))
+returns-4 c = (search leaf-time, (omega arith, search word-below))
 
 returns-5 : tie.Need-returns-5
-returns-5 c = (search leaf-bits, (omega arith, omega (arith, (c .before .before .before .before .before .before .before .shared-slice-known) .given ((c .before .before .before .before .before .before .before .before) .args .row * 16 + 13))))
+returns-5 c = (search leaf-bits, (omega arith, search word-below))
 
 returns-6 : tie.Need-returns-6
-returns-6 c = (search leaf-opaque, (omega arith, omega (arith, (c .before .before .before .before .before .shared-slice-known) .given ((c .before .before .before .before .before .before) .args .row * 16 + 13))))
+returns-6 c = (search leaf-opaque, (omega arith, search word-below))
 
 returns-7 : tie.Need-returns-7
-returns-7 c = (search leaf-other, (omega arith, omega (arith, (c .before .before .before .before .before .shared-slice-known) .given ((c .before .before .before .before .before .before) .args .row * 16 + 13))))
+returns-7 c = (search leaf-other, (omega arith, search word-below))
 
 pub leaf-storable-spec : {M : Type 1} → statement M
 leaf-storable-spec =
