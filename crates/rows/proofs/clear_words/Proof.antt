@@ -1,3 +1,4 @@
+use borrow.Author.Needs.{needs}
 use Prim.Native.Nat.{_≤_, _-_}
 use mathlib.Core.Path.{_≡_, refl}
 use native.Mathlib.Omega.{arith}
@@ -36,7 +37,7 @@ loop2-again : tie.Need-loop2-again Inv-loop μ-loop Inv-loop2 μ-loop2
 loop2-again c = (omega arith, zero-more (c .before .before .before .before .before .before .before .args .table .now) _ (c .before .before .before .before .before .before .before .args .to) (c .before .before .before .loop2 .i) (c .before .before .before .loop2 .inv .1) (c .if2 .left) (omega arith) (omega arith))
 
 returns-3 : tie.Need-returns-3 Inv-loop μ-loop Inv-loop2 μ-loop2
-returns-3 c = zero-end _ _ (c .before .before .before .before .before .args .to) (c .before .loop2 .i) (c .before .loop2 .inv .1) (omega arith)
+returns-3 c = search (zero-end, needs)
 
 pub clear-words-spec : {M : Type 1} → statement M
 clear-words-spec =

@@ -1,3 +1,4 @@
+use Rattle.rows.proofs.Decode.{byte-below}
 use native.Mathlib.Omega.{arith}
 use borrow.Author.Needs.{needs}
 use Rattle.table.proofs.Answers.{element-bad, element-good, element-zero, outermost}
@@ -14,8 +15,7 @@ class-of-requires c κs =
     (omega arith, omega arith)
 
 returns : tie.Need-returns
-returns c =
-    element-zero _ _ (c .before .before .before .before .before .before .before .check .ensures) (λ i. omega (arith, c .before .before .before .before .before .before .before .before .shared-slice-known2 .given i)) (c .before .before .before .before .before .checked .given .1) (c .before .before .if1 .taken) (c .class-of .ensures)
+returns c = search (element-zero, byte-below)
 
 returns-2 : tie.Need-returns-2
 returns-2 c = search element-bad

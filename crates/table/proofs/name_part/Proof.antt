@@ -1,3 +1,4 @@
+use Rattle.rows.proofs.Decode.{byte-below}
 use native.Mathlib.Omega.{arith}
 use borrow.Author.Needs.{needs, fits-under}
 use Rattle.table.proofs.Naming.{name-bad, name-behind, name-inside, name-none, name-some}
@@ -14,7 +15,7 @@ enum-known-checked : tie.Need-enum-known-checked
 enum-known-checked c = search needs
 
 returns : tie.Need-returns
-returns c = name-behind _ _ _ (c .before .before .before .before .before .check .ensures) (λ i. omega (arith, c .before .before .before .before .before .before .shared-slice-known2 .given i)) (c .before .before .before .checked .given .1) (c .if1 .taken)
+returns c = search (name-behind, byte-below)
 
 mul-at : tie.Need-mul-at
 mul-at c = omega (arith, name-inside _ _ _ (c .before .before .before .before .before .check .ensures) (λ i. omega (arith, c .before .before .before .before .before .before .shared-slice-known2 .given i)) (c .before .before .before .checked .given .1) (c .if1 .left))
@@ -26,7 +27,7 @@ shared-slice-read-kind : tie.Need-shared-slice-read-kind
 shared-slice-read-kind c = omega (arith, name-inside _ _ _ (c .before .before .before .before .before .before .check .ensures) (λ i. omega (arith, c .before .before .before .before .before .before .before .shared-slice-known2 .given i)) (c .before .before .before .before .checked .given .1) (c .before .if1 .left))
 
 returns-2 : tie.Need-returns-2
-returns-2 c = name-none _ _ _ (c .before .before .before .before .before .before .before .check .ensures) (λ i. omega (arith, c .before .before .before .before .before .before .before .before .shared-slice-known2 .given i)) (c .before .before .before .before .before .checked .given .1) (c .before .before .if1 .left) (c .if2 .taken)
+returns-2 c = search (name-none, byte-below)
 
 add-place : tie.Need-add-place
 add-place c = omega (arith, name-inside _ _ _ (c .before .before .before .before .before .before .before .check .ensures) (λ i. omega (arith, c .before .before .before .before .before .before .before .before .shared-slice-known2 .given i)) (c .before .before .before .before .before .checked .given .1) (c .before .before .if1 .left))
@@ -56,7 +57,7 @@ returns-3 : tie.Need-returns-3
 returns-3 c = name-bad _ _ _ (c .before .before .check .ensures) (c .enum-told .given .1)
 
 returns-4 : tie.Need-returns-4
-returns-4 c = name-some _ _ _ (c .before .before .before .before .before .before .before .before .before .check .ensures) (λ i. omega (arith, c .before .before .before .before .before .before .before .before .before .before .shared-slice-known2 .given i)) (c .before .before .before .before .before .before .before .checked .given .1) (c .before .before .before .before .if1 .left) (c .before .before .if2 .left)
+returns-4 c = search (name-some, byte-below)
 
 pub name-part-spec : {M : Type 1} → statement M
 name-part-spec =
