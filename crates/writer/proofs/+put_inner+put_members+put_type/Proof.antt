@@ -3,7 +3,7 @@ use native.Mathlib.Omega.{arith}
 use borrow.Author.Needs.{needs}
 use lib.ListN.{getD}
 use Rattle.format.specs.Table.{typeAt}
-use Rattle.rows.proofs.Decode.{leaf-inside, array-behind, array-next, compound-next, enumeration-next, named-behind, named-next, variableLength-next}
+use Rattle.rows.proofs.Decode.{leaf-inside, array-behind, array-next, compound-next, enumeration-next, named-behind, named-next, variableLength-next, byte-below}
 use Rattle.writer.proofs.Compounds.{MembersLeft, members-begun, members-ended, members-unnamed, members-full, members-lost, members-next}
 use Rattle.writer.proofs.Types.{type-shallow, type-unknown, type-leaf, type-compound-full, type-compound, type-enumeration-full, type-enumeration-lost, type-enumeration, type-variable-full, type-variable, type-array-full, type-array}
 use borrow.Fn.Kinds.{In}
@@ -160,14 +160,10 @@ put-type-returns-10 : (t : ℕ) → put-type-lts.Need-returns-10 (put-type-calls
 put-type-returns-10 t c = search type-variable
 
 put-type-returns-11 : (t : ℕ) → put-type-lts.Need-returns-11 (put-type-calls t) (put-type-at t) put-type.Post
-put-type-returns-11 t c =
-    let small : (i : ℕ) → getD ((c .before .before .before .before .before .before .before .before .before .before .before .before .before .before .before) .args .pool .now) i 0 < 256 = λ i. omega (arith, (c .before .before .before .before .before .before .before .before .before .before .before .before .before .shared-slice-known2) .given i) in
-    search (type-array-full, small)
+put-type-returns-11 t c = search (type-array-full, byte-below)
 
 put-type-returns-12 : (t : ℕ) → put-type-lts.Need-returns-12 (put-type-calls t) (put-type-at t) put-type.Post
-put-type-returns-12 t c =
-    let small : (i : ℕ) → getD ((c .before .before .before .before .before .before .before .before .before .before .before .before .before .before .before .before .before .before .before .before) .args .pool .now) i 0 < 256 = λ i. omega (arith, (c .before .before .before .before .before .before .before .before .before .before .before .before .before .before .before .before .before .before .shared-slice-known2) .given i) in
-    search (type-array, small)
+put-type-returns-12 t c = search (type-array, byte-below)
 
 pub +put-inner+put-members+put-type-spec : {M : Type 1} → statement M
 +put-inner+put-members+put-type-spec =

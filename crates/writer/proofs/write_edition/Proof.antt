@@ -1,3 +1,4 @@
+use Rattle.rows.proofs.Decode.{byte-below}
 use Prim.Native.Nat.{ℕ, _<_}
 use native.Mathlib.Omega.{arith}
 use lib.ListN.{getD}
@@ -7,8 +8,7 @@ use Rattle.writer.proofs.write_edition.Statement.{statement}
 use Rattle.writer.proofs.write_edition.Tie as tie
 
 ends-at-requires : tie.Need-ends-at-requires
-ends-at-requires c κs =
-    write-fits _ _ _ (c .before .before .before .measure-type .ensures) (c .before .measured .given .1) (λ i. omega (arith, c .before .before .before .before .before .shared-slice-known2 .given i))
+ends-at-requires c κs = search (write-fits, byte-below)
 
 returns : tie.Need-returns
 returns c = search write-behind
@@ -20,22 +20,16 @@ returns-3 : tie.Need-returns-3
 returns-3 c = search write-not-carried
 
 returns-4 : tie.Need-returns-4
-returns-4 c =
-    let small : (i : ℕ) → getD ((c .before .before .before .before .before .before .before .before .before .before .before .before .before .before) .args .pool .now) i 0 < 256 = λ i. omega (arith, (c .before .before .before .before .before .before .before .before .before .before .before .before) .shared-slice-known2 .given i) in
-    search (write-no-room, small)
+returns-4 c = search (write-no-room, byte-below)
 
 returns-5 : tie.Need-returns-5
 returns-5 c = search write-lost
 
 returns-6 : tie.Need-returns-6
-returns-6 c =
-    let small : (i : ℕ) → getD ((c .before .before .before .before .before .before .before .before .before .before .before .before .before .before .before .before .before .before .before .before) .args .pool .now) i 0 < 256 = λ i. omega (arith, (c .before .before .before .before .before .before .before .before .before .before .before .before .before .before .before .before .before .before) .shared-slice-known2 .given i) in
-    search (write-unput, small)
+returns-6 c = search (write-unput, byte-below)
 
 returns-7 : tie.Need-returns-7
-returns-7 c =
-    let small : (i : ℕ) → getD ((c .before .before .before .before .before .before .before .before .before .before .before .before .before .before .before .before .before .before .before .before) .args .pool .now) i 0 < 256 = λ i. omega (arith, (c .before .before .before .before .before .before .before .before .before .before .before .before .before .before .before .before .before .before) .shared-slice-known2 .given i) in
-    search (write-written, small)
+returns-7 c = search (write-written, byte-below)
 
 pub write-edition-spec : {M : Type 1} → statement M
 write-edition-spec =
