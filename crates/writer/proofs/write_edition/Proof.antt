@@ -1,14 +1,13 @@
 use Rattle.rows.proofs.Decode.{byte-below}
-use Prim.Native.Nat.{ℕ, _<_}
 use native.Mathlib.Omega.{arith}
-use lib.ListN.{getD}
 use Rattle.writer.proofs.Answering.{write-lost, write-fits, write-behind, write-unstorable, write-not-carried, write-no-room, write-unput, write-written}
 use borrow.Author.Needs.{needs}
 use Rattle.writer.proofs.write_edition.Statement.{statement}
 use Rattle.writer.proofs.write_edition.Tie as tie
 
 ends-at-requires : tie.Need-ends-at-requires
-ends-at-requires c κs = search (write-fits, byte-below)
+ends-at-requires c κs =
+    write-fits _ _ _ (c .before .before .before .measure-type .ensures) (c .before .measured .given .1) (λ i. omega (arith, c .before .before .before .before .before .shared-slice-known2 .given i))
 
 returns : tie.Need-returns
 returns c = search write-behind
