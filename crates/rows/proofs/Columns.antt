@@ -7,6 +7,8 @@ use native.Mathlib.Omega.{arith}
 use native.Mathlib.Nat.{mul-one, mul-le-mul-left}
 use lib.ListN.{length, getD}
 use lib.Dec.{ltb, eqb}
+use mir.Syntax.{w64}
+use mir.Val.{Fits}
 use borrow.Author.Tests.{eq-eqb}
 use Rattle.format.specs.Bytes.{zeros, padded, allZero}
 use Rattle.format.specs.Table.{memberRow, enumMemberRow, sameWords, isUnknown, kindOf}
@@ -161,6 +163,12 @@ module _ (table pool : List ℕ) (r p : ℕ) where
   pub short-enumMember : length table / 16 ≤ r → Unnamed ≡ enumMemberAt table pool r p
   short-enumMember h = outsideMember (enumMemberAt table pool r p) (length table) (length pool) r p _ (enumMember-inside table pool r p) h
 
--- a piece's length in bytes does not wrap
+-- a piece's length in bytes and the place behind it do not wrap
 pub product-small : (n width : ℕ) → n < 4294967296 → width ≤ 4 → n * width ≤ 17179869180
 product-small n width h k = let a : n * width ≤ n * 4 = mul-le-mul-left n k in omega arith
+
+pub product-fits : (n width : ℕ) → n < 4294967296 → width ≤ 4 → Fits w64 (n * width)
+product-fits n width h k = let a = product-small n width h k in record { fits = omega arith }
+
+pub behind-fits : (place x n width : ℕ) → x ≡ place → x < 4294967296 → n < 4294967296 → width ≤ 4 → Fits w64 (place + n * width)
+behind-fits place x n width e b h k = let a = product-small n width h k in record { fits = omega arith }

@@ -37,10 +37,10 @@ module _ (l : List ℕ) (from to i : ℕ) (inv : zeroAt l i (to - i) ≡ zeroAt 
       sym (zero-split l i n (to - (i + n))) ∙ rw e inv
 
   -- past n zeros, and at n elements that are not all zero
-  pub zero-past : (n : ℕ) {x : Bool} → x ≡ zeroAt l i n → x ≡ true → i + n ≤ to → zeroAt l (i + n) (to - (i + n)) ≡ zeroAt l from (to - from)
+  zero-past : (n : ℕ) {x : Bool} → x ≡ zeroAt l i n → x ≡ true → i + n ≤ to → zeroAt l (i + n) (to - (i + n)) ≡ zeroAt l from (to - from)
   zero-past n e x h = (let z : zeroAt l i n ≡ true = cc in sym (rw z)) ∙ part n h
 
-  pub zero-not : (n : ℕ) {x : Bool} → x ≡ zeroAt l i n → x ≡ false → i + n ≤ to → false ≡ zeroAt l from (to - from)
+  zero-not : (n : ℕ) {x : Bool} → x ≡ zeroAt l i n → x ≡ false → i + n ≤ to → false ≡ zeroAt l from (to - from)
   zero-not n e x h = (let z : zeroAt l i n ≡ false = cc in sym (rw z)) ∙ part n h
 
   one-is : i < length l → eqb (getD l i 0) 0 ≡ zeroAt l i 1
@@ -56,6 +56,14 @@ module _ (l : List ℕ) (from to i : ℕ) (inv : zeroAt l i (to - i) ≡ zeroAt 
   pub zero-end : to ≤ i → true ≡ zeroAt l from (to - from)
   unfolding allZero
   zero-end h = let e : to - i ≡ 0 = omega arith in rw e at inv
+
+-- the same for a block of n elements that was tested at once
+module _ (n : ℕ) (l : List ℕ) (from to i : ℕ) (x : Bool) (e : x ≡ zeroAt l i n) (inv : zeroAt l i (to - i) ≡ zeroAt l from (to - from)) (h : i ≤ to) (k : n ≤ to - i) where
+  pub block-past : x ≡ true → zeroAt l (i + n) (to - (i + n)) ≡ zeroAt l from (to - from)
+  block-past t = zero-past l from to i inv n e t (omega arith)
+
+  pub block-not : x ≡ false → false ≡ zeroAt l from (to - from)
+  block-not t = zero-not l from to i inv n e t (omega arith)
 
 -- tests made of many numbers at once: all are zero, and two are equal
 pub or-is-zero : (a b : ℕ) → eqb (bitOr a b) 0 ≡ (eqb a 0 && eqb b 0)

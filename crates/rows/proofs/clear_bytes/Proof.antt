@@ -2,7 +2,7 @@ use borrow.Author.Needs.{needs}
 use Prim.Native.Nat.{_≤_, _-_}
 use mathlib.Core.Path.{_≡_, refl}
 use native.Mathlib.Omega.{arith}
-use Rattle.rows.proofs.Zeros.{zeroAt, zero-past, zero-not, zero-more, zero-stop, zero-end}
+use Rattle.rows.proofs.Zeros.{zeroAt, block-past, block-not, zero-more, zero-stop, zero-end}
 use Rattle.rows.proofs.clear_bytes.Statement.{statement}
 use Rattle.rows.proofs.clear_bytes.Tie as tie
 
@@ -22,19 +22,19 @@ loop-holds : tie.Need-loop-holds Inv-loop μ-loop Inv-loop2 μ-loop2
 loop-holds c = (omega arith, refl)
 
 loop-again : tie.Need-loop-again Inv-loop μ-loop Inv-loop2 μ-loop2
-loop-again c = (omega arith, zero-past _ _ (c .before .before .before .before .before .args .to) (c .before .before .before .loop .i) (c .before .before .before .loop .inv .1) 64 (c .before .clear-64-bytes .ensures) (c .if1 .taken) (omega arith))
+loop-again c = search (block-past 64, arith)
 
 returns : tie.Need-returns Inv-loop μ-loop Inv-loop2 μ-loop2
-returns c = zero-not _ _ (c .before .before .before .before .before .args .to) (c .before .before .before .loop .i) (c .before .before .before .loop .inv .1) 64 (c .before .clear-64-bytes .ensures) (c .if1 .left) (omega arith)
+returns c = search (block-not 64, arith)
 
 loop2-holds : tie.Need-loop2-holds Inv-loop μ-loop Inv-loop2 μ-loop2
 loop2-holds c = (omega arith, c .before .loop .inv .1)
 
 returns-2 : tie.Need-returns-2 Inv-loop μ-loop Inv-loop2 μ-loop2
-returns-2 c = zero-stop (c .before .before .before .before .before .before .before .args .pool .now) _ (c .before .before .before .before .before .before .before .args .to) (c .before .before .before .loop2 .i) (c .before .before .before .loop2 .inv .1) (c .if2 .taken) (omega arith) (omega arith)
+returns-2 c = search (zero-stop, arith)
 
 loop2-again : tie.Need-loop2-again Inv-loop μ-loop Inv-loop2 μ-loop2
-loop2-again c = (omega arith, zero-more (c .before .before .before .before .before .before .before .args .pool .now) _ (c .before .before .before .before .before .before .before .args .to) (c .before .before .before .loop2 .i) (c .before .before .before .loop2 .inv .1) (c .if2 .left) (omega arith) (omega arith))
+loop2-again c = search (zero-more, arith)
 
 returns-3 : tie.Need-returns-3 Inv-loop μ-loop Inv-loop2 μ-loop2
 returns-3 c = search (zero-end, needs)

@@ -1,4 +1,3 @@
-use mathlib.Core.Path.{_∙_}
 use Rattle.rows.proofs.Columns.{answered-enumMember, tested-enumMember, short-enumMember, enumMember-entry}
 use borrow.Author.Needs.{needs}
 use Rattle.rows.proofs.enum_member_at.Statement.{statement}
@@ -8,7 +7,7 @@ returns : tie.Need-returns
 returns c = answered-enumMember _ _ _ _ (short-enumMember _ _ _ _ (c .if1 .taken))
 
 returns-2 : tie.Need-returns-2
-returns-2 c = tested-enumMember _ _ _ _ _ (enumMember-entry _ _ _ _ (search needs)) (c .member-if .ensures) (c .before .before .before .both2 .ensures ∙ rw (c .before .before .before .before .before .both .ensures, c .before .before .before .before .piece-columns .ensures))
+returns-2 c = tested-enumMember _ _ _ _ _ (enumMember-entry _ _ _ _ (search needs)) (c .member-if .ensures) (cc)
 
 pub enum-member-at-spec : {M : Type 1} → statement M
 enum-member-at-spec =

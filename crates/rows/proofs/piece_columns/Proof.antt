@@ -1,28 +1,25 @@
 use Rattle.rows.specs.Columns.{pieceColumns}
-use Rattle.rows.proofs.Columns.{product-small}
-use native.Mathlib.Omega.{arith}
-use Prim.Native.Nat.{_+_, _*_}
-use lib.ListN.{getD}
+use Rattle.rows.proofs.Columns.{product-fits, behind-fits}
 use borrow.Author.Tests.{eq-eqb, ne-eqb}
-use borrow.Author.Needs.{needs}
+use borrow.Author.Needs.{needs, fits-under}
 use Rattle.rows.proofs.piece_columns.Statement.{statement}
 use Rattle.rows.proofs.piece_columns.Tie as tie
 
 cast-if1 : tie.Need-cast-if1
-cast-if1 c = omega (arith, c .shared-slice-known3 .given (c .before .before .before .args .row * 16 + 2))
+cast-if1 c = fits-under _ _ _ (c .shared-slice-known3 .given _ .fits) tt
 
 returns : tie.Need-returns
 unfolding pieceColumns
 returns c = rw (ne-eqb _ _ (c .if1 .taken))
 
 cast-end : tie.Need-cast-end
-cast-end c = omega (arith, c .shared-slice-known4 .given (c .before .before .before .before .before .args .row * 16 + 3))
+cast-end c = fits-under _ _ _ (c .shared-slice-known4 .given _ .fits) tt
 
 mul-end-2 : tie.Need-mul-end-2
-mul-end-2 c = omega (arith, product-small (getD (c .before .before .before .before .before .args .table .now) (c .before .before .before .before .before .args .row * 16 + 3) 0) (c .before .before .before .before .before .args .width) (omega (arith, c .shared-slice-known4 .given (c .before .before .before .before .before .args .row * 16 + 3))) (c .before .before .before .before .before .pre .1 .1))
+mul-end-2 c = product-fits _ _ (c .shared-slice-known4 .given _ .fits) (search needs)
 
 add-end-2 : tie.Need-add-end-2
-add-end-2 c = omega (arith, product-small (getD (c .before .before .before .before .before .args .table .now) (c .before .before .before .before .before .args .row * 16 + 3) 0) (c .before .before .before .before .before .args .width) (omega (arith, c .shared-slice-known4 .given (c .before .before .before .before .before .args .row * 16 + 3))) (c .before .before .before .before .before .pre .1 .1), c .before .before .shared-slice-known3 .given (c .before .before .before .before .before .args .row * 16 + 2))
+add-end-2 c = behind-fits _ _ _ _ (c .before .if1 .left) (c .before .before .shared-slice-known3 .given _ .fits) (c .shared-slice-known4 .given _ .fits) (search needs)
 
 returns-2 : tie.Need-returns-2
 unfolding pieceColumns
