@@ -18,7 +18,8 @@ use Rattle.rows.specs.Entries.{enumMemberAt}
 use Rattle.rows.specs.declared.Member.{Member}
 use Rattle.rows.specs.declared.Member.the-variants.{Named, Unnamed}
 use Rattle.rows.proofs.EnumNames.{names-as, names-none, valuesLong}
-use Rattle.measure.specs.Measure.{mostLength, measureEnum, enumMeasureOf, nameLengthOf}
+use Rattle.measure.specs.Measure.{mostLength, measureEnum, enumMeasureOf, validAt, withEnumName}
+use Rattle.measure.specs.declared.EnumNames.{EnumNames}
 use Rattle.measure.specs.declared.Measured.{Measured}
 use Rattle.measure.specs.declared.Measured.the-variants.{At, Lost}
 use Rattle.measure.proofs.Lengths.{most-both, length-name-of}
@@ -159,13 +160,10 @@ module _ (table pool : List ℕ) (e n : ℕ) where
       pub listed-past-pool : length pool - v < j → Lost ≡ z
       listed-past-pool g = sym (turned ∙ past-then pool e n _ _ (v + j) _ (omega arith))
 
-      pub listed-next : (inside : p + m ≤ length pool) {valid same s′ : Bool} {long l′ : ℕ}
-          → valid ≡ (noNul (take (p + m - p) (drop p pool)) && wellFormed (take (p + m - p) (drop p pool))) → same ≡ (valid && eqb j n) → s′ ≡ (s && same)
-          → (long ≡ nameLengthOf e m) × (long < 4294967304) → (l′ ≡ mostLength (l + long)) × (l′ ≤ 4294967296)
-          → z ≡ listed pool e n s′ l′ (v + j) (enumNamesAt table pool (k - 1) (r + 1) (p + m))
-      listed-next inside hv hm hs hl ht =
-          let w : p + m - p ≡ m = omega arith in
-          turned ∙ rw (hs, hm, hv, ht .0, hl .0, w, length-name-of e m (take m (drop p pool)) (length-part pool p m inside))
+      pub listed-next : {names : EnumNames} → p + m ≤ length pool → names ≡ withEnumName pool e n (record { storable = s; length = l }) p m j
+          → z ≡ listed pool e n (names .storable) (names .length) (v + j) (enumNamesAt table pool (k - 1) (r + 1) (p + m))
+      unfolding withEnumName validAt
+      listed-next inside hn = turned ∙ rw (hn, length-name-of e m (take m (drop p pool)) (length-part pool p m inside))
 
   -- behind the last name
   module _ (r p v k l : ℕ) (s : Bool) {z : Measured} (inv : z ≡ listed pool e n s l v (enumNamesAt table pool k r p)) (h : k ≤ 0) where

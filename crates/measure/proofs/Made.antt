@@ -1,18 +1,21 @@
 -- What is measured of a type, from the parts that the code makes.
-use Prim.Native.Nat.{ℕ, _+_, _*_, _<_, _≤_, min}
-use mathlib.Core.Path.{_≡_, sym}
+use Prim.Native.Nat.{ℕ, _+_, _-_, _*_, _<_, _≤_, min}
+use mathlib.Core.Path.{_≡_, sym, _∙_}
 use mathlib.Core.Bool.{Bool, true, _&&_, or-false}
 use mathlib.Core.List.{List}
+use native.Mathlib.Omega.{arith}
 use lib.ListN.{getD, take, drop}
 use lib.Dec.{ltb, eqb}
 use borrow.Author.Tests.{ne-eqb}
 use Rattle.format.specs.Bytes.{dimensionsFrom}
 use Rattle.format.specs.Datatype.{product}
-use Rattle.format.specs.Message.{storableVariable}
+use Rattle.format.specs.Message.{noNul, storableVariable}
+use Rattle.format.specs.Utf8.{wellFormed}
 use Rattle.format.specs.Table.{allBelow}
 use Rattle.format.proofs.Bytes.{all-bytes, bytes-take, bytes-drop}
 use Rattle.format.proofs.Zeros.{dimensions-below}
-use Rattle.measure.specs.Measure.{mostLength, offsetFits, arrayHead, leafStorable, leafLength, leafMeasure, withMember, compoundMeasure, enumerationMeasure, variableMeasure, arrayMeasure}
+use Rattle.measure.specs.Measure.{mostLength, offsetFits, nameLengthOf, memberHead, validAt, withEnumName, arrayHead, leafStorable, leafLength, leafMeasure, withMember, compoundMeasure, enumerationMeasure, variableMeasure, arrayMeasure}
+use Rattle.measure.specs.declared.EnumNames.{EnumNames}
 use Rattle.measure.specs.declared.Measure.{Measure}
 
 pub variable-sequence : (i a c : ℕ) {z : Bool} → i ≡ 0 → z ≡ (eqb a 0 && eqb c 0) → z ≡ storableVariable i a c
@@ -24,10 +27,25 @@ unfolding storableVariable
 variable-string i a c h e f g k = rw (k, g, f, e, ne-eqb i 0 h)
 
 pub with-member-made : (s m : Measure) (v : Bool) (o h : ℕ) {w x y z q : Bool} {l k : ℕ} → w ≡ offsetFits o (s .size) → x ≡ (w && m .storable) → y ≡ (v && x) → z ≡ (s .storable && y) → q ≡ (s .carried && m .carried)
-    → (l ≡ mostLength (h + m .length)) × (l ≤ 4294967296) → (k ≡ mostLength (s .length + l)) × (k ≤ 4294967296)
-    → record { row = m .row; place = m .place; size = s .size; storable = z; carried = q; length = k } ≡ withMember s v o h m
+    → l ≡ mostLength (h + m .length) → k ≡ mostLength (s .length + l) → record { row = m .row; place = m .place; size = s .size; storable = z; carried = q; length = k } ≡ withMember s v o h m
 unfolding withMember
-with-member-made s m v o h a b c d e f g = rw (e, d, c, b, a, g .0, f .0)
+with-member-made s m v o h a b c d e f g = rw (e, d, c, b, a, g, f)
+
+-- the name's place, as the code has it
+part-at : (p n : ℕ) → p + n - p ≡ n
+part-at p n = omega arith
+
+pub named-member-made : (pool : List ℕ) (s m : Measure) (o n e : ℕ) {v : Bool} {h : ℕ} {r : Measure}
+    → v ≡ (noNul (take (s .place + n - s .place) (drop (s .place) pool)) && wellFormed (take (s .place + n - s .place) (drop (s .place) pool))) → h ≡ memberHead e (s .size) n → r ≡ withMember s v o h m
+    → r ≡ withMember s (validAt pool (s .place) n) o (memberHead e (s .size) n) m
+unfolding validAt
+named-member-made pool s m o n e a b c = c ∙ rw (b, a, part-at (s .place) n)
+
+pub enum-name-made : (pool : List ℕ) (e w : ℕ) (names : EnumNames) (p n v : ℕ) {valid x y : Bool} {k l : ℕ}
+    → valid ≡ (noNul (take (p + n - p) (drop p pool)) && wellFormed (take (p + n - p) (drop p pool))) → x ≡ (valid && eqb v w) → y ≡ (names .storable && x)
+    → k ≡ nameLengthOf e n → l ≡ mostLength (names .length + k) → record { storable = y; length = l } ≡ withEnumName pool e w names p n v
+unfolding validAt withEnumName
+enum-name-made pool e w names p n v a b c d f = rw (c, b, a, f, d, part-at p n)
 
 pub leaf-made : (table : List ℕ) (r p c n l : ℕ) {x : Bool} {y z : ℕ} → (x ≡ leafStorable table r c n l) × ((n < 4294967296) × (getD table (r * 16 + 13) 0 < 4294967296)) → y ≡ leafLength c l
     → (z ≡ mostLength y) × (z ≤ 4294967296)

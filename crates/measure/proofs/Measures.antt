@@ -23,7 +23,7 @@ use Rattle.rows.specs.declared.Entry.the-variants.{Leaf, Compound, Enumeration,
 use Rattle.rows.specs.declared.Member.{Member}
 use Rattle.rows.specs.declared.Member.the-variants.{Named, Unnamed}
 use Rattle.rows.proofs.Decode.{typeAt-entry, membersAt-entry, enumNamesAt-entry}
-use Rattle.measure.specs.Measure.{mostLength, measureOf, measureIn, measureEnum, enumMeasureOf, leafStorable, leafLength, offsetFits, memberHead, arrayHead, leafMeasure, withMember, compoundMeasure, enumerationMeasure, variableMeasure, arrayMeasure}
+use Rattle.measure.specs.Measure.{mostLength, measureOf, measureIn, measureEnum, enumMeasureOf, leafStorable, leafLength, offsetFits, memberHead, validAt, arrayHead, leafMeasure, withMember, compoundMeasure, enumerationMeasure, variableMeasure, arrayMeasure}
 use Rattle.measure.specs.declared.Measure.{Measure}
 use Rattle.measure.specs.declared.Measured.{Measured}
 use Rattle.measure.specs.declared.Measured.the-variants.{At, Lost}
@@ -215,28 +215,16 @@ module _ (e : ℕ) (table pool : List ℕ) (row place levels : ℕ) where
       unfolding fromEntry
       type-compound {m = m} g i = rw (type-as h, i .0) (compound-at e n k m _ (i .1) (counted (typeAt (levels - 1) table pool) table pool k (suc row) place) (sym g ∙ members-there))
 
-    -- the type below an enumeration or a variable-length type
+    pub type-enumeration : {n k : ℕ} {z : Measured} → x ≡ Enumeration n k → z ≡ measureOf e (fromEntry (typeAt (levels - 1) table pool) table pool row place (Enumeration n k)) → z ≡ measureOf e (typeAt levels table pool row place)
+    type-enumeration h f = rw (type-as h) f
+
     module _ {y : Measured} (g : y ≡ measureOf e (typeAt (levels - 1) table pool (row + 1) place)) where
       below : y ≡ measureOf e (typeAt (levels - 1) table pool (suc row) place)
       below = rw (add-one row) at g
 
-      pub type-enumeration-lost : {n k : ℕ} → x ≡ Enumeration n k → y ≡ Lost → Lost ≡ measureOf e (typeAt levels table pool row place)
+      pub type-variableLength : {i a c : ℕ} {b s : Measure} → x ≡ VariableLength i a c → y ≡ At b → s ≡ variableMeasure i a c b → At s ≡ measureOf e (typeAt levels table pool row place)
       unfolding fromEntry
-      type-enumeration-lost h f = rw (type-as h) (lost-then e _ _ below f)
-
-      module _ {b : Measure} (f : y ≡ At b) where
-        pub type-unlisted : {n k : ℕ} {w : Measured} → x ≡ Enumeration n k → w ≡ enumMeasureOf e (b .size) table pool k (b .row) (b .place) → w ≡ Lost → Lost ≡ measureOf e (typeAt levels table pool row place)
-        unfolding fromEntry
-        type-unlisted {n = n} {k = k} h v i = rw (type-as h) (enumeration-lost e table pool n k b _ (told e _ b below f) (sym i ∙ v))
-
-        pub type-enumeration : {n k : ℕ} {w : Measured} {m s : Measure} → x ≡ Enumeration n k → w ≡ enumMeasureOf e (b .size) table pool k (b .row) (b .place) → w ≡ At m
-            → (s ≡ enumerationMeasure n k b m) × (n < 4294967296) → At s ≡ measureOf e (typeAt levels table pool row place)
-        unfolding fromEntry
-        type-enumeration {n = n} {k = k} {m = m} h v i j = rw (type-as h, j .0) (enumeration-at e table pool n k b m (j .1) _ (told e _ b below f) (sym i ∙ v))
-
-        pub type-variableLength : {i a c : ℕ} {s : Measure} → x ≡ VariableLength i a c → s ≡ variableMeasure i a c b → At s ≡ measureOf e (typeAt levels table pool row place)
-        unfolding fromEntry
-        type-variableLength {i = i} {a = a} {c = c} h j = rw (type-as h, j) (variable-at e i a c b _ (told e _ b below f))
+      type-variableLength {i = i} {a = a} {c = c} {b = b} h f j = rw (type-as h, j) (variable-at e i a c b _ (told e _ b below f))
 
       pub type-variableLength-lost : {i a c : ℕ} → x ≡ VariableLength i a c → y ≡ Lost → Lost ≡ measureOf e (typeAt levels table pool row place)
       unfolding fromEntry
@@ -255,6 +243,26 @@ module _ (e : ℕ) (table pool : List ℕ) (row place levels : ℕ) where
       unfolding fromEntry
       type-array {b = b} f j =
           rw (type-as h, j .0) (array-at e k _ b (length-dimensionsFrom k _) (j .1) _ (told e _ b inside f))
+
+-- ---- an enumeration, with so many levels left below it
+
+module _ (e : ℕ) (table pool : List ℕ) (row place levels n k : ℕ) {y : Measured} (g : y ≡ measureOf e (typeAt levels table pool (row + 1) place)) where
+  base : y ≡ measureOf e (typeAt levels table pool (suc row) place)
+  base = rw (add-one row) at g
+
+  pub enumeration-unbased : y ≡ Lost → Lost ≡ measureOf e (fromEntry (typeAt levels table pool) table pool row place (Enumeration n k))
+  unfolding fromEntry
+  enumeration-unbased f = lost-then e _ _ base f
+
+  module _ {b : Measure} {w : Measured} (f : y ≡ At b) (v : w ≡ enumMeasureOf e (b .size) table pool k (b .row) (b .place)) where
+    pub enumeration-unlisted : w ≡ Lost → Lost ≡ measureOf e (fromEntry (typeAt levels table pool) table pool row place (Enumeration n k))
+    unfolding fromEntry
+    enumeration-unlisted i = enumeration-lost e table pool n k b _ (told e _ b base f) (sym i ∙ v)
+
+    pub enumeration-listed : {m s : Measure} → w ≡ At m → (s ≡ enumerationMeasure n k b m) × (n < 4294967296)
+        → At s ≡ measureOf e (fromEntry (typeAt levels table pool) table pool row place (Enumeration n k))
+    unfolding fromEntry
+    enumeration-listed {m = m} i j = rw (j .0) (enumeration-at e table pool n k b m (j .1) _ (told e _ b base f) (sym i ∙ v))
 
 -- ---- the members of a compound
 
@@ -328,23 +336,16 @@ module _ (e : ℕ) (table pool : List ℕ) (levels left : ℕ) (s : Measure) {z 
     unfolding fromMember
     members-lost d = sym (members-as h ∙ rw (untold e _ within d) (unfold andThen gathered in refl))
 
-    pub members-next : {m s′ : Measure} {size head : ℕ} {valid : Bool} → s .place + n ≤ length pool → s .size ≡ size → y ≡ At m
-        → valid ≡ (noNul (take (s .place + n - s .place) (drop (s .place) pool)) && wellFormed (take (s .place + n - s .place) (drop (s .place) pool)))
-        → head ≡ memberHead e size n → s′ ≡ withMember s valid offset head m
+    pub members-next : {m s′ : Measure} → s .place + n ≤ length pool → y ≡ At m → s′ ≡ withMember s (validAt pool (s .place) n) offset (memberHead e (s .size) n) m
         → z ≡ gathered e s′ (membersAt (typeAt levels table pool) table pool (left - 1) (s′ .row) (s′ .place))
-    unfolding fromMember memberHead
-    members-next {m = m} {head = head} {valid = valid} fits same d hv hh hs =
-        let w : s .place + n - s .place ≡ n = omega arith in
+    unfolding fromMember memberHead validAt
+    members-next {m = m} fits d hs =
         let name = take n (drop (s .place) pool) in
         members-as h
-        ∙ gathered-next e s name offset head valid (hv ∙ rw w) (hh ∙ rw (same, length-name-of e n name (length-part pool (s .place) n fits))) (membersAt (typeAt levels table pool) table pool (left - 1)) m _ (told e _ m within d)
+        ∙ gathered-next e s name offset (memberHead e (s .size) n) (validAt pool (s .place) n) refl (rw (length-name-of e n name (length-part pool (s .place) n fits))) (membersAt (typeAt levels table pool) table pool (left - 1)) m _ (told e _ m within d)
         ∙ ap (λ (u : Measure). gathered e u (membersAt (typeAt levels table pool) table pool (left - 1) (u .row) (u .place))) (sym hs)
 
--- what one member more leaves as it was, and the length
-pub member-size : (s m : Measure) (v : Bool) (o h : ℕ) {s′ : Measure} {n : ℕ} → s′ ≡ withMember s v o h m → s .size ≡ n → s′ .size ≡ n
-unfolding withMember
-member-size s m v o h f g = rw f g
-
+-- the length, with one member more
 pub member-short : (s m : Measure) (v : Bool) (o h : ℕ) {s′ : Measure} → s′ ≡ withMember s v o h m → s′ .length ≤ 4294967296
 unfolding withMember
 member-short s m v o h f = rw f (most-below _)

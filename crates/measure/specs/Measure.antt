@@ -2,12 +2,14 @@
 use Prim.Native.Nat.{ℕ, _+_, _*_, _^_, min}
 use mathlib.Core.Bool.{Bool, true, _&&_}
 use mathlib.Core.List.{List, [], _∷_}
-use lib.ListN.{length, getD}
-use lib.Dec.{leb, ltb}
+use lib.ListN.{length, take, drop, getD}
+use lib.Dec.{leb, ltb, eqb}
 use Rattle.format.specs.Bytes.{paddingTo8}
 use Rattle.format.specs.Datatype.{Datatype, Members, EnumMember, enumValues, typeSize, product}
-use Rattle.format.specs.Message.{storable, storableMembers, storableEnum, storableVariable, carried, carriedMembers, messageLength, membersLength, enumNameLength, namePadding, offsetWidth, skippedBytes, reservedBytes, permutationBytes}
+use Rattle.format.specs.Message.{noNul, storable, storableMembers, storableEnum, storableVariable, carried, carriedMembers, messageLength, membersLength, enumNameLength, namePadding, offsetWidth, skippedBytes, reservedBytes, permutationBytes}
+use Rattle.format.specs.Utf8.{wellFormed}
 use Rattle.format.specs.Table.{Found, found, bad, andThen, enumNamesAt, enumValuesAt}
+use Rattle.measure.specs.declared.EnumNames.{EnumNames}
 use Rattle.measure.specs.declared.Measure.{Measure}
 use Rattle.measure.specs.declared.Measured.{Measured}
 use Rattle.measure.specs.declared.Measured.the-variants.{At, Lost}
@@ -70,6 +72,14 @@ memberHead e n l = nameLengthOf e l + offsetWidth e n + skippedBytes e
 
 unfoldable pub arrayHead : (edition rank : ℕ) → ℕ
 arrayHead e k = 8 + (1 + reservedBytes e + (4 * k + permutationBytes e k))
+
+-- the n bytes of a name at a place of the pool are valid UTF-8 without NUL
+unfoldable pub validAt : (pool : List ℕ) (place n : ℕ) → Bool
+validAt pool p n = noNul (take n (drop p pool)) && wellFormed (take n (drop p pool))
+
+-- what is measured of an enumeration's names, and one more of n bytes, whose value has v bytes
+unfoldable pub withEnumName : (pool : List ℕ) (edition width : ℕ) → EnumNames → (place n v : ℕ) → EnumNames
+withEnumName pool e w names p n v = record { storable = names .storable && (validAt pool p n && eqb v w); length = mostLength (names .length + nameLengthOf e n) }
 
 -- what is measured of a type, from what is measured of the types inside
 unfoldable pub withMember : Measure → (valid : Bool) (offset head : ℕ) → Measure → Measure

@@ -19,7 +19,9 @@ ghost use lib.ListN.{length, take, drop, getD};
 ghost use Rattle.format.specs.Bytes.{dimensionsFrom};
 ghost use Rattle.format.specs.Message.{storableVariable};
 ghost use Rattle.format.specs.Table.{allBelow, typeAt, membersAt};
-ghost use Rattle.measure.specs.Measure.{measureOf, measureIn, enumMeasureOf, partsFit, leafStorable, leafLength, mostLength, offsetFits, nameLengthOf, arrayHead, memberHead, leafMeasure, withMember, compoundMeasure, enumerationMeasure, variableMeasure, arrayMeasure};
+ghost use Rattle.rows.specs.Entries.{fromEntry};
+ghost use Rattle.rows.specs.declared.Entry.the-variants.{Enumeration};
+ghost use Rattle.measure.specs.Measure.{measureOf, measureIn, enumMeasureOf, partsFit, leafStorable, leafLength, mostLength, offsetFits, nameLengthOf, arrayHead, memberHead, validAt, withEnumName, leafMeasure, withMember, compoundMeasure, enumerationMeasure, variableMeasure, arrayMeasure};
 
 // The next row and pool place, the size, whether the type can be stored and the edition carries it, and the message's length, which stops at
 // 4,294,967,296.
@@ -35,6 +37,12 @@ pub struct Measure {
 pub enum Measured {
     At(Measure),
     Lost,
+}
+
+// Whether the names and values of an enumeration can be stored, and the length of the names, which stops at 4,294,967,296.
+pub struct EnumNames {
+    pub storable: bool,
+    pub length: u64,
 }
 
 // A length, which stops at 4,294,967,296.
@@ -163,7 +171,7 @@ fn member_head(edition: u8, size: u32, long: u32) -> u64
     name_length(edition, long) + width + (skipped_bytes(edition) as u64)
 }
 
-// What is measured so far of a compound's members, and one member more.
+// What is measured so far of a compound's members, and one member more, of a valid name or not, with so many bytes before its type.
 fn with_member(sum: Measure, valid: bool, offset: u32, head: u64, member: Measure) -> Measure
     ensures { λ r. ⌜ r ≡ withMember sum valid offset head member ⌝ }
 {
@@ -178,6 +186,24 @@ fn with_member(sum: Measure, valid: bool, offset: u32, head: u64, member: Measur
         carried: both(sum.carried, member.carried),
         length: add_lengths(sum.length, add_lengths(head, member.length)),
     }
+}
+
+// The same, of a member whose name is the next `name` bytes of the pool.
+fn with_named_member(
+    pool: &[u8],
+    sum: Measure,
+    offset: u32,
+    name: u32,
+    member: Measure,
+    edition: u8,
+) -> Measure
+    requires { ⌜ sum .place + name ≤ length (now pool) ⌝ }
+    ensures { λ r. ⌜ r ≡ withMember sum (validAt (now (pool .entry)) (sum .place) name) offset (memberHead edition (sum .size) name) member ⌝ }
+{
+    let from = sum.place;
+    let valid = valid_name(pool, from, from + name as usize);
+    let head = member_head(edition, sum.size, name);
+    with_member(sum, valid, offset, head, member)
 }
 
 fn leaf_measure(
@@ -261,6 +287,27 @@ fn array_measure(pool: &[u8], place: usize, rank: u32, edition: u8, base: Measur
     }
 }
 
+// What is measured so far of an enumeration's names over a base of size `width`, and one more: `name` bytes at a place of the pool, its value
+// `value` bytes long.
+fn with_enum_name(
+    pool: &[u8],
+    place: usize,
+    name: u32,
+    value: u32,
+    width: u32,
+    names: EnumNames,
+    edition: u8,
+) -> EnumNames
+    requires { ⌜ place + name ≤ length (now pool) ⌝ }
+    ensures { λ r. ⌜ r ≡ withEnumName (now (pool .entry)) edition width names place name value ⌝ }
+{
+    let valid = valid_name(pool, place, place + name as usize);
+    EnumNames {
+        storable: both(names.storable, both(valid, value == width)),
+        length: add_lengths(names.length, name_length(edition, name)),
+    }
+}
+
 // The members of an enumeration over a base of size `width`: names, then values.
 fn measure_enum_members(
     table: &[u32],
@@ -287,8 +334,10 @@ fn measure_enum_members(
     let mut p = place;
     let mut values: usize = 0;
     let mut left = count;
-    let mut storable = true;
-    let mut total: u64 = 0;
+    let mut names = EnumNames {
+        storable: true,
+        length: 0,
+    };
     while left > 0 {
         let member = enum_member_at(table, pool, r, p);
         match member {
@@ -296,16 +345,13 @@ fn measure_enum_members(
                 return Measured::Lost;
             }
             Member::Named(name, value) => {
-                let long = name as usize;
                 let value_length = value as usize;
                 if pool.len() - values < value_length {
                     return Measured::Lost;
                 }
-                let valid = valid_name(pool, p, p + long);
-                storable = both(storable, both(valid, value == width));
-                total = add_lengths(total, name_length(edition, name));
+                names = with_enum_name(pool, p, name, value, width, names, edition);
                 r += 1;
-                p += long;
+                p += name as usize;
                 values += value_length;
                 left -= 1;
             }
@@ -321,9 +367,9 @@ fn measure_enum_members(
         row: r,
         place: p + values,
         size: width,
-        storable: storable,
+        storable: names.storable,
         carried: true,
-        length: add_lengths(total, values as u64),
+        length: add_lengths(names.length, values as u64),
     })
 }
 
@@ -363,29 +409,16 @@ pub fn measure_type(
                 Measured::At(members) => { Measured::At(compound_measure(size, count, members)) }
             }
         }
-        Entry::Enumeration(size, count) => {
-            let got = measure_type(table, pool, row + 1, place, levels - 1, edition);
-            match got {
-                Measured::Lost => Measured::Lost,
-                Measured::At(base) => {
-                    let listed = measure_enum_members(
-                        table,
-                        pool,
-                        base.row,
-                        base.place,
-                        count,
-                        edition,
-                        base.size,
-                    );
-                    match listed {
-                        Measured::Lost => Measured::Lost,
-                        Measured::At(members) => {
-                            Measured::At(enumeration_measure(size, count, base, members))
-                        }
-                    }
-                }
-            }
-        }
+        Entry::Enumeration(size, count) => measure_enumeration(
+            table,
+            pool,
+            row,
+            place,
+            size,
+            count,
+            levels - 1,
+            edition,
+        ),
         Entry::VariableLength(string, padding, charset) => {
             let got = measure_type(table, pool, row + 1, place, levels - 1, edition);
             match got {
@@ -414,7 +447,44 @@ pub fn measure_type(
     }
 }
 
-// The same, of a member: a leaf is measured without a call of `measure_type`, which reads any other row again.
+// An enumeration's row, with so many levels left below it.
+fn measure_enumeration(
+    table: &[u32],
+    pool: &[u8],
+    row: usize,
+    place: usize,
+    size: u32,
+    count: u32,
+    levels: usize,
+    edition: u8,
+) -> Measured
+    requires { ⌜ row * 16 + 16 ≤ length (now table) ⌝ }
+    ensures { λ r. ⌜ r ≡ measureOf edition (fromEntry (typeAt levels (now (table .entry)) (now (pool .entry))) (now (table .entry)) (now (pool .entry)) row place (Enumeration size count)) ⌝ }
+{
+    let got = measure_type(table, pool, row + 1, place, levels, edition);
+    match got {
+        Measured::Lost => Measured::Lost,
+        Measured::At(base) => {
+            let listed = measure_enum_members(
+                table,
+                pool,
+                base.row,
+                base.place,
+                count,
+                edition,
+                base.size,
+            );
+            match listed {
+                Measured::Lost => Measured::Lost,
+                Measured::At(members) => {
+                    Measured::At(enumeration_measure(size, count, base, members))
+                }
+            }
+        }
+    }
+}
+
+// As `measure_type`, of a member: a leaf is measured here, and `measure_type` reads any other row again.
 fn measure_inner(
     table: &[u32],
     pool: &[u8],
@@ -468,16 +538,13 @@ fn measure_members(
                 return Measured::Lost;
             }
             Member::Named(offset, name) => {
-                let end = p + name as usize;
-                let got = measure_inner(table, pool, r + 1, end, levels, edition);
+                let got = measure_inner(table, pool, r + 1, p + name as usize, levels, edition);
                 match got {
                     Measured::Lost => {
                         return Measured::Lost;
                     }
                     Measured::At(m) => {
-                        let valid = valid_name(pool, p, end);
-                        let head = member_head(edition, size, name);
-                        sum = with_member(sum, valid, offset, head, m);
+                        sum = with_named_member(pool, sum, offset, name, m, edition);
                         left -= 1;
                     }
                 }

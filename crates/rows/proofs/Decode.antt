@@ -198,11 +198,17 @@ module _ {m : Member} {x y : ℕ} (w b r p : ℕ) (i : m ≡ Named x y) where
   pub named-behind : MemberInside m w b r p (memberNameLength m) → b < 18446744073709551616 → Fits w64 (p + y)
   named-behind h k = let j = named-inside w b r p i h in record { fits = omega arith }
 
+  pub named-piece : MemberInside m w b r p (memberNameLength m) → p + y ≤ b
+  named-piece h = named-inside w b r p i h .1
+
   pub enumNamed-next : MemberInside m w b r p (enumMemberNameLength m) → w < 18446744073709551616 → Fits w64 (r + 1)
   enumNamed-next h k = let j = enumNamed-inside w b r p i h in record { fits = omega arith }
 
   pub enumNamed-behind : MemberInside m w b r p (enumMemberNameLength m) → b < 18446744073709551616 → Fits w64 (p + x)
   enumNamed-behind h k = let j = enumNamed-inside w b r p i h in record { fits = omega arith }
+
+  pub enumNamed-piece : MemberInside m w b r p (enumMemberNameLength m) → p + x ≤ b
+  enumNamed-piece h = enumNamed-inside w b r p i h .1
 
 -- a word of a table, and a byte of a pool, by what is known of all of them
 pub word-below : (table : List ℕ) (i : ℕ) → ((j : ℕ) → Fits w32 (getD table j 0)) → getD table i 0 < 4294967296

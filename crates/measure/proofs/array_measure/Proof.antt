@@ -1,14 +1,11 @@
-use native.Mathlib.Omega.{arith}
+use Rattle.rows.proofs.Decode.{byte-below}
 use Rattle.measure.proofs.Made.{array-made, array-below}
 use borrow.Author.Needs.{needs}
 use Rattle.measure.proofs.array_measure.Statement.{statement}
 use Rattle.measure.proofs.array_measure.Tie as tie
 
 returns : tie.Need-returns
-returns c =
-    let known = c .before .before .before .before .before .before .before in
-    let args = known .before .args in
-    (search array-made, array-below (args .pool .now) (args .place) (args .rank) (λ i. omega (arith, known .shared-slice-known .given i)))
+returns c = search (array-made, array-below, byte-below)
 
 pub array-measure-spec : {M : Type 1} → statement M
 array-measure-spec =

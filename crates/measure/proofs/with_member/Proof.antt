@@ -4,7 +4,7 @@ use Rattle.measure.proofs.with_member.Statement.{statement}
 use Rattle.measure.proofs.with_member.Tie as tie
 
 returns : tie.Need-returns
-returns c = with-member-made _ _ _ _ _ ((c .before .before .before .before .before .before .offset-fits) .ensures) ((c .before .before .before .before .before .both) .ensures) ((c .before .before .before .before .both2) .ensures) ((c .before .before .before .both3) .ensures) ((c .before .before .both4) .ensures) ((c .before .add-lengths) .ensures) ((c .add-lengths2) .ensures)
+returns c = search with-member-made
 
 pub with-member-spec : {M : Type 1} → statement M
 with-member-spec =

@@ -1,48 +1,65 @@
 use Prim.Native.Nat.{ℕ, _+_, _*_, _<_, _≤_}
-use mathlib.Core.Path.{_≡_, refl}
+use mathlib.Core.Path.{_≡_}
 use native.Mathlib.Omega.{arith}
 use borrow.Author.Needs.{needs}
 use Rattle.format.specs.Table.{typeAt, membersAt}
-use Rattle.rows.proofs.Decode.{leaf-inside, array-inside, named-inside, array-behind, array-next, compound-next, enumeration-next, named-behind, named-next, variableLength-next}
+use Rattle.rows.proofs.Decode.{leaf-inside, enumeration-inside, array-piece, array-behind, array-next, compound-next, named-behind, named-next, named-piece, variableLength-next}
 use Rattle.measure.specs.Measure.{measureIn}
-use Rattle.measure.proofs.Measures.{gathered, type-none, type-unknown, type-leaf, type-compound-lost, type-compound, type-enumeration-lost, type-unlisted, type-enumeration, type-variableLength-lost, type-variableLength, type-array-lost, type-array, members-start, members-unnamed, members-lost, members-next, member-size, member-short, members-end}
+use Rattle.measure.proofs.Measures.{gathered, type-none, type-unknown, type-leaf, type-compound-lost, type-compound, type-enumeration, enumeration-unbased, enumeration-unlisted, enumeration-listed, type-variableLength-lost, type-variableLength, type-array-lost, type-array, members-start, members-unnamed, members-lost, members-next, member-short, members-end}
 use Prim.Native.Nat.{ℕ, _<_}
 use borrow.Fn.Kinds.{In}
 use borrow.Fn.PlainCycle.{Measures, is, falls, and}
+use Rattle.measure.proofs.measure_enumeration.Reads as measure-enumeration
+use Rattle.measure.proofs.measure_enumeration.Kinds as measure-enumeration-kinds
+use Rattle.measure.proofs.+measure_enumeration+measure_inner+measure_members+measure_type.Lts-measure_enumeration as measure-enumeration-lts
 use Rattle.measure.proofs.measure_inner.Reads as measure-inner
 use Rattle.measure.proofs.measure_inner.Kinds as measure-inner-kinds
-use Rattle.measure.proofs.+measure_inner+measure_members+measure_type.Lts-measure_inner as measure-inner-lts
+use Rattle.measure.proofs.+measure_enumeration+measure_inner+measure_members+measure_type.Lts-measure_inner as measure-inner-lts
 use Rattle.measure.proofs.measure_members.Reads as measure-members
 use Rattle.measure.proofs.measure_members.Kinds as measure-members-kinds
-use Rattle.measure.proofs.+measure_inner+measure_members+measure_type.Lts-measure_members as measure-members-lts
+use Rattle.measure.proofs.+measure_enumeration+measure_inner+measure_members+measure_type.Lts-measure_members as measure-members-lts
 use Rattle.measure.proofs.measure_type.Reads as measure-type
 use Rattle.measure.proofs.measure_type.Kinds as measure-type-kinds
-use Rattle.measure.proofs.+measure_inner+measure_members+measure_type.Lts-measure_type as measure-type-lts
+use Rattle.measure.proofs.+measure_enumeration+measure_inner+measure_members+measure_type.Lts-measure_type as measure-type-lts
 use Rattle.measure.proofs.array_measure.Reads as array-measure-reads
 use Rattle.measure.proofs.compound_measure.Reads as compound-measure-reads
 use Rattle.measure.proofs.enumeration_measure.Reads as enumeration-measure-reads
 use Rattle.measure.proofs.leaf_measure.Reads as leaf-measure-reads
 use Rattle.measure.proofs.measure_enum_members.Reads as measure-enum-members-reads
-use Rattle.measure.proofs.member_head.Reads as member-head-reads
 use Rattle.measure.proofs.variable_measure.Reads as variable-measure-reads
-use Rattle.measure.proofs.with_member.Reads as with-member-reads
-use Rattle.names.proofs.valid_name.Reads as valid-name-reads
+use Rattle.measure.proofs.with_named_member.Reads as with-named-member-reads
 use Rattle.rows.proofs.entry_at.Reads as entry-at-reads
 use Rattle.rows.proofs.member_at.Reads as member-at-reads
-use Rattle.measure.proofs.+measure_inner+measure_members+measure_type.{statement}
-use Rattle.measure.proofs.+measure_inner+measure_members+measure_type.Tie.{close}
+use Rattle.measure.proofs.+measure_enumeration+measure_inner+measure_members+measure_type.{statement}
+use Rattle.measure.proofs.+measure_enumeration+measure_inner+measure_members+measure_type.Tie.{close}
+
+abbrev μ-measure-enumeration : Measures 2 measure-enumeration-kinds.ps ℕ
+μ-measure-enumeration κs a = a .1 .1 .1 .1 .1 .1 .0 * 3 + 1
 
 abbrev μ-measure-inner : Measures 2 measure-inner-kinds.ps ℕ
-μ-measure-inner κs a =
-    a .1 .1 .1 .1 .0 * 3 + 1
+μ-measure-inner κs a = a .1 .1 .1 .1 .0 * 3 + 1
 
 abbrev μ-measure-members : Measures 2 measure-members-kinds.ps ℕ
-μ-measure-members κs a =
-    a .1 .1 .1 .1 .1 .1 .0 * 3 + 2
+μ-measure-members κs a = a .1 .1 .1 .1 .1 .1 .0 * 3 + 2
 
 abbrev μ-measure-type : Measures 2 measure-type-kinds.ps ℕ
-μ-measure-type κs a =
-    a .1 .1 .1 .1 .0 * 3
+μ-measure-type κs a = a .1 .1 .1 .1 .0 * 3
+
+abbrev measure-enumeration-at : ℕ → In 2 measure-enumeration-kinds.ps
+measure-enumeration-at t =
+    and
+    2
+    measure-enumeration-kinds.ps
+    (is 2 measure-enumeration-kinds.ps μ-measure-enumeration t)
+    measure-enumeration.Pre
+
+abbrev measure-enumeration-below : ℕ → In 2 measure-enumeration-kinds.ps
+measure-enumeration-below t =
+    and
+    2
+    measure-enumeration-kinds.ps
+    (falls 2 measure-enumeration-kinds.ps _<_ μ-measure-enumeration t)
+    measure-enumeration.Pre
 
 abbrev measure-inner-at : ℕ → In 2 measure-inner-kinds.ps
 measure-inner-at t =
@@ -84,14 +101,32 @@ measure-type-below t =
     (falls 2 measure-type-kinds.ps _<_ μ-measure-type t)
     measure-type.Pre
 
+abbrev measure-members-Inv-loop : measure-members-lts.InvT-loop
+measure-members-Inv-loop table pool row place count size levels edition left₀ sum₀ left sum = (sum .length ≤ 4294967296) × (measureIn edition size (membersAt (typeAt levels table pool) table pool count row place) ≡ gathered edition sum (membersAt (typeAt levels table pool) table pool left (sum .row) (sum .place)))
+
+abbrev measure-members-μ-loop : measure-members-lts.MeasureT-loop
+measure-members-μ-loop table pool row place count size levels edition left₀ sum₀ left sum = left
+
+abbrev measure-enumeration-calls : ℕ → measure-enumeration-lts.Claims
+measure-enumeration-calls t = (measure-type-below t, measure-type.Post, measure-enum-members-reads.Asked, measure-enum-members-reads.Learnt, enumeration-measure-reads.Asked, enumeration-measure-reads.Learnt)
+
 abbrev measure-inner-calls : ℕ → measure-inner-lts.Claims
 measure-inner-calls t = (entry-at-reads.Asked, entry-at-reads.Learnt, leaf-measure-reads.Asked, leaf-measure-reads.Learnt, measure-type-below t, measure-type.Post)
 
 abbrev measure-members-calls : ℕ → measure-members-lts.Claims
-measure-members-calls t = (member-at-reads.Asked, member-at-reads.Learnt, measure-inner-below t, measure-inner.Post, valid-name-reads.Asked, valid-name-reads.Learnt, member-head-reads.Asked, member-head-reads.Learnt, with-member-reads.Asked, with-member-reads.Learnt)
+measure-members-calls t = (member-at-reads.Asked, member-at-reads.Learnt, measure-inner-below t, measure-inner.Post, with-named-member-reads.Asked, with-named-member-reads.Learnt)
 
 abbrev measure-type-calls : ℕ → measure-type-lts.Claims
-measure-type-calls t = (entry-at-reads.Asked, entry-at-reads.Learnt, leaf-measure-reads.Asked, leaf-measure-reads.Learnt, measure-members-below t, measure-members.Post, compound-measure-reads.Asked, compound-measure-reads.Learnt, measure-type-below t, measure-type.Post, measure-enum-members-reads.Asked, measure-enum-members-reads.Learnt, enumeration-measure-reads.Asked, enumeration-measure-reads.Learnt, variable-measure-reads.Asked, variable-measure-reads.Learnt, array-measure-reads.Asked, array-measure-reads.Learnt)
+measure-type-calls t = (entry-at-reads.Asked, entry-at-reads.Learnt, leaf-measure-reads.Asked, leaf-measure-reads.Learnt, measure-members-below t, measure-members.Post, compound-measure-reads.Asked, compound-measure-reads.Learnt, measure-enumeration-below t, measure-enumeration.Post, measure-type-below t, measure-type.Post, variable-measure-reads.Asked, variable-measure-reads.Learnt, array-measure-reads.Asked, array-measure-reads.Learnt)
+
+measure-enumeration-returns : (t : ℕ) → measure-enumeration-lts.Need-returns (measure-enumeration-calls t) (measure-enumeration-at t) measure-enumeration.Post
+measure-enumeration-returns t c = search enumeration-unbased
+
+measure-enumeration-returns-2 : (t : ℕ) → measure-enumeration-lts.Need-returns-2 (measure-enumeration-calls t) (measure-enumeration-at t) measure-enumeration.Post
+measure-enumeration-returns-2 t c = search enumeration-unlisted
+
+measure-enumeration-returns-3 : (t : ℕ) → measure-enumeration-lts.Need-returns-3 (measure-enumeration-calls t) (measure-enumeration-at t) measure-enumeration.Post
+measure-enumeration-returns-3 t c = search enumeration-listed
 
 measure-inner-returns : (t : ℕ) → measure-inner-lts.Need-returns (measure-inner-calls t) (measure-inner-at t) measure-inner.Post
 measure-inner-returns t c = search type-none
@@ -102,34 +137,26 @@ measure-inner-leaf-measure-requires t c κs = let i = leaf-inside _ _ _ _ ((c .b
 measure-inner-returns-2 : (t : ℕ) → measure-inner-lts.Need-returns-2 (measure-inner-calls t) (measure-inner-at t) measure-inner.Post
 measure-inner-returns-2 t c = search type-leaf
 
-abbrev measure-members-Inv-loop : measure-members-lts.InvT-loop
-measure-members-Inv-loop table pool row place count size levels edition left₀ sum₀ left sum =
-    (sum .size ≡ size) × ((sum .length ≤ 4294967296) × (measureIn edition size (membersAt (typeAt levels table pool) table pool count row place) ≡ gathered edition sum (membersAt (typeAt levels table pool) table pool left (sum .row) (sum .place))))
-
-abbrev measure-members-μ-loop : measure-members-lts.MeasureT-loop
-measure-members-μ-loop table pool row place count size levels edition left₀ sum₀ left sum =
-    left
-
 measure-members-loop-holds : (t : ℕ) → measure-members-lts.Need-loop-holds (measure-members-calls t) (measure-members-at t) measure-members.Post measure-members-Inv-loop measure-members-μ-loop
-measure-members-loop-holds t c = (refl, (omega arith, members-start _ _ _ _ _))
+measure-members-loop-holds t c = (omega arith, members-start _ _ _ _ _)
 
 measure-members-returns : (t : ℕ) → measure-members-lts.Need-returns (measure-members-calls t) (measure-members-at t) measure-members.Post measure-members-Inv-loop measure-members-μ-loop
 measure-members-returns t c = search members-unnamed
 
-measure-members-add-end : (t : ℕ) → measure-members-lts.Need-add-end (measure-members-calls t) (measure-members-at t) measure-members.Post measure-members-Inv-loop measure-members-μ-loop
-measure-members-add-end t c = search (named-next, named-behind, needs)
-
 measure-members-add-measure-inner : (t : ℕ) → measure-members-lts.Need-add-measure-inner (measure-members-calls t) (measure-members-at t) measure-members.Post measure-members-Inv-loop measure-members-μ-loop
-measure-members-add-measure-inner t c = search (named-next, named-behind, needs)
+measure-members-add-measure-inner t c = search (named-next, needs)
+
+measure-members-add-measure-inner-2 : (t : ℕ) → measure-members-lts.Need-add-measure-inner-2 (measure-members-calls t) (measure-members-at t) measure-members.Post measure-members-Inv-loop measure-members-μ-loop
+measure-members-add-measure-inner-2 t c = search (named-behind, needs)
 
 measure-members-returns-2 : (t : ℕ) → measure-members-lts.Need-returns-2 (measure-members-calls t) (measure-members-at t) measure-members.Post measure-members-Inv-loop measure-members-μ-loop
 measure-members-returns-2 t c = search members-lost
 
-measure-members-valid-name-requires : (t : ℕ) → measure-members-lts.Need-valid-name-requires (measure-members-calls t) (measure-members-at t) measure-members.Post measure-members-Inv-loop measure-members-μ-loop
-measure-members-valid-name-requires t c κs = let i = named-inside _ _ _ _ ((c .before .before .before .before .before .member) .given .1) ((c .before .before .before .before .before .before .before .member-at) .ensures .1) in (omega arith, omega arith)
+measure-members-with-named-member-requires : (t : ℕ) → measure-members-lts.Need-with-named-member-requires (measure-members-calls t) (measure-members-at t) measure-members.Post measure-members-Inv-loop measure-members-μ-loop
+measure-members-with-named-member-requires t c κs = search named-piece
 
 measure-members-loop-again : (t : ℕ) → measure-members-lts.Need-loop-again (measure-members-calls t) (measure-members-at t) measure-members.Post measure-members-Inv-loop measure-members-μ-loop
-measure-members-loop-again t c = let i = named-inside _ _ _ _ ((c .before .before .before .before .before .before .before .before .member) .given .1) ((c .before .before .before .before .before .before .before .before .before .before .member-at) .ensures .1) in (member-size _ _ _ _ _ ((c .with-member) .ensures) ((c .before .before .before .before .before .before .before .before .before .before .before .before .loop) .inv .0), (member-short _ _ _ _ _ ((c .with-member) .ensures), members-next _ _ _ _ _ _ ((c .before .before .before .before .before .before .before .before .before .before .before .before .loop) .inv .1 .1) (omega arith) ((c .before .before .before .before .before .before .before .before .before .before .member-at) .ensures .0) ((c .before .before .before .before .before .before .before .before .member) .given .1) ((c .before .before .before .before .before .before .measure-inner) .ensures) (i .1) ((c .before .before .before .before .before .before .before .before .before .before .before .before .loop) .inv .0) ((c .before .before .before .before .got) .given .1) ((c .before .before .valid-name) .ensures) ((c .before .member-head) .ensures) ((c .with-member) .ensures)))
+measure-members-loop-again t c = search (member-short, members-next, named-piece)
 
 measure-members-returns-3 : (t : ℕ) → measure-members-lts.Need-returns-3 (measure-members-calls t) (measure-members-at t) measure-members.Post measure-members-Inv-loop measure-members-μ-loop
 measure-members-returns-3 t c = search members-end
@@ -143,69 +170,23 @@ measure-type-leaf-measure-requires t c κs = let i = leaf-inside _ _ _ _ ((c .be
 measure-type-add-measure-members : (t : ℕ) → measure-type-lts.Need-add-measure-members (measure-type-calls t) (measure-type-at t) measure-type.Post
 measure-type-add-measure-members t c = search (compound-next, needs)
 
+measure-type-measure-enumeration-requires : (t : ℕ) → measure-type-lts.Need-measure-enumeration-requires (measure-type-calls t) (measure-type-at t) measure-type.Post
+measure-type-measure-enumeration-requires t c κs = (omega arith, enumeration-inside _ _ _ _ (c .before .before .before .entry-at .ensures .1) (c .before .entry3 .given .1))
+
 measure-type-add-measure-type : (t : ℕ) → measure-type-lts.Need-add-measure-type (measure-type-calls t) (measure-type-at t) measure-type.Post
-measure-type-add-measure-type t c = search (enumeration-next, needs)
-
-measure-type-measure-enum-members-requires :
-    (t : ℕ) → measure-type-lts.Need-measure-enum-members-requires (
-      entry-at-reads.Asked,
-      entry-at-reads.Learnt,
-      leaf-measure-reads.Asked,
-      leaf-measure-reads.Learnt,
-      measure-members-below t,
-      measure-members.Post,
-      compound-measure-reads.Asked,
-      compound-measure-reads.Learnt,
-      measure-type-below t,
-      measure-type.Post,
-      measure-enum-members-reads.Asked,
-      measure-enum-members-reads.Learnt,
-      enumeration-measure-reads.Asked,
-      enumeration-measure-reads.Learnt,
-      variable-measure-reads.Asked,
-      variable-measure-reads.Learnt,
-      array-measure-reads.Asked,
-      array-measure-reads.Learnt,
-    ) (measure-type-at t) measure-type.Post
-measure-type-measure-enum-members-requires t c κs = search needs
-
-measure-type-enumeration-measure-requires :
-    (t : ℕ) → measure-type-lts.Need-enumeration-measure-requires (
-      entry-at-reads.Asked,
-      entry-at-reads.Learnt,
-      leaf-measure-reads.Asked,
-      leaf-measure-reads.Learnt,
-      measure-members-below t,
-      measure-members.Post,
-      compound-measure-reads.Asked,
-      compound-measure-reads.Learnt,
-      measure-type-below t,
-      measure-type.Post,
-      measure-enum-members-reads.Asked,
-      measure-enum-members-reads.Learnt,
-      enumeration-measure-reads.Asked,
-      enumeration-measure-reads.Learnt,
-      variable-measure-reads.Asked,
-      variable-measure-reads.Learnt,
-      array-measure-reads.Asked,
-      array-measure-reads.Learnt,
-    ) (measure-type-at t) measure-type.Post
-measure-type-enumeration-measure-requires t c κs = search needs
+measure-type-add-measure-type t c = search (variableLength-next, needs)
 
 measure-type-add-measure-type-2 : (t : ℕ) → measure-type-lts.Need-add-measure-type-2 (measure-type-calls t) (measure-type-at t) measure-type.Post
-measure-type-add-measure-type-2 t c = search (variableLength-next, needs)
-
-measure-type-add-measure-type-3 : (t : ℕ) → measure-type-lts.Need-add-measure-type-3 (measure-type-calls t) (measure-type-at t) measure-type.Post
-measure-type-add-measure-type-3 t c = search (array-next, array-behind, needs)
+measure-type-add-measure-type-2 t c = search (array-next, needs)
 
 measure-type-mul-measure-type : (t : ℕ) → measure-type-lts.Need-mul-measure-type (measure-type-calls t) (measure-type-at t) measure-type.Post
-measure-type-mul-measure-type t c = search (array-next, array-behind, needs)
+measure-type-mul-measure-type t c = search (array-behind, needs)
 
-measure-type-add-measure-type-4 : (t : ℕ) → measure-type-lts.Need-add-measure-type-4 (measure-type-calls t) (measure-type-at t) measure-type.Post
-measure-type-add-measure-type-4 t c = search (array-next, array-behind, needs)
+measure-type-add-measure-type-3 : (t : ℕ) → measure-type-lts.Need-add-measure-type-3 (measure-type-calls t) (measure-type-at t) measure-type.Post
+measure-type-add-measure-type-3 t c = search (array-behind, needs)
 
 measure-type-array-measure-requires : (t : ℕ) → measure-type-lts.Need-array-measure-requires (measure-type-calls t) (measure-type-at t) measure-type.Post
-measure-type-array-measure-requires t c κs = let i = array-inside _ _ _ _ ((c .before .before .before .before .before .before .before .entry-at) .ensures .1) ((c .before .before .before .before .before .entry5) .given .1) in i .1
+measure-type-array-measure-requires t c κs = search array-piece
 
 measure-type-returns-2 : (t : ℕ) → measure-type-lts.Need-returns-2 (measure-type-calls t) (measure-type-at t) measure-type.Post
 measure-type-returns-2 t c = search type-unknown
@@ -220,29 +201,40 @@ measure-type-returns-5 : (t : ℕ) → measure-type-lts.Need-returns-5 (measure-
 measure-type-returns-5 t c = search type-compound
 
 measure-type-returns-6 : (t : ℕ) → measure-type-lts.Need-returns-6 (measure-type-calls t) (measure-type-at t) measure-type.Post
-measure-type-returns-6 t c = search type-enumeration-lost
+measure-type-returns-6 t c = search type-enumeration
 
 measure-type-returns-7 : (t : ℕ) → measure-type-lts.Need-returns-7 (measure-type-calls t) (measure-type-at t) measure-type.Post
-measure-type-returns-7 t c = search type-unlisted
+measure-type-returns-7 t c = search type-variableLength-lost
 
 measure-type-returns-8 : (t : ℕ) → measure-type-lts.Need-returns-8 (measure-type-calls t) (measure-type-at t) measure-type.Post
-measure-type-returns-8 t c = type-enumeration _ _ _ _ _ _ ((c .before .before .before .before .before .before .before .before .before .before .before .before .before .if1) .left) ((c .before .before .before .before .before .before .before .before .before .before .before .before .entry-at) .ensures .0) ((c .before .before .before .before .before .before .before .before .measure-type) .ensures) ((c .before .before .before .before .before .before .got2) .given .1) ((c .before .before .before .before .before .before .before .before .before .before .entry3) .given .1) ((c .before .before .before .before .measure-enum-members) .ensures) ((c .before .before .listed) .given .1) ((c .enumeration-measure) .ensures)
+measure-type-returns-8 t c = search type-variableLength
 
 measure-type-returns-9 : (t : ℕ) → measure-type-lts.Need-returns-9 (measure-type-calls t) (measure-type-at t) measure-type.Post
-measure-type-returns-9 t c = search type-variableLength-lost
+measure-type-returns-9 t c = search type-array-lost
 
 measure-type-returns-10 : (t : ℕ) → measure-type-lts.Need-returns-10 (measure-type-calls t) (measure-type-at t) measure-type.Post
-measure-type-returns-10 t c = search type-variableLength
+measure-type-returns-10 t c = search type-array
 
-measure-type-returns-11 : (t : ℕ) → measure-type-lts.Need-returns-11 (measure-type-calls t) (measure-type-at t) measure-type.Post
-measure-type-returns-11 t c = search type-array-lost
-
-measure-type-returns-12 : (t : ℕ) → measure-type-lts.Need-returns-12 (measure-type-calls t) (measure-type-at t) measure-type.Post
-measure-type-returns-12 t c = search type-array
-
-pub +measure-inner+measure-members+measure-type-spec : {M : Type 1} → statement M
-+measure-inner+measure-members+measure-type-spec =
-    close μ-measure-inner μ-measure-members μ-measure-type (λ t. measure-inner-lts.spec (measure-inner-calls t)
+pub +measure-enumeration+measure-inner+measure-members+measure-type-spec :
+    {M : Type 1} → statement M
++measure-enumeration+measure-inner+measure-members+measure-type-spec =
+    close μ-measure-enumeration μ-measure-inner μ-measure-members μ-measure-type (λ t. measure-enumeration-lts.spec
+    (measure-enumeration-calls t)
+    (measure-enumeration-at t)
+    measure-enumeration.Post
+    (λ c. search needs)  -- measure-enumeration-add-measure-type
+    (λ c κs. search needs)  -- measure-enumeration-measure-type-requires
+    (λ c. search needs)  -- measure-enumeration-enum-told
+    (λ c. search needs)  -- measure-enumeration-enum-known-got
+    (λ c κs. search needs)  -- measure-enumeration-measure-enum-members-requires
+    (λ c. search needs)  -- measure-enumeration-enum-told-2
+    (λ c. search needs)  -- measure-enumeration-enum-known-listed
+    (λ c κs. search needs)  -- measure-enumeration-enumeration-measure-requires
+    (measure-enumeration-returns t)
+    (measure-enumeration-returns-2 t)
+    (measure-enumeration-returns-3 t))
+    (λ t. measure-inner-lts.spec
+    (measure-inner-calls t)
     (measure-inner-at t)
     measure-inner.Post
     (measure-inner-returns t)
@@ -252,7 +244,8 @@ pub +measure-inner+measure-members+measure-type-spec : {M : Type 1} → statemen
     (λ c κs. search needs)  -- measure-inner-measure-type-requires
     (measure-inner-returns-2 t)
     (λ c. search needs))  -- measure-inner-returns-3
-    (λ t. measure-members-lts.spec (measure-members-calls t)
+    (λ t. measure-members-lts.spec
+    (measure-members-calls t)
     (measure-members-at t)
     measure-members.Post
     measure-members-Inv-loop
@@ -262,21 +255,20 @@ pub +measure-inner+measure-members+measure-type-spec : {M : Type 1} → statemen
     (λ c. search needs)  -- measure-members-enum-told
     (measure-members-returns t)
     (λ c. search needs)  -- measure-members-enum-known-member
-    (λ c. search needs)  -- measure-members-cast-end
-    (measure-members-add-end t)
     (measure-members-add-measure-inner t)
+    (λ c. search needs)  -- measure-members-cast-measure-inner
+    (measure-members-add-measure-inner-2 t)
     (λ c κs. search needs)  -- measure-members-measure-inner-requires
     (λ c. search needs)  -- measure-members-enum-told-2
     (measure-members-returns-2 t)
     (λ c. search needs)  -- measure-members-enum-known-got
-    (measure-members-valid-name-requires t)
-    (λ c κs. search needs)  -- measure-members-member-head-requires
-    (λ c κs. search needs)  -- measure-members-with-member-requires
+    (measure-members-with-named-member-requires t)
     (λ c. search needs)  -- measure-members-sub-left
     (λ c. search needs)  -- measure-members-loop-less
     (measure-members-loop-again t)
     (measure-members-returns-3 t))
-    λ t. measure-type-lts.spec (measure-type-calls t)
+    λ t. measure-type-lts.spec
+    (measure-type-calls t)
     (measure-type-at t)
     measure-type.Post
     (measure-type-returns t)
@@ -292,31 +284,24 @@ pub +measure-inner+measure-members+measure-type-spec : {M : Type 1} → statemen
     (λ c. search needs)  -- measure-type-enum-known-got
     (λ c κs. search needs)  -- measure-type-compound-measure-requires
     (λ c. search needs)  -- measure-type-enum-known-entry-3
+    (λ c. search needs)  -- measure-type-sub-measure-enumeration
+    (measure-type-measure-enumeration-requires t)
+    (λ c. search needs)  -- measure-type-enum-known-entry-4
     (measure-type-add-measure-type t)
     (λ c. search needs)  -- measure-type-sub-measure-type
     (λ c κs. search needs)  -- measure-type-measure-type-requires
     (λ c. search needs)  -- measure-type-enum-told-3
     (λ c. search needs)  -- measure-type-enum-known-got-2
-    (measure-type-measure-enum-members-requires t)
-    (λ c. search needs)  -- measure-type-enum-told-4
-    (λ c. search needs)  -- measure-type-enum-known-listed
-    (measure-type-enumeration-measure-requires t)
-    (λ c. search needs)  -- measure-type-enum-known-entry-4
-    (measure-type-add-measure-type-2 t)
-    (λ c. search needs)  -- measure-type-sub-measure-type-2
-    (λ c κs. search needs)  -- measure-type-measure-type-requires-2
-    (λ c. search needs)  -- measure-type-enum-told-5
-    (λ c. search needs)  -- measure-type-enum-known-got-3
     (λ c κs. search needs)  -- measure-type-variable-measure-requires
     (λ c. search needs)  -- measure-type-enum-known-entry-5
-    (measure-type-add-measure-type-3 t)
+    (measure-type-add-measure-type-2 t)
     (λ c. search needs)  -- measure-type-cast-measure-type
     (measure-type-mul-measure-type t)
-    (measure-type-add-measure-type-4 t)
-    (λ c. search needs)  -- measure-type-sub-measure-type-3
-    (λ c κs. search needs)  -- measure-type-measure-type-requires-3
-    (λ c. search needs)  -- measure-type-enum-told-6
-    (λ c. search needs)  -- measure-type-enum-known-got-4
+    (measure-type-add-measure-type-3 t)
+    (λ c. search needs)  -- measure-type-sub-measure-type-2
+    (λ c κs. search needs)  -- measure-type-measure-type-requires-2
+    (λ c. search needs)  -- measure-type-enum-told-4
+    (λ c. search needs)  -- measure-type-enum-known-got-3
     (measure-type-array-measure-requires t)
     (measure-type-returns-2 t)
     (measure-type-returns-3 t)
@@ -327,5 +312,3 @@ pub +measure-inner+measure-members+measure-type-spec : {M : Type 1} → statemen
     (measure-type-returns-8 t)
     (measure-type-returns-9 t)
     (measure-type-returns-10 t)
-    (measure-type-returns-11 t)
-    (measure-type-returns-12 t)
