@@ -98,8 +98,11 @@ module _ (table pool : List ℕ) (e : ℕ) {y : Measured} (q : y ≡ measureOf e
     t = measuring .type
 
     -- its rows and pool bytes lie in the table and in the pool
-    pub write-fits : ((i : ℕ) → getD pool i 0 < 256) → (m .row * 16 ≤ length table) × (m .place ≤ length pool)
-    write-fits small = stands-fits table pool t (m .row) (m .place) small (measuring .stands)
+    pub rows-fit : ((i : ℕ) → getD pool i 0 < 256) → m .row * 16 ≤ length table
+    rows-fit small = stands-fits table pool t (m .row) (m .place) small (measuring .stands) .0
+
+    pub place-fits : ((i : ℕ) → getD pool i 0 < 256) → m .place ≤ length pool
+    place-fits small = stands-fits table pool t (m .row) (m .place) small (measuring .stands) .1
 
     module _ (out : List ℕ) {u : Bool} (w : u ≡ endsAt table pool (m .row) (m .place)) where
       pub write-behind : not u ≡ true → Writes table pool e (AnswerRefused BadTable) out out

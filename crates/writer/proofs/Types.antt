@@ -220,63 +220,67 @@ module _ (levels e at : ℕ) (table pool : List ℕ) (r p : ℕ) (out : List ℕ
           let n : PutsType e b (found t r′ p′) x out₁ out₂ = rw o at m in
           stands-behind (arrayHead e size k p pool) (message e t) r′ p′ at out h f (found-puts n s d)))
 
-    -- ---- an enumeration
+    pub type-enumeration : {n k : ℕ} {x : Put} {out₁ : List ℕ} → y ≡ Enumeration n k → PutsType e at (fromEntry (typeAt (levels - 1) table pool) table pool r p (Enumeration n k)) x out out₁
+        → PutsType e at (typeAt levels table pool r p) x out out₁
+    type-enumeration i f = where-known λ q. rw (by-entry q i) f
 
-    module _ {n k : ℕ} (i : y ≡ Enumeration n k) {w : Placed} {out₁ : List ℕ} (g : k < 65536 → Places (header 8 e (k % 256) (k / 256) n) at w out out₁) where
-      -- for all members that are found behind the base
-      abbrev Behinds : Put → List ℕ → (t : Datatype) (r₁ p₁ : ℕ) → Type 0
-      Behinds x out₂ t r₁ p₁ =
-          (ms : List EnumMember) (r₂ p₂ : ℕ) → andThen (enumNamesAt table pool k r₁ p₁) (enumValuesAt pool) ≡ found ms r₂ p₂ → Places (header 8 e (k % 256) (k / 256) n) at w out out₁
-          → storable t ≡ true → carried e t ≡ true → Stands (header 8 e (k % 256) (k / 256) n ++ (message e t ++ (enumNameBytes e ms ++ enumValues ms))) r₂ p₂ at x out out₂
+-- ---- an enumeration, with so many levels left below it
 
-      enumeration-behind : (t : Datatype) (r₁ p₁ : ℕ) (v : Found (List EnumMember)) → andThen (enumNamesAt table pool k r₁ p₁) (enumValuesAt pool) ≡ v → (x : Put) (out₂ : List ℕ) → Behinds x out₂ t r₁ p₁
-          → PutsFound e at (andThen v (λ ms r₂ p₂. found (enumeration n t ms) r₂ p₂)) x out out₂
-      unfolding PutsFound andThen message carried
-      enumeration-behind t r₁ p₁ (found ms r₂ p₂) f x out₂ s =
-          let c : length ms ≡ k = enum-count table pool k r₁ p₁ f in
-          λ u d.
-          let v = enumeration-storable n t ms u in
-          rw c (s ms r₂ p₂ f (g (rw c at (v .0))) (v .1) d)
-      enumeration-behind t r₁ p₁ bad f x out₂ s = tt
+module _ (levels e at : ℕ) (table pool : List ℕ) (r p : ℕ) (out : List ℕ) (n k : ℕ) {w : Placed} {out₁ : List ℕ} (g : k < 65536 → Places (header 8 e (k % 256) (k / 256) n) at w out out₁) where
+  -- for all members that are found behind the base
+  abbrev Behinds : Put → List ℕ → (t : Datatype) (r₁ p₁ : ℕ) → Type 0
+  Behinds x out₂ t r₁ p₁ =
+      (ms : List EnumMember) (r₂ p₂ : ℕ) → andThen (enumNamesAt table pool k r₁ p₁) (enumValuesAt pool) ≡ found ms r₂ p₂ → Places (header 8 e (k % 256) (k / 256) n) at w out out₁
+      → storable t ≡ true → carried e t ≡ true → Stands (header 8 e (k % 256) (k / 256) n ++ (message e t ++ (enumNameBytes e ms ++ enumValues ms))) r₂ p₂ at x out out₂
 
-      enumeration-is : (z : Found Datatype) (x : Put) (out₂ : List ℕ) → ((t : Datatype) (r₁ p₁ : ℕ) → z ≡ found t r₁ p₁ → Behinds x out₂ t r₁ p₁)
-          → PutsFound e at (andThen z (λ t r₁ p₁. andThen (enumNamesAt table pool k r₁ p₁) (λ ns r₂ p₂. andThen (enumValuesAt pool ns r₂ p₂) (λ ms r₃ p₃. found (enumeration n t ms) r₃ p₃)))) x out out₂
-      unfolding andThen
-      enumeration-is (found t r₁ p₁) x out₂ s =
-          rw (then-assoc (enumNamesAt table pool k r₁ p₁) (enumValuesAt pool) (λ ms r₃ p₃. found (enumeration n t ms) r₃ p₃)) (enumeration-behind t r₁ p₁ _ refl x out₂ (s t r₁ p₁ refl))
-      enumeration-is bad x out₂ s = unfold PutsFound in tt
+  enumeration-behind : (t : Datatype) (r₁ p₁ : ℕ) (v : Found (List EnumMember)) → andThen (enumNamesAt table pool k r₁ p₁) (enumValuesAt pool) ≡ v → (x : Put) (out₂ : List ℕ) → Behinds x out₂ t r₁ p₁
+      → PutsFound e at (andThen v (λ ms r₂ p₂. found (enumeration n t ms) r₂ p₂)) x out out₂
+  unfolding PutsFound andThen message carried
+  enumeration-behind t r₁ p₁ (found ms r₂ p₂) f x out₂ s =
+      let c : length ms ≡ k = enum-count table pool k r₁ p₁ f in
+      λ u d.
+      let v = enumeration-storable n t ms u in
+      rw c (s ms r₂ p₂ f (g (rw c at (v .0))) (v .1) d)
+  enumeration-behind t r₁ p₁ bad f x out₂ s = tt
 
-      as-enumeration : {x : Put} {out₂ : List ℕ}
-          → PutsFound e at (andThen (typeAt (levels - 1) table pool (r + 1) p) (λ t r₁ p₁. andThen (enumNamesAt table pool k r₁ p₁) (λ ns r₂ p₂. andThen (enumValuesAt pool ns r₂ p₂) (λ ms r₃ p₃. found (enumeration n t ms) r₃ p₃)))) x out out₂
-          → PutsType e at (typeAt levels table pool r p) x out out₂
-      as-enumeration f = where-known λ q. rw (by-entry q i) (unfold fromEntry in rw (← add-one r) (record { puts = f }))
+  enumeration-is : (z : Found Datatype) (x : Put) (out₂ : List ℕ) → ((t : Datatype) (r₁ p₁ : ℕ) → z ≡ found t r₁ p₁ → Behinds x out₂ t r₁ p₁)
+      → PutsFound e at (andThen z (λ t r₁ p₁. andThen (enumNamesAt table pool k r₁ p₁) (λ ns r₂ p₂. andThen (enumValuesAt pool ns r₂ p₂) (λ ms r₃ p₃. found (enumeration n t ms) r₃ p₃)))) x out out₂
+  unfolding andThen
+  enumeration-is (found t r₁ p₁) x out₂ s =
+      rw (then-assoc (enumNamesAt table pool k r₁ p₁) (enumValuesAt pool) (λ ms r₃ p₃. found (enumeration n t ms) r₃ p₃)) (enumeration-behind t r₁ p₁ _ refl x out₂ (s t r₁ p₁ refl))
+  enumeration-is bad x out₂ s = unfold PutsFound in tt
 
-      pub type-enumeration-full : w ≡ Full → PutsType e at (typeAt levels table pool r p) Lost out out₁
-      type-enumeration-full f =
-          as-enumeration (enumeration-is _ Lost out₁ (λ t r₁ p₁ o ms r₂ p₂ q h s d. lost-behind (header 8 e (k % 256) (k / 256) n) (message e t ++ (enumNameBytes e ms ++ enumValues ms)) r₂ p₂ at out h f))
+  as-enumeration : {x : Put} {out₂ : List ℕ}
+      → PutsFound e at (andThen (typeAt levels table pool (r + 1) p) (λ t r₁ p₁. andThen (enumNamesAt table pool k r₁ p₁) (λ ns r₂ p₂. andThen (enumValuesAt pool ns r₂ p₂) (λ ms r₃ p₃. found (enumeration n t ms) r₃ p₃)))) x out out₂
+      → PutsType e at (fromEntry (typeAt levels table pool) table pool r p (Enumeration n k)) x out out₂
+  as-enumeration f = unfold fromEntry in rw (← add-one r) (record { puts = f })
 
-      module _ {a : ℕ} (f : w ≡ Behind a) {z : Put} {out₂ : List ℕ} (m : PutsType e a (typeAt (levels - 1) table pool (r + 1) p) z out₁ out₂) where
-        pub type-enumeration-lost : {out₃ : List ℕ} → z ≡ Lost → PutsType e at (typeAt levels table pool r p) Lost out out₃
-        type-enumeration-lost {out₃ = out₃} l =
-            as-enumeration
-            (enumeration-is _ Lost out₃ (λ t r₁ p₁ o ms r₂ p₂ q h s d.
-            let b : PutsType e a (found t r₁ p₁) z out₁ out₂ = rw o at m in
-            let v : Places (message e t) a Full out₁ out₃ = unplaced (found-puts b s d) l in
-            stands-behind (header 8 e (k % 256) (k / 256) n) (message e t ++ (enumNameBytes e ms ++ enumValues ms)) r₂ p₂ at out h f
-            (lost-behind (message e t) (enumNameBytes e ms ++ enumValues ms) r₂ p₂ a out₁ v refl)))
+  pub enumeration-full : w ≡ Full → PutsType e at (fromEntry (typeAt levels table pool) table pool r p (Enumeration n k)) Lost out out₁
+  enumeration-full f =
+      as-enumeration (enumeration-is _ Lost out₁ (λ t r₁ p₁ o ms r₂ p₂ q h s d. lost-behind (header 8 e (k % 256) (k / 256) n) (message e t ++ (enumNameBytes e ms ++ enumValues ms)) r₂ p₂ at out h f))
 
-        pub type-enumeration : {b : Written} {x : Put} {out₃ : List ℕ} → z ≡ At b → PutsEnum e (b .at) table pool k (b .row) (b .place) x out₂ out₃
-            → PutsType e at (typeAt levels table pool r p) x out out₃
-        type-enumeration {b = b} {x = x} {out₃ = out₃} l u =
-            as-enumeration
-            (enumeration-is _ x out₃ (λ t r₁ p₁ o ms r₂ p₂ q h s d.
-            let v : PutsType e a (found t r₁ p₁) z out₁ out₂ = rw o at m in
-            let j = found-puts v s d in
-            stands-behind (header 8 e (k % 256) (k / 256) n) (message e t ++ (enumNameBytes e ms ++ enumValues ms)) r₂ p₂ at out h f
-            (where-fits λ fit.
-            let c : b ≡ record { row = r₁; place = p₁; at = a + length (message e t) } = row-known j l (omega (arith, length-append (message e t) (enumNameBytes e ms ++ enumValues ms))) in
-            let y′ : PutsEnum e (a + length (message e t)) table pool k r₁ p₁ x out₂ out₃ = rw c at u in
-            stands-behind (message e t) (enumNameBytes e ms ++ enumValues ms) r₂ p₂ a out₁ (rw c at (placed j l)) refl (enum-stands y′ q))))
+  module _ {a : ℕ} (f : w ≡ Behind a) {z : Put} {out₂ : List ℕ} (m : PutsType e a (typeAt levels table pool (r + 1) p) z out₁ out₂) where
+    pub enumeration-lost : {out₃ : List ℕ} → z ≡ Lost → PutsType e at (fromEntry (typeAt levels table pool) table pool r p (Enumeration n k)) Lost out out₃
+    enumeration-lost {out₃ = out₃} l =
+        as-enumeration
+        (enumeration-is _ Lost out₃ (λ t r₁ p₁ o ms r₂ p₂ q h s d.
+        let b : PutsType e a (found t r₁ p₁) z out₁ out₂ = rw o at m in
+        let v : Places (message e t) a Full out₁ out₃ = unplaced (found-puts b s d) l in
+        stands-behind (header 8 e (k % 256) (k / 256) n) (message e t ++ (enumNameBytes e ms ++ enumValues ms)) r₂ p₂ at out h f
+        (lost-behind (message e t) (enumNameBytes e ms ++ enumValues ms) r₂ p₂ a out₁ v refl)))
+
+    pub enumeration-put : {b : Written} {x : Put} {out₃ : List ℕ} → z ≡ At b → PutsEnum e (b .at) table pool k (b .row) (b .place) x out₂ out₃
+        → PutsType e at (fromEntry (typeAt levels table pool) table pool r p (Enumeration n k)) x out out₃
+    enumeration-put {b = b} {x = x} {out₃ = out₃} l u =
+        as-enumeration
+        (enumeration-is _ x out₃ (λ t r₁ p₁ o ms r₂ p₂ q h s d.
+        let v : PutsType e a (found t r₁ p₁) z out₁ out₂ = rw o at m in
+        let j = found-puts v s d in
+        stands-behind (header 8 e (k % 256) (k / 256) n) (message e t ++ (enumNameBytes e ms ++ enumValues ms)) r₂ p₂ at out h f
+        (where-fits λ fit.
+        let c : b ≡ record { row = r₁; place = p₁; at = a + length (message e t) } = row-known j l (omega (arith, length-append (message e t) (enumNameBytes e ms ++ enumValues ms))) in
+        let y′ : PutsEnum e (a + length (message e t)) table pool k r₁ p₁ x out₂ out₃ = rw c at u in
+        stands-behind (message e t) (enumNameBytes e ms ++ enumValues ms) r₂ p₂ a out₁ (rw c at (placed j l)) refl (enum-stands y′ q))))
 
 -- ---- the size of the type at a row
 

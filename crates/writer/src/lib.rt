@@ -24,6 +24,8 @@ ghost use mathlib.Core.Path.{_≡_};
 ghost use Prim.Native.Nat.{_+_, _*_, _-_, _≤_, _<_};
 ghost use lib.ListN.{length};
 ghost use Rattle.format.specs.Table.{typeAt, membersAt};
+ghost use Rattle.rows.specs.Entries.{fromEntry};
+ghost use Rattle.rows.specs.declared.Entry.the-variants.{Enumeration};
 ghost use Rattle.writer.specs.Writes.{PutsType, PutsMembers, sizeIn, Writes};
 
 // The answer of `write`: the length of the message, or why it is refused.
@@ -101,7 +103,7 @@ fn put_members(
     })
 }
 
-// As `put_type`, of a member: a leaf is put without a call of it, which reads any other row again.
+// As `put_type`, of a member: a leaf is put here, and `put_type` reads any other row again.
 fn put_inner(
     table: &[u32],
     pool: &[u8],
@@ -188,28 +190,18 @@ fn put_type(
                 ),
             }
         }
-        Entry::Enumeration(size, count) => {
-            let headed = put_group_header(out, at, 8, edition, count, size);
-            match headed {
-                Placed::Full => Put::Lost,
-                Placed::Behind(a) => {
-                    let put = put_type(table, pool, row + 1, place, inner, edition, out, a);
-                    match put {
-                        Put::Lost => Put::Lost,
-                        Put::At(base) => put_enum_members(
-                            table,
-                            pool,
-                            base.row,
-                            base.place,
-                            count,
-                            out,
-                            base.at,
-                            edition,
-                        ),
-                    }
-                }
-            }
-        }
+        Entry::Enumeration(size, count) => put_enumeration(
+            table,
+            pool,
+            row,
+            place,
+            size,
+            count,
+            inner,
+            edition,
+            out,
+            at,
+        ),
         Entry::VariableLength(string, padding, charset) => {
             let headed = put_variable_header(out, at, string, padding, charset);
             match headed {
@@ -228,6 +220,44 @@ fn put_type(
                     let from = place + (rank as usize) * 4;
                     put_type(table, pool, row + 1, from, inner, edition, out, a)
                 }
+            }
+        }
+    }
+}
+
+// An enumeration's row, with so many levels left below it: header, base, names and values.
+fn put_enumeration(
+    table: &[u32],
+    pool: &[u8],
+    row: usize,
+    place: usize,
+    size: u32,
+    count: u32,
+    levels: usize,
+    edition: u8,
+    out: &mut [u8],
+    at: usize,
+) -> Put
+    requires { ⌜ (edition ≤ 3) × (row * 16 + 16 ≤ length (now table)) ⌝ }
+    ensures { λ r. ⌜ PutsType edition at (fromEntry (typeAt levels (now (table .entry)) (now (pool .entry))) (now (table .entry)) (now (pool .entry)) row place (Enumeration size count)) r (now (out .entry)) (now (out .exit)) ⌝ }
+{
+    let headed = put_group_header(out, at, 8, edition, count, size);
+    match headed {
+        Placed::Full => Put::Lost,
+        Placed::Behind(a) => {
+            let put = put_type(table, pool, row + 1, place, levels, edition, out, a);
+            match put {
+                Put::Lost => Put::Lost,
+                Put::At(base) => put_enum_members(
+                    table,
+                    pool,
+                    base.row,
+                    base.place,
+                    count,
+                    out,
+                    base.at,
+                    edition,
+                ),
             }
         }
     }

@@ -7,6 +7,8 @@ use native.Mathlib.Omega.{arith}
 use native.Mathlib.Nat.{add-zero, zero-add}
 use lib.ListN.{length, take, drop}
 use lib.Dec.{leb}
+use mir.Syntax.{w64}
+use mir.Val.{Fits}
 use lib.Seq.{take-add, drop-drop}
 use borrow.Author.Tests.{leb-true}
 use Rattle.format.specs.Datatype.{EnumMember, enumValues}
@@ -135,6 +137,10 @@ module _ {e : ℕ} {table pool : List ℕ} {count row place at : ℕ} {out₀ : 
   enum-begun v z = rw z (record { long = refl; some = omega arith; near = omega arith; rest = λ x o h. record { puts = from-rest e pool at x out₀ o (enumNamesAt table pool count row place) h } })
 
   module _ {k r p a v : ℕ} {out : List ℕ} (i : EnumLeft e table pool count row place at out₀ k r p a v out) where
+    -- the place behind the values that are stored does not wrap
+    pub values-fit : {s out₁ out₂ : List ℕ} {b c : ℕ} {x : Placed} → PlacesFrom pool p v s b x out₁ out₂ → x ≡ Behind c → length pool < 18446744073709551616 → place < 18446744073709551616 → Fits w64 (p + v)
+    values-fit f g l m = record { fits = omega (arith, i .near, f .inside _ g) }
+
     module _ (h : 0 < k) {m : Member} (j : MemberIfKnown (enumMemberAt table pool r p) m) where
       known : (x : Put) (out′ : List ℕ) → (m ≡ enumMemberAt table pool r p → Rest e pool v a (enumNamesAt table pool k r p) x out out′) → PutsEnum e at table pool count row place x out₀ out′
       known x out′ c = i .rest x out′ (known-names e table pool v a k r p x out out′ h j c)

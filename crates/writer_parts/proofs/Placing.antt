@@ -109,6 +109,9 @@ pub zeros-begun : (out : List ℕ) (at i : ℕ) → i ≡ 0 → out ≡ sets out
 unfolding zeros
 zeros-begun out at i h = rw h
 
+pub zeros-inside : (out : List ℕ) (at n i : ℕ) {out′ : List ℕ} {m : ℕ} → m ≡ length out - at → n ≤ m → out′ ≡ sets out at (zeros i) → i < n → at + i < length out′
+zeros-inside out at n i t h w k = omega (arith, ap length w, length-sets out at (zeros i))
+
 pub zeros-next : (out : List ℕ) (at i : ℕ) {out′ : List ℕ} → out′ ≡ sets out at (zeros i) → set out′ (at + i) 0 ≡ sets out at (zeros (i + 1))
 zeros-next out at i h =
     ap (λ (l : List ℕ). set l (at + i) 0) h

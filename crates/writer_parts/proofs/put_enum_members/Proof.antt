@@ -1,14 +1,9 @@
 use native.Mathlib.Omega.{arith}
 use borrow.Author.Needs.{needs}
 use Rattle.rows.proofs.Decode.{enumNamed-behind, enumNamed-next}
-use Rattle.writer_parts.proofs.Enums.{EnumLeft, enum-begun, enum-unnamed, enum-full, enum-past, enum-next, enum-cut, enum-ended}
+use Rattle.writer_parts.proofs.Enums.{EnumLeft, enum-begun, enum-unnamed, enum-full, enum-past, enum-next, enum-cut, enum-ended, values-fit}
 use Rattle.writer_parts.proofs.put_enum_members.Statement.{statement}
 use Rattle.writer_parts.proofs.put_enum_members.Tie as tie
-use Rattle.writer_parts.proofs.put_enum_members.Reads as reads
-use Rattle.writer_parts.proofs.put_enum_members.Lts as lts
-use Rattle.rows.proofs.known_enum_member_at.Reads as known-enum-member-at-reads
-use Rattle.writer_parts.proofs.put_name.Reads as put-name-reads
-use Rattle.writer_parts.proofs.put_piece.Reads as put-piece-reads
 
 abbrev Inv-loop : tie.InvT-loop
 Inv-loop table pool row place count out₀ at version r₀ p₀ a₀ values₀ left₀ out r p a values left =
@@ -30,16 +25,16 @@ returns-3 : tie.Need-returns-3 Inv-loop μ-loop
 returns-3 c = search enum-past
 
 add-r : tie.Need-add-r Inv-loop μ-loop
-add-r c = search (enumNamed-next, enumNamed-behind, needs)
+add-r c = search (enumNamed-next, needs)
 
 add-p : tie.Need-add-p Inv-loop μ-loop
-add-p c = search (enumNamed-next, enumNamed-behind, needs)
+add-p c = search (enumNamed-behind, needs)
 
 loop-again : tie.Need-loop-again Inv-loop μ-loop
 loop-again c = search enum-next
 
 add-t31 : tie.Need-add-t31 Inv-loop μ-loop
-add-t31 c = omega (arith, (c .before .before .before .before .before .put-piece) .ensures .inside _ ((c .before .put2) .given .1))
+add-t31 c = search values-fit
 
 returns-4 : tie.Need-returns-4 Inv-loop μ-loop
 returns-4 c = search enum-cut

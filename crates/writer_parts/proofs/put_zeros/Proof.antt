@@ -5,7 +5,7 @@ use borrow.Author.Needs.{needs}
 use lib.ListN.{length}
 use lib.Seq.{sets, length-sets}
 use Rattle.format.specs.Bytes.{zeros}
-use Rattle.writer_parts.proofs.Placing.{zeros-full, zero-stored, zeros-stored, zeros-next, zeros-begun}
+use Rattle.writer_parts.proofs.Placing.{zeros-full, zero-stored, zeros-inside, zeros-stored, zeros-next, zeros-begun}
 use Rattle.writer_parts.proofs.put_zeros.Statement.{statement}
 use Rattle.writer_parts.proofs.put_zeros.Tie as tie
 
@@ -25,7 +25,7 @@ loop-holds : tie.Need-loop-holds Inv-loop μ-loop
 loop-holds c = (omega arith, zeros-begun _ _ _ refl)
 
 slice-write-out-2 : tie.Need-slice-write-out-2 Inv-loop μ-loop
-slice-write-out-2 c = omega (arith, ap length ((c .before .loop) .inv .1), length-sets ((c .before .before .before .before .before .before) .args .out .now) ((c .before .before .before .before .before .before) .args .at) (zeros ((c .before .loop) .i)))
+slice-write-out-2 c = search zeros-inside
 
 loop-again : tie.Need-loop-again Inv-loop μ-loop
 loop-again c = (omega arith, zeros-next _ _ _ ((c .before .loop) .inv .1))
