@@ -1,4 +1,5 @@
-// The sizes, predicates, slots and references of a type that is read first, at limit 15, into 64 rows and 256 pool bytes; and what each gives.
+// The sizes, predicates, names, slots and references of a type that is read first, at limit 15, into 64 rows and 256 pool bytes; and what
+// each gives.
 use reading::Reading;
 use references::References;
 use show::number;
@@ -128,6 +129,36 @@ pub fn sizes(label: &[u8], message: &[u8]) {
     }
 }
 
+fn name_line(table: &[u32], pool: &[u8], row: usize) {
+    text(b"  row ");
+    number(row as u64);
+    text(b": '");
+    text(table::member_name(table, pool, row));
+    text(b"'\n");
+}
+
+fn name_lines(table: &[u32], pool: &[u8]) {
+    text(b"\n");
+    name_line(table, pool, 0);
+    name_line(table, pool, 1);
+    name_line(table, pool, 2);
+    name_line(table, pool, 3);
+    name_line(table, pool, 4);
+}
+
+// The names of the first five rows of the type of a message.
+pub fn names(label: &[u8], message: &[u8]) {
+    let mut table = [7u32; 1024];
+    let mut pool = [7u8; 256];
+    text(label);
+    text(b":");
+    let got = reader::read(message, 15, &mut table, &mut pool);
+    match got {
+        Reading::Refused(e) => refusal_line(e),
+        Reading::Read(_) => name_lines(&table, &pool),
+    }
+}
+
 // By a table that sets out no type, and of a fixed type of size 0, which no message gives.
 pub fn bad_tables() {
     let mut table = [0u32; 16];
@@ -135,6 +166,7 @@ pub fn bad_tables() {
     let mut places = [7u64; 4];
     text(b"no type: ");
     size_lines(&table, &pool);
+    name_line(&table, &pool, 0);
     table[0] = 1;
     text(b"a fixed type of size 0: ");
     size_lines(&table, &pool);

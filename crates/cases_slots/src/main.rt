@@ -1,4 +1,4 @@
-// Runs document 01's cases of sizes, slots and references, and one of each refusal, and writes what each gives.
+// Runs document 01's cases of sizes, slots and references, members' names, and one of each refusal, and writes what each gives.
 mod calls;
 mod types;
 
@@ -7,5 +7,6 @@ fn main() {
     types::unmapped_cases();
     types::reference_cases();
     types::size_cases();
+    types::name_cases();
     calls::bad_tables();
 }

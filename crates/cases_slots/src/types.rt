@@ -1,5 +1,6 @@
-// Document 01's cases of sizes, slots and references, and one for each refusal of them. U1, R and P are document 01's.
+// Document 01's cases of sizes, slots and references, members' names, and one for each refusal of them. U1, R and P are document 01's.
 use crate::calls::first_byte;
+use crate::calls::names;
 use crate::calls::references;
 use crate::calls::sizes;
 use crate::calls::slots;
@@ -108,4 +109,16 @@ pub fn size_cases() {
     first_byte(b"class 6", 0x16);
     first_byte(b"class 10", 0x3a);
     first_byte(b"class 11", 0x1b);
+}
+
+// Names of members: of a compound, and of an enumeration.
+pub fn name_cases() {
+    names(
+        b"names of P",
+        b"\x36\x02\x00\x00\x04\x00\x00\x00\x61\x00\x00\x10\x00\x00\x00\x01\x00\x00\x00\x00\x00\x08\x00\x62\x00\x02\x10\x00\x00\x00\x02\x00\x00\x00\x00\x00\x10\x00",
+    );
+    names(
+        b"names of an enumeration over U1",
+        b"\x38\x02\x00\x00\x01\x00\x00\x00\x10\x00\x00\x00\x01\x00\x00\x00\x00\x00\x08\x00on\x00off\x00\x01\x02",
+    );
 }
