@@ -42,6 +42,7 @@ pub struct Base {
     pub next: Spot,
 }
 
+// What is found of an array's base; Lost where there is none, or one of size 0.
 pub enum Based {
     At(Base),
     Lost,

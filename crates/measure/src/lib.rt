@@ -34,6 +34,7 @@ pub struct Measure {
     pub length: u64,
 }
 
+// What measuring finds: a type, or none.
 pub enum Measured {
     At(Measure),
     Lost,

@@ -1,4 +1,4 @@
-// The leaves that reading, writing and the walks share, from the Rust's `bytes.rs`, `convert.rs` and `datatype.rs`.
+// The small functions that reading, writing and the walks share, from the Rust's `bytes.rs`, `convert.rs` and `datatype.rs`.
 ghost use mathlib.Core.Path.{_≡_};
 ghost use Prim.Native.Nat.{_+_, _*_, _-_, _≤_, _<_, min};
 ghost use mathlib.Core.List.{_++_};
@@ -101,7 +101,7 @@ pub fn class_and_version(class: u8, version: u8) -> u8
     class | (version << 4)
 }
 
-// f0 of a fixed type or a bit field: order and sign.
+// f0 of a fixed type: order and sign.
 pub fn fixed_flags(order: u32, signed: u32) -> u8
     requires { ⌜ (order < 2) × (signed < 2) ⌝ }
     ensures { λ r. ⌜ r ≡ fixedFlags order signed ⌝ }

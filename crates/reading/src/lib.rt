@@ -17,6 +17,7 @@ pub struct State {
     pub size: u32,
 }
 
+// How a part of reading ends: how far it has come, or the refusal.
 pub enum Step {
     Done(State),
     Refused(Refusal),

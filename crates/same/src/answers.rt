@@ -6,6 +6,7 @@ use table::Sized;
 ghost use mathlib.Core.Path.{_≡_};
 ghost use Rattle.same.specs.Answers.{answering, answerSized, Answered};
 
+// What the program answers.
 pub enum Answer {
     Same,
     Differs,

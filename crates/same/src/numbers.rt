@@ -3,6 +3,7 @@ use show::text;
 ghost use mathlib.Core.Path.{_≡_};
 ghost use Rattle.same.specs.Numbers.{decimalOf};
 
+// An argument as a number.
 pub enum Parsed {
     Number(u64),
     NoNumber,

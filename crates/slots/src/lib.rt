@@ -33,6 +33,7 @@ pub struct Tally {
     pub end: u64,
 }
 
+// What the first walk finds: a type, or none.
 pub enum Tallied {
     At(Tally),
     Lost,

@@ -37,6 +37,7 @@ pub struct Survey {
     pub file: bool,
 }
 
+// What the walk finds: a type, or that no type stands at the row.
 pub enum Surveyed {
     Sound(Survey),
     Unsound,
@@ -48,6 +49,7 @@ pub struct Spot {
     pub place: usize,
 }
 
+// Where something ends, or Lost where the rows do not set it out.
 pub enum Found {
     At(Spot),
     Lost,

@@ -37,6 +37,7 @@ pub struct Written {
     pub at: usize,
 }
 
+// How storing a type ends; Lost where there is none, it does not fit or it cannot be stored.
 pub enum Put {
     At(Written),
     Lost,
