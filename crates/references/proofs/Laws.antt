@@ -3,12 +3,14 @@ use Prim.Native.Nat.{ℕ, zero, suc, _+_, _*_, _/_, _^_, _<_, _≤_, min}
 use mathlib.Core.Path.{_≡_, refl, sym, ap, _∙_}
 use mathlib.Core.Bool.{Bool, true, false}
 use mathlib.Core.List.{List, [], _∷_, _++_, append-nil, append-assoc}
-use native.Mathlib.Nat.{add-zero, mul-zero, suc-mul, div-lt-iff-lt-mul, le-div-iff-mul-le, mul-le-mul-right, div-mul-le-self}
+use native.Mathlib.Nat.{add-zero, mul-zero, suc-mul, div-lt-iff-lt-mul, le-div-iff-mul-le, mul-le-mul-right}
 use native.Mathlib.Numerals.{add-one}
 use native.Mathlib.Omega.{arith}
 use lib.ListN.{length, getD, take, drop, set}
 use lib.Seq.{sets, drop-cons, take-all}
 use lib.Dec.{leb}
+use mir.Syntax.{w64}
+use mir.Val.{Fits}
 use borrow.Author.Tests.{lt-ltb, le-ltb, le-leb, lt-leb}
 use Rattle.refusal.specs.declared.Refusal.the-variants.{SlotOutside, NoRoom}
 use Rattle.format.specs.Bytes.{numberFrom}
@@ -74,6 +76,14 @@ byte-room (suc (suc (suc (suc (suc (suc (suc zero))))))) h = omega arith
 byte-room (suc (suc (suc (suc (suc (suc (suc (suc k)))))))) h = absurd (omega arith)
 
 -- ---- the references of one record
+
+-- a slot of the record lies in the block, and its place does not wrap
+module _ (start : ℕ) (ss : List ℕ) (m i : ℕ) (inside : (j : ℕ) → j < length ss → start + getD ss j 0 + 8 ≤ m) (h : i < length ss) where
+  pub slot-lies : start + getD ss i 0 + 8 ≤ m
+  slot-lies = inside i h
+
+  pub slot-fits : m < 18446744073709551616 → Fits w64 (start + getD ss i 0)
+  slot-fits k = record { fits = omega (arith, slot-lies) }
 
 module _ (l l₁ : List ℕ) (at start : ℕ) (ss : List ℕ) (i : ℕ) (h : i < length ss) where
   pub place-more : l₁ ≡ sets l at (take i (shifted start ss)) → set l₁ (at + i) (start + getD ss i 0) ≡ sets l at (take (i + 1) (shifted start ss))
@@ -144,11 +154,22 @@ all-records l l₁ m m₁ size ss block r n h e g =
 pub record-within : (r n s m : ℕ) → r < n → n * s ≤ m → r * s + s ≤ m
 record-within r n s m h g = let p : suc r * s ≤ n * s = mul-le-mul-right s h in omega (arith, suc-mul r s)
 
+pub record-fits : (r n s m : ℕ) → r < n → n * s ≤ m → m < 18446744073709551616 → Fits w64 (r * s)
+record-fits r n s m h g k = record { fits = omega (arith, record-within r n s m h g) }
+
+-- the same of a slice whose length has not changed
+pub record-room : (r n s m m′ : ℕ) → r < n → n * s ≤ m → m′ ≡ m → r * s + s ≤ m′
+record-room r n s m m′ h g e = omega (arith, record-within r n s m h g)
+
 -- each slot of a record that lies in the block
 pub slot-in-block : (r n size m : ℕ) (ss : List ℕ) → r < n → n * size ≤ m → someOutside size ss ≡ false → (i : ℕ) → i < length ss → r * size + getD ss i 0 + 8 ≤ m
 slot-in-block r n size m ss h g o i k = omega (arith, record-within r n size m h g, slot-inside size ss o i k)
 
 -- ---- the ways out of `stored_object_references`
+
+-- what `store_records` requires of the slots
+pub none-outside : (size : ℕ) (ss : List ℕ) (flag : Bool) → flag ≡ someOutside size ss → flag ≡ false → someOutside size ss ≡ false
+none-outside size ss flag o f = sym o ∙ f
 
 -- an answer that is the definition's has its number and values
 told : (o : Outcome Found·References) {r : References} → r ≡ answerOf o → (referencesNumber r ≡ outcomeNumber o) × (referencesValues r ≡ outcomeValues (λ x. length (x .places)) o)
@@ -181,13 +202,9 @@ module _ (block ss p v : List ℕ) (n size : ℕ) (flag : Bool) (z : size ≡ re
         let t = told _ a in
         record { answer = a; answer-number = t .0; answer-values = t .1; places-are = rw (inside, q); values-are = rw (inside, q) }
 
-    module _ (r : room < 18446744073709551615) (g : wanted ≤ room) where
+    module _ (r : length p * 8 < 9223372036854775808) (g : wanted ≤ room) where
       enough : records * length ss ≤ room
       enough = omega arith
-
-      -- what `store_records` requires
-      pub may-store : ((records * size ≤ length block) × (someOutside size ss ≡ false)) × ((records * length ss ≤ length p) × (records * length ss ≤ length v))
-      may-store = ((rw c (div-mul-le-self (length block) size), sym o ∙ f), (omega (arith, enough), omega (arith, enough)))
 
       pub is-found : (p′ v′ : List ℕ) → p′ ≡ sets p 0 (entries size ss 0 records) → v′ ≡ sets v 0 (valuesAt block (entries size ss 0 records))
           → ReferencesAre block n ss (Found wanted) p p′ v v′

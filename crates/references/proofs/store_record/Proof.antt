@@ -4,7 +4,8 @@ use native.Mathlib.Omega.{arith}
 use lib.ListN.{length, take, length-set}
 use lib.Seq.{sets}
 use Rattle.format.specs.Slots.{shifted, valuesAt}
-use Rattle.references.proofs.Laws.{place-more, value-more, all-stored}
+use Rattle.references.proofs.Laws.{slot-lies, slot-fits, place-more, value-more, all-stored}
+use borrow.Author.Needs.{needs}
 use Rattle.references.proofs.store_record.Statement.{statement}
 use Rattle.references.proofs.store_record.Tie as tie
 
@@ -18,14 +19,10 @@ loop-holds : tie.Need-loop-holds Inv-loop μ-loop
 loop-holds c = ((omega arith, (refl, refl)), (refl, refl))
 
 add-place : tie.Need-add-place Inv-loop μ-loop
-add-place c =
-    let l = c .before .before .loop in
-    omega (arith, c .before .before .before .before .before .before .before .pre .0 (l .i) (omega arith))
+add-place c = search (slot-fits, needs)
 
 read-u64-requires : tie.Need-read-u64-requires Inv-loop μ-loop
-read-u64-requires c κs =
-    let l = c .before .before .loop in
-    c .before .before .before .before .before .before .before .pre .0 (l .i) (omega arith)
+read-u64-requires c κs = search slot-lies
 
 loop-again : tie.Need-loop-again Inv-loop μ-loop
 loop-again c =

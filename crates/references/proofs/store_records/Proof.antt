@@ -1,10 +1,11 @@
 use Prim.Native.Nat.{_-_, _≤_}
-use mathlib.Core.Path.{_≡_, refl}
+use mathlib.Core.Path.{_≡_}
 use native.Mathlib.Omega.{arith}
 use lib.ListN.{length}
 use lib.Seq.{sets}
 use Rattle.format.specs.Slots.{entries, valuesAt}
-use Rattle.references.proofs.Laws.{record-within, slot-in-block, places-more, values-more, none-stored, all-records}
+use Rattle.references.proofs.Laws.{record-fits, record-room, slot-in-block, places-more, values-more, none-stored, all-records}
+use borrow.Author.Needs.{needs}
 use Rattle.references.proofs.store_records.Statement.{statement}
 use Rattle.references.proofs.store_records.Tie as tie
 
@@ -15,41 +16,19 @@ abbrev μ-loop : tie.MeasureT-loop
 μ-loop block size records slots places₀ values₀ i₀ places values i = records - i
 
 loop-holds : tie.Need-loop-holds Inv-loop μ-loop
-loop-holds c = ((omega arith, (refl, refl)), none-stored (c .before .before .before .before .args .places .now) (c .before .before .before .before .args .values .now) (c .before .before .before .before .args .block .now) (c .before .before .before .before .args .slots .now) (c .before .before .before .before .args .size))
+loop-holds c = search (none-stored, needs)
 
 mul-store-record : tie.Need-mul-store-record Inv-loop μ-loop
-mul-store-record c =
-    let a = c .before .before .before .before .before .before .args in
-    let l = c .before .loop in
-    omega (arith, record-within (l .i) (a .records) (a .size) (length (a .block .now)) (omega arith) (omega arith))
+mul-store-record c = search (record-fits, needs)
 
 mul-store-record-2 : tie.Need-mul-store-record-2 Inv-loop μ-loop
-mul-store-record-2 c =
-    let a = c .before .before .before .before .before .before .args in
-    let l = c .before .loop in
-    omega (arith, record-within (l .i) (a .records) (length (a .slots .now)) (length (a .places .now)) (omega arith) (omega arith))
+mul-store-record-2 c = search (record-fits, needs)
 
 store-record-requires : tie.Need-store-record-requires Inv-loop μ-loop
-store-record-requires c κs =
-    let a = c .before .before .before .before .before .before .before .before .args in
-    let l = c .before .before .before .loop in (
-      slot-in-block (l .i) (a .records) (a .size) (length (a .block .now)) (a .slots .now) (omega arith) (omega arith) (c .before .before .before .before .before .before .before .before .pre .0 .1),
-      (
-        omega (arith, record-within (l .i) (a .records) (length (a .slots .now)) (length (a .places .now)) (omega arith) (omega arith)),
-        omega (arith, record-within (l .i) (a .records) (length (a .slots .now)) (length (a .values .now)) (omega arith) (omega arith)),
-      ),
-    )
+store-record-requires c κs = search (slot-in-block, record-room)
 
 loop-again : tie.Need-loop-again Inv-loop μ-loop
-loop-again c =
-    let l = c .before .before .before .before .before .before .before .before .loop in
-    let s = c .before .before .before .before .store-record in (
-      (omega arith, (omega arith, omega arith)),
-      (
-        places-more _ _ _ _ _ (l .i) (l .inv .1 .0) (s .ensures .0),
-        values-more _ _ _ _ _ (l .i) _ (l .inv .1 .1) (s .ensures .1),
-      ),
-    )
+loop-again c = search (places-more, values-more, needs)
 
 same-length : tie.Need-same-length Inv-loop μ-loop
 same-length c = c .before .loop .inv .0 .1 .0
