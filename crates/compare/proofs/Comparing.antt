@@ -7,6 +7,8 @@ use mathlib.Core.Logic.{_⊎_, inl, inr, ⊎-elim}
 use mathlib.Core.Option.{Option, none, some}
 use native.Mathlib.Omega.{arith}
 use lib.ListN.{length, getD}
+use mir.Syntax.{w8}
+use mir.Val.{Fits}
 use Rattle.refusal.specs.declared.Refusal.the-variants.{BadTable, ZeroSize, OutsideRecord, HeapHeld, WrongLength}
 use Rattle.format.specs.Datatype.{Datatype, typeSize}
 use Rattle.format.specs.Outcome.{Outcome, gives, refuses, outcomeNumber, outcomeValues}
@@ -78,8 +80,8 @@ module _ (table pool : List ℕ) {s : Survey} (g : Sets table pool s) where
   zero-some : (s .zero ≡ 0 → ⊥) → firstZero (g .type) ≡ some (s .zero - 1)
   zero-some n = some-zero _ (λ z. n (zero-is ∙ z)) ∙ ap (λ (k : ℕ). some (k - 1)) (sym zero-is)
 
-  pub zero-fits : (s .zero ≡ 0 → ⊥) → s .zero - 1 < 11
-  zero-fits n = omega (arith, zero-low (g .type), zero-is, n)
+  pub zero-fits : Fits w8 (s .zero - 1)
+  zero-fits = record { fits = omega (arith, zero-low (g .type), zero-is) }
 
   size-is : s .size ≡ typeSize (g .type)
   size-is = ap (λ (u : Survey). u .size) (says .is)

@@ -1,14 +1,16 @@
 -- The walk over a compound's members, and over an array's entries: one law for each way out of them.
 use Prim.Native.Nat.{ℕ, suc, _+_, _-_, _*_, _<_, _≤_}
-use mathlib.Core.Path.{_≡_, refl, sym, _∙_}
-use mathlib.Core.Logic.{⊎-elim}
+use mathlib.Core.Path.{_≡_, refl}
+use mathlib.Core.Logic.{_⊎_, inl, inr, ⊎-elim}
 use mathlib.Core.Bool.{_&&_, _||_, false≢true}
-use mathlib.Core.List.{List}
+use mathlib.Core.List.{List, [], _∷_}
 use native.Mathlib.Omega.{arith}
 use native.Mathlib.Numerals.{add-one}
 use native.Mathlib.Nat.{suc-mul, mul-le-mul-right}
 use lib.ListN.{length, take, drop}
 use lib.Dec.{leb, ltb}
+use types.Run.{OneOf}
+use denote.Enum.Declared.{tagOf}
 use borrow.Author.Tests.{leb-true, le-leb, ltb-false}
 use Rattle.format.specs.Datatype.{Datatype, Members, member, typeSize}
 use Rattle.format.specs.Ownership.{inEntries, owned, memberOwned, outside, memberOutside, heapHeld, memberHeapHeld}
@@ -26,7 +28,18 @@ use Rattle.table.specs.declared.Spot.{Spot}
 use Rattle.compare.specs.Agreeing.{Admitted, AdmittedIn, Agreement, Apartness, Answers, Agrees, AgreesIn, AgreesEach}
 use Rattle.compare.specs.declared.Agreed.{Agreed}
 use Rattle.compare.specs.declared.Agreed.the-variants.{Apart, Together, Lost}
+use Rattle.compare.proofs.Agreed.{the-type}
 use Rattle.compare.proofs.Ranges.{answers-together, answers-apart}
+
+-- an answer other than Together, by its variant's number
+abbrev pub Stops : Agreed → Type 0
+Stops x = OneOf (0 ∷ 2 ∷ []) (tagOf the-type x)
+
+stopped : (x : Agreed) → Stops x → (x ≡ Apart) ⊎ (x ≡ Lost)
+stopped Apart h = inl refl
+stopped (Together s) (inl h) = absurd (omega arith)
+stopped (Together s) (inr h) = absurd (omega arith)
+stopped Lost h = inr refl
 
 -- ---- one member more
 
@@ -175,11 +188,8 @@ module _ (table pool : List ℕ) (depth r p left : ℕ) (a b : List ℕ) (at : �
         members-past z h = members-named z (past _ o _ a b at z _ h)
 
         module _ (got : Agreed) (g : Agrees (typeAt (32 - depth) table pool (r + 1) (p + n)) a b (at + o) got) where
-          pub members-lost : (z : Agreed) → got ≡ Lost → AgreesIn y a b at z
-          members-lost z f = members-named z (lost _ o _ a b at _ got g z f)
-
-          pub members-apart : got ≡ Apart → AgreesIn y a b at Apart
-          members-apart f = members-named Apart (apart _ o _ a b at _ got g f)
+          pub members-stop : Stops got → AgreesIn y a b at got
+          members-stop f = members-named got (⊎-elim (λ e. rw e (apart _ o _ a b at _ got g e)) (λ e. lost _ o _ a b at _ got g got e) (stopped got f))
 
           pub members-next : {s : Spot} → got ≡ Together s → Leads (membersAt (typeAt (32 - depth) table pool) table pool (left - 1) (s .row) (s .place)) y a b at
           unfolding Leads
@@ -192,64 +202,71 @@ unfoldable pub Done : Found Datatype → (stride k : ℕ) (a b : List ℕ) (at :
 Done (found t r p) stride k a b at = Admitted t → stride ≡ typeSize t → Agreement (inEntries (owned t) stride k) a b at
 Done bad stride k a b at = Unit {0}
 
-pub done-none : (x : Found Datatype) (stride : ℕ) (a b : List ℕ) (at : ℕ) → Done x stride 0 a b at
-unfolding Done Agreement inEntries
-done-none (found t r p) stride a b at = λ d e i o. absurd (false≢true o)
-done-none bad stride a b at = tt
+-- k of so many entries are done, and the next begins at `start`
+pub record Going (x : Found Datatype) (stride count k start : ℕ) (a b : List ℕ) (at : ℕ) : Type 0 where
+  pub within : k ≤ count
+  pub here : start ≡ at + k * stride
+  pub begins : start ≤ length a
+  pub done : Done x stride k a b at
 
-pub entries-end : (x : Found Datatype) (stride count k : ℕ) (a b : List ℕ) (at : ℕ) (next : Spot) → Done x stride k a b at → k ≤ count → count ≤ k → AgreesEach x stride count a b at next (Together next)
-entries-end x stride count k a b at next h m l =
+pub entries-start : (x : Found Datatype) (stride count : ℕ) (a b : List ℕ) (at : ℕ) → at ≤ length a → Going x stride count 0 at a b at
+entries-start x stride count a b at h = record { within = omega arith; here = omega arith; begins = h; done = go x }
+  where
+    go : (x : Found Datatype) → Done x stride 0 a b at
+    go (found t r p) = unfold Done Agreement inEntries in λ d e i o. absurd (false≢true o)
+    go bad = unfold Done in tt
+
+pub entries-end : (x : Found Datatype) (stride count k start : ℕ) (a b : List ℕ) (at : ℕ) (next : Spot) → Going x stride count k start a b at → count ≤ k
+    → AgreesEach x stride count a b at next (Together next)
+entries-end x stride count k start a b at next g l =
     let e : k ≡ count = omega arith in
-    go x (rw e at h)
+    go x (rw e at (g .done))
   where
     go : (x : Found Datatype) → Done x stride count a b at → AgreesEach x stride count a b at next (Together next)
     go (found t r p) h = unfold Done AgreesEach in λ d e l. answers-together (h d e)
     go bad h = unfold AgreesEach in tt
 
-pub entries-start : (stride k start at : ℕ) → start ≡ at + k * stride → start + stride ≡ at + (k + 1) * stride
-entries-start stride k start at h = rw (add-one k) (omega (arith, suc-mul k stride))
-
-module _ (stride count k start : ℕ) (a b : List ℕ) (at : ℕ) (here : start ≡ at + k * stride) (some-left : k < count) where
+module _ (stride count k start : ℕ) (a b : List ℕ) (at : ℕ) (some-left : k < count) where
   -- the entry at hand ends before the last does
-  within : at + count * stride ≤ length a → start + stride ≤ length a
-  within l = omega (arith, mul-le-mul-right stride some-left, suc-mul k stride)
+  ends : start ≡ at + k * stride → at + count * stride ≤ length a → start + stride ≤ length a
+  ends h l = omega (arith, mul-le-mul-right stride some-left, suc-mul k stride)
 
-  pub entries-past : (x : Found Datatype) (next : Spot) (z : Agreed) → start ≤ length a → length a - start < stride → AgreesEach x stride count a b at next z
-  entries-past x next z m h = go x
+  pub entries-past : (x : Found Datatype) (next : Spot) (z : Agreed) → Going x stride count k start a b at → length a - start < stride → AgreesEach x stride count a b at next z
+  unfolding AgreesEach
+  entries-past (found t r p) next z g h = λ d e l. absurd (omega (arith, ends (g .here) l))
+  entries-past bad next z g h = tt
+
+  pub entries-stop : (x : Found Datatype) (next : Spot) (got : Agreed) → Going x stride count k start a b at → Agrees x a b start got → Stops got → AgreesEach x stride count a b at next got
+  unfolding Agrees AgreesEach
+  entries-stop (found t r p) next got g v f = λ d e l.
+      let w = v d (omega (arith, ends (g .here) l)) in
+      ⊎-elim (λ h. rw h (apart-here (w .apart h))) (λ h. absurd (w .kept h)) (stopped got f)
     where
-      go : (x : Found Datatype) → AgreesEach x stride count a b at next z
-      go (found t r p) = unfold AgreesEach in λ d e l. absurd (omega (arith, within l))
-      go bad = unfold AgreesEach in tt
+      apart-here : Apartness (owned t) a b start → Answers (inEntries (owned t) stride count) a b at next Apart
+      apart-here w =
+          let i : k * stride + w .place - k * stride ≡ w .place = omega arith in
+          let j : at + (k * stride + w .place) ≡ start + w .place = omega arith in
+          answers-apart (record {
+            place = k * stride + w .place;
+            is-owned = entry-complete (owned t) stride count (k * stride + w .place) k some-left (omega arith) (rw i (w .is-owned));
+            differs = rw j (w .differs);
+          })
+  entries-stop bad next got g v f = tt
 
-  pub entries-lost : (x : Found Datatype) (next : Spot) (z : Agreed) {got : Agreed} → Agrees x a b start got → got ≡ Lost → AgreesEach x stride count a b at next z
-  unfolding Agrees AgreesEach
-  entries-lost (found t r p) next z g f = λ d e l. absurd (g d (omega (arith, within l)) .kept f)
-  entries-lost bad next z g f = tt
-
-  pub entries-apart : (x : Found Datatype) (next : Spot) {got : Agreed} → Agrees x a b start got → got ≡ Apart → AgreesEach x stride count a b at next Apart
-  unfolding Agrees AgreesEach
-  entries-apart (found t r p) next g f =
-      λ d e l.
-      let w = g d (omega (arith, within l)) .apart f in
-      let i : k * stride + w .place - k * stride ≡ w .place = omega arith in
-      let j : at + (k * stride + w .place) ≡ start + w .place = omega arith in
-      answers-apart (record {
-        place = k * stride + w .place;
-        is-owned = entry-complete (owned t) stride count (k * stride + w .place) k some-left (omega arith) (rw i (w .is-owned));
-        differs = rw j (w .differs);
-      })
-  entries-apart bad next g f = tt
-
-  pub entries-next : (x : Found Datatype) {got : Agreed} {s : Spot} → start ≤ length a → stride ≤ length a - start → Done x stride k a b at → Agrees x a b start got → got ≡ Together s → Done x stride (k + 1) a b at
+  done-next : (x : Found Datatype) {got : Agreed} {s : Spot} → Going x stride count k start a b at → stride ≤ length a - start → Agrees x a b start got → got ≡ Together s → Done x stride (k + 1) a b at
   unfolding Agrees Done Agreement
-  entries-next (found t r p) {s = s} m v h g f =
+  done-next (found t r p) {s = s} g l v f =
       λ d e.
-      let w = g d (omega arith) .together s f .0 in
+      let w = v d (omega arith) .together s f .0 in
       rw (add-one k) (unfold inEntries in λ i o.
       ⊎-elim
       (λ q. let u = and-both (leb (k * stride) i) (owned t (i - k * stride)) q in
       let j : start + (i - k * stride) ≡ at + i = omega (arith, leb-true (k * stride) i (u .0)) in
       rw j at (w (i - k * stride) (u .1)))
-      (λ q. h d e i q)
+      (λ q. g .done d e i q)
       (or-either (leb (k * stride) i && owned t (i - k * stride)) (inEntries (owned t) stride k i) o))
-  entries-next bad m v h g f = tt
+  done-next bad g l v f = tt
+
+  pub entries-next : (x : Found Datatype) {got : Agreed} {s : Spot} (k′ start′ : ℕ) → Going x stride count k start a b at → k′ ≡ k + 1 → start′ ≡ start + stride → stride ≤ length a - start → Agrees x a b start got → got ≡ Together s
+      → Going x stride count k′ start′ a b at
+  entries-next x k′ start′ g i j l v f = rw (i, j) (record { within = omega arith; here = rw (add-one k) (omega (arith, suc-mul k stride)); begins = omega arith; done = done-next x g l v f })

@@ -21,6 +21,7 @@ use Rattle.format.proofs.TableSteps.{then-found}
 use Rattle.rows.specs.Entries.{entryAt, fromEntry, EntryInside, EntryIfKnown}
 use Rattle.rows.specs.declared.Entry.{Entry}
 use Rattle.rows.specs.declared.Entry.the-variants.{Leaf, Compound, Enumeration, VariableLength, Array, Unknown}
+use Rattle.rows.proofs.Decode.{array-inside}
 use Rattle.rows.proofs.Known.{claim-of-type}
 use Rattle.table.specs.Survey.{surveyOf, spotOf, enumSpotOf}
 use Rattle.table.specs.declared.Survey.{Survey}
@@ -220,9 +221,9 @@ module _ (table pool : List ℕ) (depth row place : ℕ) (a b : List ℕ) (at : 
   type-leaf x {k = k} {n = n} {l = l} h v =
       by-row x h (λ q. owns-agrees _ _ _ n a b at (record { row = row + 1; place = place + l }) x (λ d. leaf-owns table pool row place q h) (rw (add-one row)) v)
 
-  pub type-enumeration : (x : Agreed) {n k : ℕ} → e ≡ Enumeration n k
-      → Agrees (fromEntry (typeAt (32 - depth) table pool) table pool row place (Enumeration n k)) a b at x → Agrees (typeAt (33 - depth) table pool row place) a b at x
-  type-enumeration x h v = by-row x h (λ q. v)
+  -- an enumeration or an array, by what is answered at its row
+  pub type-entry : (x : Agreed) {f : Entry} → e ≡ f → Agrees (fromEntry (typeAt (32 - depth) table pool) table pool row place f) a b at x → Agrees (typeAt (33 - depth) table pool row place) a b at x
+  type-entry x h v = by-row x h (λ q. v)
 
   pub type-compound : (x : Agreed) {n k : ℕ} → e ≡ Compound n k → AgreesIn (membersAt (typeAt (32 - depth) table pool) table pool k (row + 1) place) a b at x
       → Agrees (typeAt (33 - depth) table pool row place) a b at x
@@ -235,34 +236,41 @@ module _ (table pool : List ℕ) (depth row place : ℕ) (a b : List ℕ) (at : 
           λ d l. w n (unfold firstZero outside heapHeld in record { sized = or-else-none _ _ (d .sized) .1; inside = d .inside; plain = d .plain }) l
       go bad w = unfold andThen Agrees in tt
 
-  module _ (x : Agreed) {k : ℕ} {y : Based} (h : e ≡ Array k) (g : BaseIn table pool row place k (32 - depth) y) where
-    pub type-array-lost : y ≡ BasedLost → Agrees (typeAt (33 - depth) table pool row place) a b at x
+-- ---- an array, by its base
+
+module _ (table pool : List ℕ) (depth row place k : ℕ) {y : Based} (g : BaseIn table pool row place k (32 - depth) y) where
+  pub array-lost : (a b : List ℕ) (at : ℕ) (x : Agreed) → y ≡ BasedLost → Agrees (fromEntry (typeAt (32 - depth) table pool) table pool row place (Array k)) a b at x
+  unfolding BaseIn
+  array-lost a b at x u = rw u at g a b at x
+
+  module _ {v : Base} (u : y ≡ BasedAt v) where
+    base-is : BaseIs table pool row place k (32 - depth) v
     unfolding BaseIn
-    type-array-lost u = by-row x h (λ q. rw u at g a b at x)
+    base-is = rw u at g
 
-    module _ {v : Base} (u : y ≡ BasedAt v) where
-      pub base-is : BaseIs table pool row place k (32 - depth) v
-      unfolding BaseIn
-      base-is = rw u at g
+    pub array-field : (a b : List ℕ) (at : ℕ) (x : Agreed) {solid : Bool} (i : Entry) → EntryIfKnown (entryAt table pool (row + 1) (place + k * 4)) i → solid ≡ isField i → solid ≡ true
+        → AgreesBytes (v .bytes) a b at (v .next) x → Agrees (fromEntry (typeAt (32 - depth) table pool) table pool row place (Array k)) a b at x
+    array-field a b at x i n f w z = base-is .solid i n (sym f ∙ w) a b at x z
 
-      pub type-array-solid : {solid : Bool} (i : Entry) → EntryIfKnown (entryAt table pool (row + 1) (place + k * 4)) i → solid ≡ isField i → solid ≡ true → AgreesBytes (v .bytes) a b at (v .next) x → Agrees (typeAt (33 - depth) table pool row place) a b at x
-      type-array-solid i n f w z = by-row x h (λ q. base-is .solid i n (sym f ∙ w) a b at x z)
+    pub array-entries : (a b : List ℕ) (at : ℕ) (x : Agreed) (inner : Path) → inner .depth ≡ depth + 1 → topOf inner ≡ row + 1
+        → AgreesEach (typeAt (33 - inner .depth) table pool (topOf inner) (place + k * 4)) (v .stride) (v .count) a b at (v .next) x
+        → Agrees (fromEntry (typeAt (32 - depth) table pool) table pool row place (Array k)) a b at x
+    array-entries a b at x inner hd hr z =
+        let j : 33 - inner .depth ≡ 32 - depth = omega arith in
+        base-is .each a b at x (rw (j, hr) at z)
 
-      pub type-array : (inner : Path) → inner .depth ≡ depth + 1 → topOf inner ≡ row + 1
-          → AgreesEach (typeAt (33 - inner .depth) table pool (topOf inner) (place + k * 4)) (v .stride) (v .count) a b at (v .next) x
-          → Agrees (typeAt (33 - depth) table pool row place) a b at x
-      type-array inner hd hr z =
-          let j : 33 - inner .depth ≡ 32 - depth = omega arith in
-          by-row x h (λ q. base-is .each a b at x (rw (j, hr) at z))
+    -- where there is a base there is a level for it
+    pub base-deeper : depth < 32
+    base-deeper = omega (arith, base-is .deep)
 
 -- ---- one level further down
 
-pub base-deeper : (table pool : List ℕ) (depth row place k : ℕ) {y : Based} {v : Base} → BaseIn table pool row place k (32 - depth) y → y ≡ BasedAt v → depth < 32
-unfolding BaseIn
-base-deeper table pool depth row place k g u = let i : BaseIs table pool row place k (32 - depth) _ = rw u at g in omega (arith, i .deep)
+-- the row of an array lies in the table
+pub array-row : (w b r p : ℕ) {e : Entry} {k : ℕ} → EntryInside e w b r p → e ≡ Array k → r * 16 + 16 ≤ w
+array-row w b r p h i = array-inside w b r p h i .0
 
-pub standing-entered : {path : Path} {a b : List ℕ} {at : ℕ} (inner : Path) → Standing path a b at → inner .depth ≡ path .depth + 1 → path .depth < 32 → Standing inner a b at
-standing-entered inner s e h = record { deep = omega arith; shallow = omega arith; begins = s .begins; lengths = s .lengths }
+pub standing-entered : {a b : List ℕ} {at depth : ℕ} (inner : Path) → inner .depth ≡ depth + 1 → depth < 32 → at ≤ length a → length b ≡ length a → Standing inner a b at
+standing-entered inner e h s l = record { deep = omega arith; shallow = omega arith; begins = s; lengths = l }
 
 pub read-entered : {table pool : List ℕ} {row place : ℕ} {e : Entry} (inner : Path) → topOf inner ≡ row → EntryIfKnown (entryAt table pool row place) e
     → EntryInside e (length table) (length pool) row place → Read e table pool (topOf inner) place
@@ -280,7 +288,7 @@ module _ (table pool : List ℕ) (depth row place : ℕ) (a b : List ℕ) (at : 
     member-enumeration h v =
         let i : 33 - (depth + 1) ≡ 32 - depth = omega arith in
         let j : 31 - depth ≡ 32 - (depth + 1) = omega arith in
-        rw i at (type-enumeration table pool (depth + 1) row place a b at (omega arith) known x h (rw j at v))
+        rw i at (type-entry table pool (depth + 1) row place a b at (omega arith) known x h (rw j at v))
 
   pub member-entered : (inner : Path) → inner .depth ≡ depth + 1 → topOf inner ≡ row → Agrees (typeAt (33 - inner .depth) table pool (topOf inner) place) a b at x
       → Agrees (typeAt (32 - depth) table pool row place) a b at x

@@ -17,12 +17,12 @@ use table::skip_enum_members;
 use table::survey_type;
 ghost use mathlib.Core.Path.{_≡_};
 ghost use mathlib.Core.Bool.{true, false};
-ghost use Prim.Native.Nat.{ℕ, _+_, _*_, _-_, _≤_, _<_};
+ghost use Prim.Native.Nat.{_+_, _*_, _-_, _≤_, _<_};
 ghost use lib.ListN.{length};
 ghost use Rattle.format.specs.Ownership.{comparing};
 ghost use Rattle.format.specs.Table.{typeAt, membersAt};
 ghost use Rattle.rows.specs.Entries.{fromEntry};
-ghost use Rattle.rows.specs.declared.Entry.the-variants.{Enumeration};
+ghost use Rattle.rows.specs.declared.Entry.the-variants.{Array, Enumeration};
 ghost use Rattle.table.specs.Path.{topOf};
 ghost use Rattle.table.specs.Survey.{Sets};
 ghost use Rattle.compare.specs.Agreeing.{equalRange, isField, Standing, Read, Agrees, AgreesIn, AgreesEach, AgreesBytes, BaseIn, SameFields, Compares};
@@ -237,32 +237,49 @@ fn agree_type(
             b,
             at,
         ),
-        Entry::Array(rank) => {
+        Entry::Array(rank) => agree_array(table, pool, path, row, place, rank, a, b, at),
+    }
+}
+
+// The fields of an array whose row is the top of the path, and whose record begins at `at`. Where the base is a field the array is one range.
+fn agree_array(
+    table: &[u32],
+    pool: &[u8],
+    path: Path,
+    row: usize,
+    place: usize,
+    rank: u32,
+    a: &[u8],
+    b: &[u8],
+    at: usize,
+) -> Agreed
+    requires { ⌜ Standing path (now a) (now b) at × ((row * 16 + 16 ≤ length (now table)) × (place + rank * 4 ≤ length (now pool))) ⌝ }
+    ensures { λ r. ⌜ Agrees (fromEntry (typeAt (32 - path .depth) (now (table .entry)) (now (pool .entry))) (now (table .entry)) (now (pool .entry)) row place (Array rank)) (now (a .entry)) (now (b .entry)) at r ⌝ }
+{
+    let depth = path.depth;
+    let based = array_base(table, pool, row, place, rank, 32 - depth);
+    match based {
+        Based::Lost => Agreed::Lost,
+        Based::At(base) => {
             let below = row + 1;
             let inner = place + (rank as usize) * 4;
-            let based = array_base(table, pool, row, place, rank, 32 - depth);
-            match based {
-                Based::Lost => Agreed::Lost,
-                Based::At(base) => {
-                    let base_entry = known_entry_at(table, pool, below, inner);
-                    if is_field(base_entry) {
-                        return agree_field(a, b, at, base.bytes, base.next);
-                    }
-                    agree_entries(
-                        table,
-                        pool,
-                        enter(path, below),
-                        inner,
-                        base_entry,
-                        a,
-                        b,
-                        at,
-                        base.stride,
-                        base.count,
-                        base.next,
-                    )
-                }
+            let entry = known_entry_at(table, pool, below, inner);
+            if is_field(entry) {
+                return agree_field(a, b, at, base.bytes, base.next);
             }
+            agree_entries(
+                table,
+                pool,
+                enter(path, below),
+                inner,
+                entry,
+                a,
+                b,
+                at,
+                base.stride,
+                base.count,
+                base.next,
+            )
         }
     }
 }
@@ -291,39 +308,28 @@ fn agree_members(
             return Agreed::Lost;
         }
         let member = known_member_at(table, pool, r, p);
-        match member {
-            Member::Unnamed => {
-                return Agreed::Lost;
-            }
-            Member::Named(offset, name) => {
-                if a.len() - at < offset as usize {
-                    return Agreed::Lost;
-                }
-                let got = agree_member(
-                    table,
-                    pool,
-                    path,
-                    r + 1,
-                    p + name as usize,
-                    a,
-                    b,
-                    at + offset as usize,
-                );
-                match got {
-                    Agreed::Lost => {
-                        return Agreed::Lost;
-                    }
-                    Agreed::Apart => {
-                        return Agreed::Apart;
-                    }
-                    Agreed::Together(spot) => {
-                        r = spot.row;
-                        p = spot.place;
-                        left -= 1;
-                    }
-                }
-            }
+        let Member::Named(offset, name) = member else {
+            return Agreed::Lost;
+        };
+        if a.len() - at < offset as usize {
+            return Agreed::Lost;
         }
+        let got = agree_member(
+            table,
+            pool,
+            path,
+            r + 1,
+            p + name as usize,
+            a,
+            b,
+            at + offset as usize,
+        );
+        let Agreed::Together(spot) = got else {
+            return got;
+        };
+        r = spot.row;
+        p = spot.place;
+        left -= 1;
     }
     Agreed::Together(Spot { row: r, place: p })
 }
@@ -396,18 +402,11 @@ fn agree_entries(
             return Agreed::Lost;
         }
         let got = agree_type(table, pool, path, place, entry, a, b, start);
-        match got {
-            Agreed::Lost => {
-                return Agreed::Lost;
-            }
-            Agreed::Apart => {
-                return Agreed::Apart;
-            }
-            Agreed::Together(_) => {
-                start += stride;
-                done += 1;
-            }
-        }
+        let Agreed::Together(_) = got else {
+            return got;
+        };
+        start += stride;
+        done += 1;
     }
     Agreed::Together(next)
 }

@@ -1,11 +1,10 @@
-use native.Mathlib.Omega.{arith}
 use Rattle.compare.proofs.Comparing.{zero-fits, same-zero, same-outside, same-heap, same-length, same-length-b, same-equal, same-walked}
 use borrow.Author.Needs.{needs}
 use Rattle.compare.proofs.same_checked.Statement.{statement}
 use Rattle.compare.proofs.same_checked.Tie as tie
 
 cast-t9 : tie.Need-cast-t9
-cast-t9 c = let i = zero-fits _ _ (c .before .before .before .before .before .before .before .pre) (c .before .if1 .taken) in omega arith
+cast-t9 c = search zero-fits
 
 returns : tie.Need-returns
 returns c = search same-zero

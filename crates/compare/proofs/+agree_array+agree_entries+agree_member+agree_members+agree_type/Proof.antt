@@ -1,27 +1,27 @@
-use Prim.Native.Nat.{ℕ, _<_, _≤_, _+_, _-_, _*_}
-use mathlib.Core.Path.{_≡_}
-use native.Mathlib.Omega.{arith}
+use Prim.Native.Nat.{ℕ, _<_, _+_, _-_, _*_}
 use borrow.Author.Needs.{needs}
-use lib.ListN.{length}
 use Rattle.format.specs.Table.{typeAt, membersAt}
-use Rattle.rows.proofs.Decode.{enumeration-inside, array-inside, array-behind, array-next, compound-next, leaf-behind, leaf-next, named-behind, named-next}
+use Rattle.rows.proofs.Decode.{enumeration-inside, array-piece, compound-next, leaf-behind, leaf-next, named-behind, named-next}
 use Rattle.table.specs.Path.{topOf}
-use Rattle.compare.proofs.Types.{type-unknown, type-variableLength, type-leaf, type-enumeration, type-compound, type-array-lost, type-array-solid, type-array, base-deeper, standing-entered, read-entered, member-leaf, member-enumeration, member-entered}
-use Rattle.compare.proofs.Inside.{Leads, leads-same, members-end, members-deep, members-unnamed, members-past, members-lost, members-apart, members-next, Done, done-none, entries-end, entries-start, entries-past, entries-lost, entries-apart, entries-next}
+use Rattle.compare.proofs.Types.{type-unknown, type-variableLength, type-leaf, type-entry, type-compound, array-lost, array-field, array-entries, array-row, base-deeper, standing-entered, read-entered, member-leaf, member-enumeration, member-entered}
+use Rattle.compare.proofs.Inside.{Leads, leads-same, members-end, members-deep, members-unnamed, members-past, members-stop, members-next, Going, entries-end, entries-start, entries-past, entries-stop, entries-next}
 use borrow.Fn.Kinds.{In}
 use borrow.Fn.PlainCycle.{Measures, is, falls, and}
+use Rattle.compare.proofs.agree_array.Reads as agree-array
+use Rattle.compare.proofs.agree_array.Kinds as agree-array-kinds
+use Rattle.compare.proofs.+agree_array+agree_entries+agree_member+agree_members+agree_type.Lts-agree_array as agree-array-lts
 use Rattle.compare.proofs.agree_entries.Reads as agree-entries
 use Rattle.compare.proofs.agree_entries.Kinds as agree-entries-kinds
-use Rattle.compare.proofs.+agree_entries+agree_member+agree_members+agree_type.Lts-agree_entries as agree-entries-lts
+use Rattle.compare.proofs.+agree_array+agree_entries+agree_member+agree_members+agree_type.Lts-agree_entries as agree-entries-lts
 use Rattle.compare.proofs.agree_member.Reads as agree-member
 use Rattle.compare.proofs.agree_member.Kinds as agree-member-kinds
-use Rattle.compare.proofs.+agree_entries+agree_member+agree_members+agree_type.Lts-agree_member as agree-member-lts
+use Rattle.compare.proofs.+agree_array+agree_entries+agree_member+agree_members+agree_type.Lts-agree_member as agree-member-lts
 use Rattle.compare.proofs.agree_members.Reads as agree-members
 use Rattle.compare.proofs.agree_members.Kinds as agree-members-kinds
-use Rattle.compare.proofs.+agree_entries+agree_member+agree_members+agree_type.Lts-agree_members as agree-members-lts
+use Rattle.compare.proofs.+agree_array+agree_entries+agree_member+agree_members+agree_type.Lts-agree_members as agree-members-lts
 use Rattle.compare.proofs.agree_type.Reads as agree-type
 use Rattle.compare.proofs.agree_type.Kinds as agree-type-kinds
-use Rattle.compare.proofs.+agree_entries+agree_member+agree_members+agree_type.Lts-agree_type as agree-type-lts
+use Rattle.compare.proofs.+agree_array+agree_entries+agree_member+agree_members+agree_type.Lts-agree_type as agree-type-lts
 use Rattle.compare.proofs.agree_enumeration.Reads as agree-enumeration-reads
 use Rattle.compare.proofs.agree_field.Reads as agree-field-reads
 use Rattle.compare.proofs.array_base.Reads as array-base-reads
@@ -29,8 +29,11 @@ use Rattle.compare.proofs.is_field.Reads as is-field-reads
 use Rattle.rows.proofs.known_entry_at.Reads as known-entry-at-reads
 use Rattle.rows.proofs.known_member_at.Reads as known-member-at-reads
 use Rattle.table.proofs.enter.Reads as enter-reads
-use Rattle.compare.proofs.+agree_entries+agree_member+agree_members+agree_type.{statement}
-use Rattle.compare.proofs.+agree_entries+agree_member+agree_members+agree_type.Tie.{close}
+use Rattle.compare.proofs.+agree_array+agree_entries+agree_member+agree_members+agree_type.{statement}
+use Rattle.compare.proofs.+agree_array+agree_entries+agree_member+agree_members+agree_type.Tie.{close}
+
+abbrev μ-agree-array : Measures 4 agree-array-kinds.ps ℕ
+μ-agree-array κs a = (33 - a .1 .1 .0 .depth) * 4
 
 abbrev μ-agree-entries : Measures 4 agree-entries-kinds.ps ℕ
 μ-agree-entries κs a = (33 - a .1 .1 .0 .depth) * 4 + 2
@@ -43,6 +46,14 @@ abbrev μ-agree-members : Measures 4 agree-members-kinds.ps ℕ
 
 abbrev μ-agree-type : Measures 4 agree-type-kinds.ps ℕ
 μ-agree-type κs a = (33 - a .1 .1 .0 .depth) * 4 + 1
+
+abbrev agree-array-at : ℕ → In 4 agree-array-kinds.ps
+agree-array-at t =
+    and 4 agree-array-kinds.ps (is 4 agree-array-kinds.ps μ-agree-array t) agree-array.Pre
+
+abbrev agree-array-below : ℕ → In 4 agree-array-kinds.ps
+agree-array-below t =
+    and 4 agree-array-kinds.ps (falls 4 agree-array-kinds.ps _<_ μ-agree-array t) agree-array.Pre
 
 abbrev agree-entries-at : ℕ → In 4 agree-entries-kinds.ps
 agree-entries-at t =
@@ -89,7 +100,7 @@ agree-type-below t =
     and 4 agree-type-kinds.ps (falls 4 agree-type-kinds.ps _<_ μ-agree-type t) agree-type.Pre
 
 abbrev agree-entries-Inv-loop : agree-entries-lts.InvT-loop
-agree-entries-Inv-loop table pool path place entry a b at stride count next start₀ done₀ start done = (done ≤ count) × ((start ≡ at + done * stride) × ((start ≤ length a) × Done (typeAt (33 - path .depth) table pool (topOf path) place) stride done a b at))
+agree-entries-Inv-loop table pool path place entry a b at stride count next start₀ done₀ start done = Going (typeAt (33 - path .depth) table pool (topOf path) place) stride count done start a b at
 
 abbrev agree-entries-μ-loop : agree-entries-lts.MeasureT-loop
 agree-entries-μ-loop table pool path place entry a b at stride count next start₀ done₀ start done = count - done
@@ -99,6 +110,9 @@ agree-members-Inv-loop table pool path row place count a b at depth r₀ p₀ le
 
 abbrev agree-members-μ-loop : agree-members-lts.MeasureT-loop
 agree-members-μ-loop table pool path row place count a b at depth r₀ p₀ left₀ r p left = left
+
+abbrev agree-array-calls : ℕ → agree-array-lts.Claims
+agree-array-calls t = (array-base-reads.Asked, array-base-reads.Learnt, known-entry-at-reads.Asked, known-entry-at-reads.Learnt, is-field-reads.Asked, is-field-reads.Learnt, agree-field-reads.Asked, agree-field-reads.Learnt, enter-reads.Asked, enter-reads.Learnt, agree-entries-below t, agree-entries.Post)
 
 abbrev agree-entries-calls : ℕ → agree-entries-lts.Claims
 agree-entries-calls t = (agree-type-below t, agree-type.Post)
@@ -110,28 +124,37 @@ abbrev agree-members-calls : ℕ → agree-members-lts.Claims
 agree-members-calls t = (known-member-at-reads.Asked, known-member-at-reads.Learnt, agree-member-below t, agree-member.Post)
 
 abbrev agree-type-calls : ℕ → agree-type-lts.Claims
-agree-type-calls t = (agree-field-reads.Asked, agree-field-reads.Learnt, agree-enumeration-reads.Asked, agree-enumeration-reads.Learnt, agree-members-below t, agree-members.Post, array-base-reads.Asked, array-base-reads.Learnt, known-entry-at-reads.Asked, known-entry-at-reads.Learnt, is-field-reads.Asked, is-field-reads.Learnt, enter-reads.Asked, enter-reads.Learnt, agree-entries-below t, agree-entries.Post)
+agree-type-calls t = (agree-field-reads.Asked, agree-field-reads.Learnt, agree-enumeration-reads.Asked, agree-enumeration-reads.Learnt, agree-members-below t, agree-members.Post, agree-array-below t, agree-array.Post)
+
+agree-array-returns : (t : ℕ) → agree-array-lts.Need-returns (agree-array-calls t) (agree-array-at t) agree-array.Post
+agree-array-returns t c = search array-field
+
+agree-array-enter-requires : (t : ℕ) → agree-array-lts.Need-enter-requires (agree-array-calls t) (agree-array-at t) agree-array.Post
+agree-array-enter-requires t c κs = search base-deeper
+
+agree-array-agree-entries-requires : (t : ℕ) → agree-array-lts.Need-agree-entries-requires (agree-array-calls t) (agree-array-at t) agree-array.Post
+agree-array-agree-entries-requires t c κs = search (standing-entered, base-deeper, read-entered, needs)
+
+agree-array-returns-2 : (t : ℕ) → agree-array-lts.Need-returns-2 (agree-array-calls t) (agree-array-at t) agree-array.Post
+agree-array-returns-2 t c = search array-lost
+
+agree-array-returns-3 : (t : ℕ) → agree-array-lts.Need-returns-3 (agree-array-calls t) (agree-array-at t) agree-array.Post
+agree-array-returns-3 t c = search array-entries
 
 agree-entries-loop-holds : (t : ℕ) → agree-entries-lts.Need-loop-holds (agree-entries-calls t) (agree-entries-at t) agree-entries.Post agree-entries-Inv-loop agree-entries-μ-loop
-agree-entries-loop-holds t c = (omega arith, (omega arith, (omega arith, done-none _ _ _ _ _)))
+agree-entries-loop-holds t c = search entries-start
 
 agree-entries-returns : (t : ℕ) → agree-entries-lts.Need-returns (agree-entries-calls t) (agree-entries-at t) agree-entries.Post agree-entries-Inv-loop agree-entries-μ-loop
 agree-entries-returns t c = search entries-past
 
 agree-entries-returns-2 : (t : ℕ) → agree-entries-lts.Need-returns-2 (agree-entries-calls t) (agree-entries-at t) agree-entries.Post agree-entries-Inv-loop agree-entries-μ-loop
-agree-entries-returns-2 t c = search entries-lost
-
-agree-entries-returns-3 : (t : ℕ) → agree-entries-lts.Need-returns-3 (agree-entries-calls t) (agree-entries-at t) agree-entries.Post agree-entries-Inv-loop agree-entries-μ-loop
-agree-entries-returns-3 t c = search entries-apart
+agree-entries-returns-2 t c = search entries-stop
 
 agree-entries-loop-again : (t : ℕ) → agree-entries-lts.Need-loop-again (agree-entries-calls t) (agree-entries-at t) agree-entries.Post agree-entries-Inv-loop agree-entries-μ-loop
-agree-entries-loop-again t c =
-    let i = c .before .before .before .before .before .loop .inv .1 in
-    let n = entries-next _ _ _ _ _ _ _ (i .0) (c .before .before .before .before .loop-test .taken) _ (i .1 .0) (c .before .before .before .if1 .left) (i .1 .1) (c .before .before .agree-type .ensures) (c .enum-told3 .given .1) in
-    (omega arith, (entries-start _ _ _ _ (i .0), (omega arith, n)))
+agree-entries-loop-again t c = search entries-next
 
-agree-entries-returns-4 : (t : ℕ) → agree-entries-lts.Need-returns-4 (agree-entries-calls t) (agree-entries-at t) agree-entries.Post agree-entries-Inv-loop agree-entries-μ-loop
-agree-entries-returns-4 t c = search entries-end
+agree-entries-returns-3 : (t : ℕ) → agree-entries-lts.Need-returns-3 (agree-entries-calls t) (agree-entries-at t) agree-entries.Post agree-entries-Inv-loop agree-entries-μ-loop
+agree-entries-returns-3 t c = search entries-end
 
 agree-member-add-t17 : (t : ℕ) → agree-member-lts.Need-add-t17 (agree-member-calls t) (agree-member-at t) agree-member.Post
 agree-member-add-t17 t c = search (leaf-next, leaf-behind, needs)
@@ -140,14 +163,10 @@ agree-member-add-t19 : (t : ℕ) → agree-member-lts.Need-add-t19 (agree-member
 agree-member-add-t19 t c = search (leaf-next, leaf-behind, needs)
 
 agree-member-agree-enumeration-requires : (t : ℕ) → agree-member-lts.Need-agree-enumeration-requires (agree-member-calls t) (agree-member-at t) agree-member.Post
-agree-member-agree-enumeration-requires t c κs = (enumeration-inside _ _ _ _ (c .before .before .before .known-entry-at .ensures .1) (c .before .entry2 .given .1), c .before .before .before .before .before .before .before .before .pre .1 .1)
+agree-member-agree-enumeration-requires t c κs = search enumeration-inside
 
 agree-member-agree-type-requires : (t : ℕ) → agree-member-lts.Need-agree-type-requires (agree-member-calls t) (agree-member-at t) agree-member.Post
-agree-member-agree-type-requires t c κs =
-    let p = c .before .before .before .before .before .before .before .pre in
-    let d = c .enter .ensures .0 in
-    let r = read-entered (c .enter .result) (c .enter .ensures .1) (c .before .before .known-entry-at .ensures .0) (c .before .before .known-entry-at .ensures .1) in
-    (omega (arith, p .0, p .1 .0), (record { deep = omega arith; shallow = omega (arith, p .1 .0); begins = p .1 .1 .0; lengths = p .1 .1 .1 }, r))
+agree-member-agree-type-requires t c κs = search (standing-entered, read-entered, needs)
 
 agree-member-returns : (t : ℕ) → agree-member-lts.Need-returns (agree-member-calls t) (agree-member-at t) agree-member.Post
 agree-member-returns t c = search member-leaf
@@ -177,83 +196,76 @@ agree-members-add-agree-member-2 : (t : ℕ) → agree-members-lts.Need-add-agre
 agree-members-add-agree-member-2 t c = search (named-next, named-behind, needs)
 
 agree-members-returns-4 : (t : ℕ) → agree-members-lts.Need-returns-4 (agree-members-calls t) (agree-members-at t) agree-members.Post agree-members-Inv-loop agree-members-μ-loop
-agree-members-returns-4 t c = search members-lost
-
-agree-members-returns-5 : (t : ℕ) → agree-members-lts.Need-returns-5 (agree-members-calls t) (agree-members-at t) agree-members.Post agree-members-Inv-loop agree-members-μ-loop
-agree-members-returns-5 t c = search members-apart
+agree-members-returns-4 t c = search members-stop
 
 agree-members-loop-again : (t : ℕ) → agree-members-lts.Need-loop-again (agree-members-calls t) (agree-members-at t) agree-members.Post agree-members-Inv-loop agree-members-μ-loop
 agree-members-loop-again t c = search members-next
 
-agree-members-returns-6 : (t : ℕ) → agree-members-lts.Need-returns-6 (agree-members-calls t) (agree-members-at t) agree-members.Post agree-members-Inv-loop agree-members-μ-loop
-agree-members-returns-6 t c = search members-end
+agree-members-returns-5 : (t : ℕ) → agree-members-lts.Need-returns-5 (agree-members-calls t) (agree-members-at t) agree-members.Post agree-members-Inv-loop agree-members-μ-loop
+agree-members-returns-5 t c = search members-end
 
-agree-type-add-t30 : (t : ℕ) → agree-type-lts.Need-add-t30 (agree-type-calls t) (agree-type-at t) agree-type.Post
-agree-type-add-t30 t c = search (leaf-next, leaf-behind, needs)
+agree-type-add-t25 : (t : ℕ) → agree-type-lts.Need-add-t25 (agree-type-calls t) (agree-type-at t) agree-type.Post
+agree-type-add-t25 t c = search (leaf-next, leaf-behind, needs)
 
-agree-type-add-t32 : (t : ℕ) → agree-type-lts.Need-add-t32 (agree-type-calls t) (agree-type-at t) agree-type.Post
-agree-type-add-t32 t c = search (leaf-next, leaf-behind, needs)
+agree-type-add-t27 : (t : ℕ) → agree-type-lts.Need-add-t27 (agree-type-calls t) (agree-type-at t) agree-type.Post
+agree-type-add-t27 t c = search (leaf-next, leaf-behind, needs)
 
 agree-type-agree-enumeration-requires : (t : ℕ) → agree-type-lts.Need-agree-enumeration-requires (agree-type-calls t) (agree-type-at t) agree-type.Post
-agree-type-agree-enumeration-requires t c κs =
-    let p = c .before .before .before .before .before .before .before .before .pre .1 in
-    (enumeration-inside _ _ _ _ (p .1 .inside) (c .before .entry2 .given .1), (p .0 .begins, p .0 .lengths))
+agree-type-agree-enumeration-requires t c κs = search enumeration-inside
 
 agree-type-add-agree-members : (t : ℕ) → agree-type-lts.Need-add-agree-members (agree-type-calls t) (agree-type-at t) agree-type.Post
 agree-type-add-agree-members t c = search (compound-next, needs)
 
-agree-type-add-below : (t : ℕ) → agree-type-lts.Need-add-below (agree-type-calls t) (agree-type-at t) agree-type.Post
-agree-type-add-below t c = search (array-next, array-behind, needs)
-
-agree-type-add-inner : (t : ℕ) → agree-type-lts.Need-add-inner (agree-type-calls t) (agree-type-at t) agree-type.Post
-agree-type-add-inner t c = search (array-next, array-behind, needs)
-
-agree-type-array-base-requires : (t : ℕ) → agree-type-lts.Need-array-base-requires (agree-type-calls t) (agree-type-at t) agree-type.Post
-agree-type-array-base-requires t c κs = array-inside _ _ _ _ (c .before .before .before .before .before .before .before .before .pre .1 .1 .inside) (c .before .entry4 .given .1)
+agree-type-agree-array-requires : (t : ℕ) → agree-type-lts.Need-agree-array-requires (agree-type-calls t) (agree-type-at t) agree-type.Post
+agree-type-agree-array-requires t c κs = search (array-row, array-piece, needs)
 
 agree-type-returns : (t : ℕ) → agree-type-lts.Need-returns (agree-type-calls t) (agree-type-at t) agree-type.Post
-agree-type-returns t c =
-    let p = c .before .before .before .before .before .before .before .before .before .before .before .before .before .before .before .before .pre .1 in
-    type-array-solid _ _ _ _ _ _ _ _ (p .0 .shallow) (p .1 .is) _ (c .before .before .before .before .before .before .before .before .before .entry4 .given .1) (c .before .before .before .before .before .before .before .array-base .ensures) (c .before .before .before .before .before .based .given .1) _ (c .before .before .before .known-entry-at .ensures .0) (c .before .before .is-field .ensures) (c .before .if1 .taken) (c .agree-field2 .ensures)
-
-agree-type-enter-requires : (t : ℕ) → agree-type-lts.Need-enter-requires (agree-type-calls t) (agree-type-at t) agree-type.Post
-agree-type-enter-requires t c κs = search base-deeper
-
-agree-type-agree-entries-requires : (t : ℕ) → agree-type-lts.Need-agree-entries-requires (agree-type-calls t) (agree-type-at t) agree-type.Post
-agree-type-agree-entries-requires t c κs =
-    let p = c .before .before .before .before .before .before .before .before .before .before .before .before .before .before .before .before .pre in
-    let base = c .before .before .before .before .before .before .before .array-base .ensures in
-    let d = c .enter .ensures .0 in
-    let l = base-deeper _ _ _ _ _ _ base (c .before .before .before .before .before .based .given .1) in
-    let r = read-entered (c .enter .result) (c .enter .ensures .1) (c .before .before .before .known-entry-at .ensures .0) (c .before .before .before .known-entry-at .ensures .1) in
-    (omega (arith, p .0), (standing-entered (c .enter .result) (p .1 .0) d l, r))
+agree-type-returns t c = search type-unknown
 
 agree-type-returns-2 : (t : ℕ) → agree-type-lts.Need-returns-2 (agree-type-calls t) (agree-type-at t) agree-type.Post
-agree-type-returns-2 t c = search type-unknown
+agree-type-returns-2 t c = search type-variableLength
 
 agree-type-returns-3 : (t : ℕ) → agree-type-lts.Need-returns-3 (agree-type-calls t) (agree-type-at t) agree-type.Post
-agree-type-returns-3 t c = search type-variableLength
+agree-type-returns-3 t c = search type-leaf
 
 agree-type-returns-4 : (t : ℕ) → agree-type-lts.Need-returns-4 (agree-type-calls t) (agree-type-at t) agree-type.Post
-agree-type-returns-4 t c = search type-leaf
+agree-type-returns-4 t c = search type-entry
 
 agree-type-returns-5 : (t : ℕ) → agree-type-lts.Need-returns-5 (agree-type-calls t) (agree-type-at t) agree-type.Post
-agree-type-returns-5 t c = search type-enumeration
+agree-type-returns-5 t c = search type-compound
 
 agree-type-returns-6 : (t : ℕ) → agree-type-lts.Need-returns-6 (agree-type-calls t) (agree-type-at t) agree-type.Post
-agree-type-returns-6 t c = search type-compound
+agree-type-returns-6 t c = search type-entry
 
-agree-type-returns-7 : (t : ℕ) → agree-type-lts.Need-returns-7 (agree-type-calls t) (agree-type-at t) agree-type.Post
-agree-type-returns-7 t c = search type-array-lost
-
-agree-type-returns-8 : (t : ℕ) → agree-type-lts.Need-returns-8 (agree-type-calls t) (agree-type-at t) agree-type.Post
-agree-type-returns-8 t c =
-    let p = c .before .before .before .before .before .before .before .before .before .before .before .before .before .before .before .before .before .pre .1 in
-    type-array _ _ _ _ _ _ _ _ (p .0 .shallow) (p .1 .is) _ (c .before .before .before .before .before .before .before .before .before .before .entry4 .given .1) (c .before .before .before .before .before .before .before .before .array-base .ensures) (c .before .before .before .before .before .before .based .given .1) (c .before .enter .result) (c .before .enter .ensures .0) (c .before .enter .ensures .1) (c .agree-entries .ensures)
-
-pub +agree-entries+agree-member+agree-members+agree-type-spec : {M : Type 1} → statement M
-+agree-entries+agree-member+agree-members+agree-type-spec =
-    close μ-agree-entries μ-agree-member μ-agree-members μ-agree-type (λ t. agree-entries-lts.spec
+pub +agree-array+agree-entries+agree-member+agree-members+agree-type-spec :
+    {M : Type 1} → statement M
++agree-array+agree-entries+agree-member+agree-members+agree-type-spec =
+    close
+    μ-agree-array
+    μ-agree-entries
+    μ-agree-member
+    μ-agree-members
+    μ-agree-type
+    (λ t. agree-array-lts.spec
+    (agree-array-calls t)
+    (agree-array-at t)
+    agree-array.Post
+    (λ c. search needs)  -- agree-array-sub-array-base
+    (λ c κs. search needs)  -- agree-array-array-base-requires
+    (λ c. search needs)  -- agree-array-enum-told
+    (λ c. search needs)  -- agree-array-enum-known-based
+    (λ c. search needs)  -- agree-array-add-below
+    (λ c. search needs)  -- agree-array-mul-inner
+    (λ c. search needs)  -- agree-array-add-inner
+    (λ c κs. search needs)  -- agree-array-known-entry-at-requires
+    (λ c κs. search needs)  -- agree-array-is-field-requires
+    (λ c κs. search needs)  -- agree-array-agree-field-requires
+    (agree-array-returns t)
+    (agree-array-enter-requires t)
+    (agree-array-agree-entries-requires t)
+    (agree-array-returns-2 t)
+    (agree-array-returns-3 t))
+    (λ t. agree-entries-lts.spec
     (agree-entries-calls t)
     (agree-entries-at t)
     agree-entries.Post
@@ -265,14 +277,11 @@ pub +agree-entries+agree-member+agree-members+agree-type-spec : {M : Type 1} →
     (λ c κs. search needs)  -- agree-entries-agree-type-requires
     (λ c. search needs)  -- agree-entries-enum-told
     (agree-entries-returns-2 t)
-    (λ c. search needs)  -- agree-entries-enum-told-2
-    (agree-entries-returns-3 t)
-    (λ c. search needs)  -- agree-entries-enum-told-3
     (λ c. search needs)  -- agree-entries-add-start
     (λ c. search needs)  -- agree-entries-add-done
     (λ c. search needs)  -- agree-entries-loop-less
     (agree-entries-loop-again t)
-    (agree-entries-returns-4 t))
+    (agree-entries-returns-3 t))
     (λ t. agree-member-lts.spec
     (agree-member-calls t)
     (agree-member-at t)
@@ -301,9 +310,9 @@ pub +agree-entries+agree-member+agree-members+agree-type-spec : {M : Type 1} →
     (agree-members-loop-holds t)
     (agree-members-returns t)
     (λ c κs. search needs)  -- agree-members-known-member-at-requires
+    (λ c. search needs)  -- agree-members-enum-known-member
     (λ c. search needs)  -- agree-members-enum-told
     (agree-members-returns-2 t)
-    (λ c. search needs)  -- agree-members-enum-known-member
     (λ c. search needs)  -- agree-members-sub-if2
     (λ c. search needs)  -- agree-members-cast-if2
     (agree-members-returns-3 t)
@@ -313,15 +322,12 @@ pub +agree-entries+agree-member+agree-members+agree-type-spec : {M : Type 1} →
     (λ c. search needs)  -- agree-members-cast-agree-member-2
     (λ c. search needs)  -- agree-members-add-agree-member-3
     (λ c κs. search needs)  -- agree-members-agree-member-requires
-    (λ c. search needs)  -- agree-members-enum-told-2
-    (agree-members-returns-4 t)
-    (λ c. search needs)  -- agree-members-enum-told-3
-    (agree-members-returns-5 t)
     (λ c. search needs)  -- agree-members-enum-known-got
+    (agree-members-returns-4 t)
     (λ c. search needs)  -- agree-members-sub-left
     (λ c. search needs)  -- agree-members-loop-less
     (agree-members-loop-again t)
-    (agree-members-returns-6 t))
+    (agree-members-returns-5 t))
     λ t. agree-type-lts.spec
     (agree-type-calls t)
     (agree-type-at t)
@@ -333,9 +339,9 @@ pub +agree-entries+agree-member+agree-members+agree-type-spec : {M : Type 1} →
     (λ c. search needs)  -- agree-type-enum-told-2
     (λ c. search needs)  -- agree-type-enum-known-entry
     (λ c. search needs)  -- agree-type-cast-agree-field
-    (agree-type-add-t30 t)
-    (λ c. search needs)  -- agree-type-cast-t31
-    (agree-type-add-t32 t)
+    (agree-type-add-t25 t)
+    (λ c. search needs)  -- agree-type-cast-t26
+    (agree-type-add-t27 t)
     (λ c κs. search needs)  -- agree-type-agree-field-requires
     (λ c. search needs)  -- agree-type-enum-known-entry-2
     (λ c. search needs)  -- agree-type-sub-agree-enumeration
@@ -344,24 +350,10 @@ pub +agree-entries+agree-member+agree-members+agree-type-spec : {M : Type 1} →
     (agree-type-add-agree-members t)
     (λ c κs. search needs)  -- agree-type-agree-members-requires
     (λ c. search needs)  -- agree-type-enum-known-entry-4
-    (agree-type-add-below t)
-    (λ c. search needs)  -- agree-type-cast-inner
-    (λ c. search needs)  -- agree-type-mul-inner
-    (agree-type-add-inner t)
-    (λ c. search needs)  -- agree-type-sub-array-base
-    (agree-type-array-base-requires t)
-    (λ c. search needs)  -- agree-type-enum-told-3
-    (λ c. search needs)  -- agree-type-enum-known-based
-    (λ c κs. search needs)  -- agree-type-known-entry-at-requires
-    (λ c κs. search needs)  -- agree-type-is-field-requires
-    (λ c κs. search needs)  -- agree-type-agree-field-requires-2
+    (agree-type-agree-array-requires t)
     (agree-type-returns t)
-    (agree-type-enter-requires t)
-    (agree-type-agree-entries-requires t)
     (agree-type-returns-2 t)
     (agree-type-returns-3 t)
     (agree-type-returns-4 t)
     (agree-type-returns-5 t)
     (agree-type-returns-6 t)
-    (agree-type-returns-7 t)
-    (agree-type-returns-8 t)
