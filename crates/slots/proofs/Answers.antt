@@ -9,6 +9,8 @@ use native.Mathlib.Nat.{div-mul-le-self}
 use lib.ListN.{length}
 use lib.Dec.{ltb}
 use borrow.Author.Tests.{lt-ltb, le-ltb, le-leb, lt-leb, ltb-false}
+use mir.Syntax.{w8}
+use mir.Val.{Fits as FitsIn}
 use Rattle.refusal.specs.declared.Refusal.{Refusal}
 use Rattle.refusal.specs.declared.Refusal.the-variants.{BadTable, ZeroSize, Unmapped, NoRoom}
 use Rattle.format.specs.Datatype.{typeSize}
@@ -64,17 +66,18 @@ unfolding findingSlots whenGiven
 slots-bad table pool out h e = refused table pool out BadTable (rw (h .bad-table e))
 
 -- of a type that the check has surveyed
-module _ (table pool out : List ℕ) {s : Survey} (given : Sets table pool s) where
-  sized : s .size ≡ typeSize (given .type)
-  unfolding surveyOf
-  sized = let g = given .says in cc
-
+module _ (table pool : List ℕ) {s : Survey} (given : Sets table pool s) where
   zeroed : s .zero ≡ zeroCode (firstZero (given .type))
   unfolding surveyOf
   zeroed = let g = given .says in cc
 
-  pub zero-fits : s .zero ≤ 11
-  zero-fits = rw zeroed (zero-low (given .type))
+  pub zero-fits : FitsIn w8 (s .zero - 1)
+  zero-fits = record { fits = omega (arith, zero-low (given .type), zeroed) }
+
+module _ (table pool out : List ℕ) {s : Survey} (given : Sets table pool s) where
+  sized : s .size ≡ typeSize (given .type)
+  unfolding surveyOf
+  sized = let g = given .says in cc
 
   finding : findingSlots table pool (length out) ≡ slotting (length out) (given .type)
   unfolding findingSlots whenGiven
@@ -83,11 +86,11 @@ module _ (table pool out : List ℕ) {s : Survey} (given : Sets table pool s) wh
   pub slots-zero : (s .zero ≡ 0 → ⊥) → SlotsAre table pool (Refused (ZeroSize (s .zero - 1))) out out
   unfolding slotting
   slots-zero z =
-      refused table pool out _ (finding ∙ some-code (firstZero (given .type)) _ (λ f. z (zeroed ∙ f)) ∙ ap (λ (n : ℕ). refuses (ZeroSize (n - 1))) (sym zeroed))
+      refused table pool out _ (finding ∙ some-code (firstZero (given .type)) _ (λ f. z (zeroed table pool given ∙ f)) ∙ ap (λ (n : ℕ). refuses (ZeroSize (n - 1))) (sym (zeroed table pool given)))
 
   module _ (z : s .zero ≡ 0) (y : Tallied) (g : CountedAs (typeAt 32 table pool 0 0) y) where
     none-zero : firstZero (given .type) ≡ none
-    none-zero = zero-code _ (sym zeroed ∙ z)
+    none-zero = zero-code _ (sym (zeroed table pool given) ∙ z)
 
     counted : y ≡ At (record { row = s .row; place = s .place; unmapped = holdsOtherReference (given .type) || holdsHiddenReference (given .type); count = mostSlots (slotCount (given .type)); end = mostEnd (slotEnd (given .type)) })
     unfolding CountedAs

@@ -16,10 +16,10 @@ use Rattle.format.specs.Slots.{isSlot, shifted, entries, slots, memberSlots, ho
 use Rattle.format.specs.Table.{Found, found, bad, Walk, andThen, typeAt, membersAt}
 use Rattle.format.proofs.Booleans.{or-neither}
 use Rattle.format.proofs.Slots.{length-slots, first-zero-size, no-slot-no-reference, or-else-none}
-use Rattle.rows.specs.Entries.{entryAt, leafType, fromEntry}
+use Rattle.rows.specs.Entries.{entryAt, leafType, fromEntry, EntryInside}
 use Rattle.rows.specs.declared.Entry.{Entry}
 use Rattle.rows.specs.declared.Entry.the-variants.{Leaf, Compound, Enumeration, VariableLength, Array, Unknown}
-use Rattle.rows.proofs.Decode.{typeAt-entry}
+use Rattle.rows.proofs.Decode.{typeAt-entry, array-inside}
 use Rattle.rows.proofs.Leaves.{leaf-law}
 use Rattle.table.specs.Survey.{surveyOf}
 use Rattle.table.specs.declared.Survey.{Survey}
@@ -28,7 +28,7 @@ use Rattle.table.specs.declared.Surveyed.the-variants.{Sound, Unsound}
 use Rattle.table.proofs.Surveys.{Told, told, untold}
 use Rattle.table.specs.declared.Path.{Path}
 use Rattle.table.specs.Path.{topOf}
-use Rattle.slots.specs.Slots.{AllBelow, Fits, Listed, Listable, PutAs, PutOne, PutIn, PutEach}
+use Rattle.slots.specs.Slots.{Standing, AllBelow, Fits, Listed, Listable, PutAs, PutOne, PutIn, PutEach}
 use Rattle.slots.proofs.Shifting.{first-low, few-entries, listed-none, shifted-none, entries-none}
 
 -- ---- a type that holds a reference has slots
@@ -169,6 +169,19 @@ array-empty (found t r p) ds s h o =
     rw (no-slots t ho) (entries-none (typeSize t) 0 (product ds))
 array-empty bad ds s h o = tt
 
+-- ---- a level further down
+
+-- where a survey found something there was a level left
+pub sound-deeper : (table pool : List ℕ) (depth row place : ℕ) {y : Surveyed} {s : Survey} → y ≡ surveyOf (typeAt (32 - depth) table pool row place) → y ≡ Sound s → depth < 32
+sound-deeper table pool depth row place {s = s} g u = go (32 - depth) refl (told _ s g u)
+  where
+    go : (l : ℕ) → 32 - depth ≡ l → Told (typeAt l table pool row place) s → depth < 32
+    go zero j h = absurd (unfold Told typeAt in h)
+    go (suc l) j h = omega arith
+
+pub standing-entered : {depth base : ℕ} (inner : Path) → inner .depth ≡ depth + 1 → depth < 32 → base < 4294967296 → Standing inner base
+standing-entered inner e h l = record { deep = omega arith; shallow = omega arith; low = l }
+
 -- ---- by the row
 
 module _ (table pool : List ℕ) (depth row place base : ℕ) (out : List ℕ) (at : ℕ) {e : Entry} (shallow : depth ≤ 32) (q : e ≡ entryAt table pool row place) where
@@ -212,29 +225,34 @@ module _ (table pool : List ℕ) (depth row place base : ℕ) (out : List ℕ) (
       go (found ms r p) w = unfold andThen PutAs PutIn slots firstZero holdsOtherReference holdsHiddenReference in λ l f. w (record { sized = or-else-none _ _ (l .sized) .1; mapped = l .mapped }) f
       go bad w = unfold andThen PutAs in tt
 
-  pub type-array-deep : {k : ℕ} → e ≡ Array k → 32 ≤ depth → PutAs (typeAt (33 - depth) table pool row place) base out at at out
-  unfolding fromEntry
-  type-array-deep {k = k} h d =
-      let j : 32 - depth ≡ 0 = omega arith in
-      type-empty h (rw j (unfold typeAt andThen Empty in tt))
+  pub type-array : (x : ℕ) (out′ : List ℕ) {k : ℕ} → e ≡ Array k → PutAs (fromEntry (typeAt (32 - depth) table pool) table pool row place (Array k)) base out at x out′
+      → PutAs (typeAt (33 - depth) table pool row place) base out at x out′
+  type-array x out′ h v = rw (type-as h) v
 
-  module _ {k : ℕ} {y : Surveyed} (h : e ≡ Array k) (g : y ≡ surveyOf (typeAt (32 - depth) table pool (row + 1) (place + k * 4))) where
-    pub type-array-unsound : y ≡ Unsound → PutAs (typeAt (33 - depth) table pool row place) base out at at out
+-- ---- an array
+
+-- its row lies in the table
+pub array-row : (w b r p : ℕ) {e : Entry} {k : ℕ} → EntryInside e w b r p → e ≡ Array k → r * 16 + 16 ≤ w
+array-row w b r p h i = array-inside w b r p h i .0
+
+module _ (table pool : List ℕ) (depth row place k base : ℕ) (out : List ℕ) (at : ℕ) where
+  module _ {y : Surveyed} (g : y ≡ surveyOf (typeAt (32 - depth) table pool (row + 1) (place + k * 4))) where
+    pub array-unsound : y ≡ Unsound → PutAs (fromEntry (typeAt (32 - depth) table pool) table pool row place (Array k)) base out at at out
     unfolding fromEntry
-    type-array-unsound u = type-empty h (rw (← add-one row, untold _ g u) (unfold andThen Empty in tt))
+    array-unsound u = put-empty _ base out at (rw (← add-one row, untold _ g u) (unfold andThen Empty in tt))
 
-    pub type-array-none : {s : Survey} → y ≡ Sound s → not (s .object) ≡ true → PutAs (typeAt (33 - depth) table pool row place) base out at at out
+    pub array-none : {s : Survey} → y ≡ Sound s → not (s .object) ≡ true → PutAs (fromEntry (typeAt (32 - depth) table pool) table pool row place (Array k)) base out at at out
     unfolding fromEntry
-    type-array-none {s = s} u o = type-empty h (rw (← add-one row) (array-empty _ _ s (told _ s g u) (not-true (s .object) o)))
+    array-none {s = s} u o = put-empty _ base out at (rw (← add-one row) (array-empty _ _ s (told _ s g u) (not-true (s .object) o)))
 
-    pub type-array : (x : ℕ) (out′ : List ℕ) {n : ℕ} {s : Survey} (inner : Path) → y ≡ Sound s → not (s .object) ≡ false → n ≡ min (1 * product (dimensionsFrom k (take (k * 4) (drop place pool)))) 4294967296
+    pub array-put : (x : ℕ) (out′ : List ℕ) {n : ℕ} {s : Survey} (inner : Path) → y ≡ Sound s → not (s .object) ≡ false → n ≡ min (1 * product (dimensionsFrom k (take (k * 4) (drop place pool)))) 4294967296
         → inner .depth ≡ depth + 1 → topOf inner ≡ row + 1
         → PutEach (typeAt (33 - inner .depth) table pool (topOf inner) (place + k * 4)) (s .size) n base out at x out′
-        → PutAs (typeAt (33 - depth) table pool row place) base out at x out′
+        → PutAs (fromEntry (typeAt (32 - depth) table pool) table pool row place (Array k)) base out at x out′
     unfolding fromEntry
-    type-array x out′ {s = s} inner u o i hd hr v =
+    array-put x out′ {s = s} inner u o i hd hr v =
         let j : 33 - inner .depth ≡ 32 - depth = omega arith in
-        rw (type-as h, ← add-one row) (array-listed _ _ s base out at x out′ (told _ s g u) (not-false (s .object) o) i (rw (j, hr) at v))
+        rw (← add-one row) (array-listed _ _ s base out at x out′ (told _ s g u) (not-false (s .object) o) i (rw (j, hr) at v))
 
 -- ---- a member's type
 

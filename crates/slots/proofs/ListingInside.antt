@@ -90,15 +90,6 @@ module _ (table pool : List ℕ) (depth r p left base : ℕ) (out : List ℕ) (a
         ap (λ (k : ℕ). membersAt (typeAt (32 - depth) table pool) table pool k r p) j
         ∙ membersAt-entry table pool (left - 1) r p (typeAt (32 - depth) table pool)
 
-    pub members-deep : 32 ≤ depth → PutIn start base out₀ at₀ at out
-    members-deep d =
-        let j : 32 - depth ≡ 0 = omega arith in
-        inv .goes at out (rw members-from (rw j (go (memberAt table pool r p))))
-      where
-        go : (m : Member) → PutIn (fromMember (typeAt 0 table pool) (membersAt (typeAt 0 table pool) table pool (left - 1)) pool r p m) base out at at out
-        go (Named o n) = unfold fromMember typeAt andThen PutIn in tt
-        go Unnamed = unfold fromMember PutIn in tt
-
     module _ {x : Member} (q : x ≡ memberAt table pool r p) where
       members-as : {m : Member} → x ≡ m → membersAt (typeAt (32 - depth) table pool) table pool left r p
           ≡ fromMember (typeAt (32 - depth) table pool) (membersAt (typeAt (32 - depth) table pool) table pool (left - 1)) pool r p m

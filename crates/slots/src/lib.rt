@@ -14,10 +14,12 @@ use table::enter;
 use table::scaled;
 use table::survey_type;
 ghost use mathlib.Core.Path.{_≡_};
-ghost use mathlib.Core.Bool.{_||_};
 ghost use Prim.Native.Nat.{_+_, _*_, _-_, _≤_, _<_, max};
+ghost use lib.ListN.{length};
 ghost use Rattle.format.specs.Slots.{lastEnd, movedEnd};
 ghost use Rattle.format.specs.Table.{typeAt, membersAt};
+ghost use Rattle.rows.specs.Entries.{fromEntry};
+ghost use Rattle.rows.specs.declared.Entry.the-variants.{Array};
 ghost use Rattle.table.specs.Path.{topOf};
 ghost use Rattle.table.specs.Survey.{Sets};
 ghost use Rattle.slots.specs.Slots.{mostSlots, mostEnd, leafTally, hiddenTally, entriesTally, CountedAs, CountedIn, Standing, PutAs, PutOne, PutIn, PutEach, SlotsAre};
@@ -323,36 +325,48 @@ fn put_type(
             out,
             at,
         ),
-        Entry::Array(rank) => {
-            if depth >= 32 {
-                return at;
-            }
-            let inner = place + (rank as usize) * 4;
-            let got = survey_type(table, pool, row + 1, inner, 32 - depth);
-            match got {
-                Surveyed::Unsound => at,
-                Surveyed::Sound(s) => {
-                    if !s.object {
-                        return at;
-                    }
-                    put_entries(
-                        table,
-                        pool,
-                        enter(path, row + 1),
-                        inner,
-                        base,
-                        s.size,
-                        scaled(pool, place, rank, 1),
-                        out,
-                        at,
-                    )
-                }
-            }
-        }
+        Entry::Array(rank) => put_array(table, pool, path, row, place, rank, base, out, at),
     }
 }
 
-// The same of the members of a compound.
+// The same of an array whose row is the top of the path. Where no level is left for its base, the survey finds none.
+fn put_array(
+    table: &[u32],
+    pool: &[u8],
+    path: Path,
+    row: usize,
+    place: usize,
+    rank: u32,
+    base: u64,
+    out: &mut [u64],
+    at: usize,
+) -> usize
+    requires { ⌜ Standing path base × ((row * 16 + 16 ≤ length (now table)) × (place + rank * 4 ≤ length (now pool))) ⌝ }
+    ensures { λ r. ⌜ PutAs (fromEntry (typeAt (32 - path .depth) (now (table .entry)) (now (pool .entry))) (now (table .entry)) (now (pool .entry)) row place (Array rank)) base (now (out .entry)) at r (now (out .exit)) ⌝ }
+{
+    let depth = path.depth;
+    let inner = place + (rank as usize) * 4;
+    let got = survey_type(table, pool, row + 1, inner, 32 - depth);
+    let Surveyed::Sound(s) = got else {
+        return at;
+    };
+    if !s.object {
+        return at;
+    }
+    put_entries(
+        table,
+        pool,
+        enter(path, row + 1),
+        inner,
+        base,
+        s.size,
+        scaled(pool, place, rank, 1),
+        out,
+        at,
+    )
+}
+
+// The same of the members of a compound. Where no level is left for their types, the survey finds none.
 fn put_members(
     table: &[u32],
     pool: &[u8],
@@ -373,40 +387,29 @@ fn put_members(
     let mut left = count;
     let mut next = at;
     while left > 0 {
-        if depth >= 32 {
-            return next;
-        }
         let member = member_at(table, pool, r, p);
-        match member {
-            Member::Unnamed => {
-                return next;
-            }
-            Member::Named(offset, name) => {
-                let inner = p + name as usize;
-                let got = survey_type(table, pool, r + 1, inner, 32 - depth);
-                match got {
-                    Surveyed::Unsound => {
-                        return next;
-                    }
-                    Surveyed::Sound(s) => {
-                        next = put_member(
-                            table,
-                            pool,
-                            path,
-                            r + 1,
-                            inner,
-                            base + offset as u64,
-                            s.object,
-                            out,
-                            next,
-                        );
-                        r = s.row;
-                        p = s.place;
-                        left -= 1;
-                    }
-                }
-            }
-        }
+        let Member::Named(offset, name) = member else {
+            return next;
+        };
+        let inner = p + name as usize;
+        let got = survey_type(table, pool, r + 1, inner, 32 - depth);
+        let Surveyed::Sound(s) = got else {
+            return next;
+        };
+        next = put_member(
+            table,
+            pool,
+            path,
+            r + 1,
+            inner,
+            base + offset as u64,
+            s.object,
+            out,
+            next,
+        );
+        r = s.row;
+        p = s.place;
+        left -= 1;
     }
     next
 }

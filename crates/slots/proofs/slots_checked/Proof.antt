@@ -1,12 +1,10 @@
-use mathlib.Core.List.{[]}
-use native.Mathlib.Omega.{arith}
 use Rattle.slots.proofs.Answers.{zero-fits, slots-zero, slots-lost, slots-other, slots-many, slots-far, slots-room, slots-found}
 use borrow.Author.Needs.{needs}
 use Rattle.slots.proofs.slots_checked.Statement.{statement}
 use Rattle.slots.proofs.slots_checked.Tie as tie
 
 cast-t12 : tie.Need-cast-t12
-cast-t12 c = omega (arith, zero-fits _ _ [] (c .before .before .before .before .before .before .pre))
+cast-t12 c = search zero-fits
 
 returns : tie.Need-returns
 returns c = search slots-zero
