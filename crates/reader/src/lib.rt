@@ -2,12 +2,12 @@
 use format::Header;
 use primitives::least;
 use primitives::put_row;
-use primitives::wide32;
 use primitives::zero_bytes;
 use primitives::zero_words;
 use reader_before::open_type;
 use reader_behind::end_based;
 use reader_behind::enter_member;
+use reader_behind::member_count;
 use reader_leaf::read_leaf;
 use reading::Limits;
 use reading::Opened;
@@ -15,8 +15,7 @@ use reading::Reading;
 use reading::State;
 use reading::Step;
 use refusal::Refusal;
-ghost use mathlib.Core.Path.{_≡_};
-ghost use Prim.Native.Nat.{ℕ, _+_, _*_, _<_, _≤_};
+ghost use Prim.Native.Nat.{_+_, _*_, _<_, _≤_};
 ghost use lib.ListN.{length};
 ghost use Rattle.format.specs.Reading.{readMembers, readType};
 ghost use Rattle.reading.specs.Contract.{run, Ready, AfterType, AfterMembers};
@@ -124,7 +123,7 @@ fn read_type(
         Opened::Refused(e) => Step::Refused(e),
         Opened::Leaf(header) => read_leaf(data, table, pool, limits, used, pooled, header),
         Opened::Compound(header, version) => {
-            let count = wide32(header.f0) + 256 * wide32(header.f1);
+            let count = member_count(header);
             let got = read_members(
                 data,
                 table,
@@ -155,14 +154,7 @@ fn read_type(
             );
             match got {
                 Step::Refused(e) => Step::Refused(e),
-                Step::Done(s) => {
-                    let at = from + s.at;
-                    let inner = State {
-                        at: at,
-                        rows: s.rows,
-                        pooled: s.pooled,
-                        size: s.size,
-                    };
+                Step::Done(inner) => {
                     end_based(data, table, pool, limits, used, pooled, header, base, inner)
                 }
             }

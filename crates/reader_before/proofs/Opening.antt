@@ -212,36 +212,36 @@ module _ {d : List ℕ} {lim : Limits} {used pooled : ℕ} {r : Headed} (w : Hea
     pub asks-array : h .class ≡ 10 → (pooled ≤ lim .pool) × (lim .pool ≤ 65536) → (Begun d lim used h × ((pooled ≤ lim .pool) × (lim .pool ≤ 65536))) × (classKind (h .class) ≡ isArray)
     asks-array c room = ((w .begun h q, room), kind-array (h .class) c)
 
-module _ {d : List ℕ} {lim : Limits} {used pooled : ℕ} {h : Header} (w : (Begun d lim used h × (pooled ≤ lim .pool)) × (classKind (h .class) ≡ isVariableLength)) {kind : ℕ} (a : (kind ≡ lowBits 4 (h .f0)) × (kind < 16)) where
+module _ {d : List ℕ} {lim : Limits} {used pooled : ℕ} {h : Header} (w : Begun d lim used h) (l : pooled ≤ lim .pool) (v : classKind (h .class) ≡ isVariableLength) {kind : ℕ} (a : kind ≡ lowBits 4 (h .f0)) where
   variable-based : ((n : ℕ) → propertiesAt (readType (lim .version) n) h d (lim .rows - (used + 1)) (lim .pool - pooled)
       ≡ run (readBased (readType (lim .version) n) h []) d lim 8 (used + 1) pooled)
       → Opens d lim used pooled (Based h (record { from = 8; place = pooled; start = 8; rank = 0 }))
   unfolding basedKind
-  variable-based q = begun-based (w .0 .0) (rw (w .1)) (w .0 .1) q
+  variable-based q = begun-based w (rw v) l q
 
   pub variable-sequence : (kind ≡ 1 → ⊥) → Opens d lim used pooled (Based h (record { from = 8; place = pooled; start = 8; rank = 0 }))
   variable-sequence other =
-      variable-based (λ n. sequence-go (readType (lim .version) n) h d (lim .rows - (used + 1)) (lim .pool) pooled (w .1) (λ e. other (a .0 ∙ e)))
+      variable-based (λ n. sequence-go (readType (lim .version) n) h d (lim .rows - (used + 1)) (lim .pool) pooled v (λ e. other (a ∙ e)))
 
   module _ (text : kind ≡ 1) {padding : ℕ} (b : (padding ≡ highBits 4 (h .f0)) × (padding < 16)) where
     pub variable-padding : 2 < padding → Opens d lim used pooled (OpenRefused (BadPadding padding))
     variable-padding x =
         ends
-        (w .0 .0)
-        (λ n. text-padding (readType (lim .version) n) h d (lim .rows - (used + 1)) (lim .pool) pooled (w .1) (omega arith) (omega arith) ∙ ap (λ (k : ℕ). refused (BadPadding k)) (sym (b .0)))
+        w
+        (λ n. text-padding (readType (lim .version) n) h d (lim .rows - (used + 1)) (lim .pool) pooled v (omega arith) (omega arith) ∙ ap (λ (k : ℕ). refused (BadPadding k)) (sym (b .0)))
 
     module _ (low : padding ≤ 2) {charset : ℕ} (c : (charset ≡ lowBits 4 (h .f1)) × (charset < 16)) where
       pub variable-charset : 1 < charset → Opens d lim used pooled (OpenRefused (BadCharset charset))
       variable-charset x =
           ends
-          (w .0 .0)
-          (λ n. text-charset (readType (lim .version) n) h d (lim .rows - (used + 1)) (lim .pool) pooled (w .1) (omega arith) (omega arith) (omega arith)
+          w
+          (λ n. text-charset (readType (lim .version) n) h d (lim .rows - (used + 1)) (lim .pool) pooled v (omega arith) (omega arith) (omega arith)
           ∙ ap (λ (k : ℕ). refused (BadCharset k)) (sym (c .0)))
 
       pub variable-string : charset ≤ 1 → Opens d lim used pooled (Based h (record { from = 8; place = pooled; start = 8; rank = 0 }))
       variable-string x =
           variable-based
-          (λ n. text-go (readType (lim .version) n) h d (lim .rows - (used + 1)) (lim .pool) pooled (w .1) (omega arith) (omega arith) (omega arith))
+          (λ n. text-go (readType (lim .version) n) h d (lim .rows - (used + 1)) (lim .pool) pooled v (omega arith) (omega arith) (omega arith))
 
 module _ {d : List ℕ} {lim : Limits} {used pooled : ℕ} {h : Header} (w : (Begun d lim used h × ((pooled ≤ lim .pool) × (lim .pool ≤ 65536))) × (classKind (h .class) ≡ isArray)) where
   pub array-below : h .version < 2 → Opens d lim used pooled (OpenRefused (BadVersion (h .class) (h .version)))

@@ -8,6 +8,8 @@ use native.Mathlib.Omega.{arith}
 use borrow.Author.Tests.{eq-eqb, ne-eqb}
 use lib.Dec.{eqb}
 use lib.ListN.{length, getD, take, drop, length-append, length-drop}
+use mir.Syntax.{w64}
+use mir.Val.{Fits}
 use lib.Seq.{sets, length-take-le}
 use Rattle.refusal.specs.declared.Refusal.{Refusal}
 use Rattle.refusal.specs.declared.Refusal.the-variants.{ZeroSize}
@@ -23,9 +25,9 @@ use Rattle.reading.specs.declared.State.{State}
 use Rattle.reading.specs.declared.Base.{Base}
 use Rattle.reading.specs.declared.Step.{Step}
 use Rattle.reading.specs.declared.Step.the-variants.{Done as StepDone, Refused as StepRefused}
-use Rattle.reading.specs.Contract.{run, here, Ready, AfterEnum, readEnumMembers, behind, variableOf, dimensionsOf, basedKind, Ended, Ends}
+use Rattle.reading.specs.Contract.{run, here, Ready, AfterEnum, readEnumMembers, behind, variableOf, dimensionsOf, basedKind, OpensBased, BaseRead, Ended, Ends}
 use Rattle.reading.proofs.Steps.{sized-no, sized-go, sized-zero}
-use Rattle.reading.proofs.Contracts.{by-done, not-done, by-refused, not-refused}
+use Rattle.reading.proofs.Contracts.{by-done, not-done, by-refused, not-refused, part-near}
 
 -- ---- by what is returned
 
@@ -186,13 +188,13 @@ module _ (d : List ℕ) (lim : Limits) (used pooled : ℕ) (h : Header) (b : Bas
 
 -- ---- class 8
 
-module _ (d : List ℕ) (lim : Limits) (used pooled : ℕ) (h : Header) (b : Base) (inner : State) (x y : ℕ) (r : Step) (t t₁ p p₁ : List ℕ)
-    (kind : classKind (h .class) ≡ isEnumeration) (low : x ≡ h .f0) (high : y ≡ h .f1)
-    (members : AfterEnum (x + 256 * y) (run (readEnumMembers (h .version) (x + 256 * y) (inner .size)) d lim (inner .at) (inner .rows) (inner .pooled)) d lim (inner .rows) (inner .pooled) r t t₁ p p₁) where
+module _ (d : List ℕ) (lim : Limits) (used pooled : ℕ) (h : Header) (b : Base) (inner : State) (count : ℕ) (r : Step) (t t₁ p p₁ : List ℕ)
+    (kind : classKind (h .class) ≡ isEnumeration) (counted : count ≡ countOf h)
+    (members : AfterEnum count (run (readEnumMembers (h .version) count (inner .size)) d lim (inner .at) (inner .rows) (inner .pooled)) d lim (inner .rows) (inner .pooled) r t t₁ p p₁) where
   members-are : (base : Datatype) → typeSize base ≡ inner .size → run (behind h (dimensionsOf d b) (classKind (h .class)) base) d lim (inner .at) (inner .rows) (inner .pooled)
-      ≡ then (run (readEnumMembers (h .version) (x + 256 * y) (inner .size)) d lim (inner .at) (inner .rows) (inner .pooled)) (λ ms at s r p. got (enumeration (h .size) base ms) at s r p)
-  unfolding behind countOf
-  members-are base e = rw (kind, e, ← low, ← high)
+      ≡ then (run (readEnumMembers (h .version) count (inner .size)) d lim (inner .at) (inner .rows) (inner .pooled)) (λ ms at s r p. got (enumeration (h .size) base ms) at s r p)
+  unfolding behind
+  members-are base e = rw (kind, e, ← counted)
 
   pub enum-stops : {e : Refusal} → r ≡ StepRefused e
       → Ends d lim used pooled h (dimensionsOf d b) (inner .at) (inner .rows) (inner .pooled) (inner .size) (StepRefused e) t t₁ p p₁
@@ -219,7 +221,7 @@ module _ (d : List ℕ) (lim : Limits) (used pooled : ℕ) (h : Header) (b : Bas
         (enumeration (h .size) base (members .done s done .tree)) (s .at) (drop (s .at) d) (lim .rows - s .rows) (lim .pool - s .pooled) (enum-given base en) z
 
     pub enum-ends : {t′ : List ℕ} → b .rank ≡ 0 → (h .size ≡ 0 → ⊥)
-        → t′ ≡ sets t₁ (used * 16) (9 ∷ h .size ∷ 0 ∷ 0 ∷ (x + 256 * y) ∷ 0 ∷ 0 ∷ 0 ∷ 0 ∷ 0 ∷ 0 ∷ 0 ∷ 0 ∷ 0 ∷ 0 ∷ 0 ∷ [])
+        → t′ ≡ sets t₁ (used * 16) (9 ∷ h .size ∷ 0 ∷ 0 ∷ count ∷ 0 ∷ 0 ∷ 0 ∷ 0 ∷ 0 ∷ 0 ∷ 0 ∷ 0 ∷ 0 ∷ 0 ∷ 0 ∷ [])
         → Ends d lim used pooled h (dimensionsOf d b) (inner .at) (inner .rows) (inner .pooled) (inner .size)
         (StepDone (record { at = s .at; rows = s .rows; pooled = s .pooled; size = h .size })) t t′ p p₁
     unfolding typeSize rowCount poolBytes rows row padded zeros
@@ -249,12 +251,26 @@ module _ (d : List ℕ) (lim : Limits) (used pooled : ℕ) (h : Header) (b : Bas
           pool = l .pool;
           rows-are = omega arith;
           pooled-are = omega (arith, length-append (poolBytes base) (enumNames ms ++ enumValues ms));
-          filled = l .filled;
-          room = l .room;
+          filled = l .ready .filled;
+          room = l .ready .room;
           near = l .near;
         }
 
 -- ---- by class
+
+-- what is known of a base that was opened and read, in the outer message
+module _ {d : List ℕ} {lim : Limits} {used pooled : ℕ} {h : Header} {b : Base} {inner : State} {t p : List ℕ} (o : OpensBased d lim used pooled h b) (r : BaseRead d lim used b inner t p) where
+  pub base-near : b .from + inner .at ≤ length d + 7
+  base-near = part-near d (o .within) (r .near)
+
+  pub base-fits : length d * 1 < 9223372036854775808 → Fits w64 (b .from + inner .at)
+  base-fits l = let n = base-near in record { fits = omega arith }
+
+  pub base-sought : b .start + 4 * b .rank ≤ length d
+  base-sought = omega (arith, o .sought, o .within)
+
+  pub base-place : pooled + 4 * b .rank ≤ inner .pooled
+  base-place = omega (arith, o .place-is, r .place)
 
 pub enumeration-class : (c k : ℕ) → basedKind (classKind c) k → c ≡ 8 → (classKind c ≡ isEnumeration) × (k ≡ 0)
 unfolding classKind basedKind

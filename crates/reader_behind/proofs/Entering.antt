@@ -1,13 +1,13 @@
 -- A compound's member up to its type: the ways out of `enter_member`.
 use mathlib.Core.Path.{_≡_, refl, ap, _∙_}
-use mathlib.Core.List.{List, [], _∷_}
+use mathlib.Core.List.{List, []}
 use Prim.Native.Nat.{ℕ, suc, _+_, _-_, _*_, _<_, _≤_}
 use native.Mathlib.Omega.{arith}
 use lib.ListN.{length, take, drop}
-use lib.Seq.{sets}
+use lib.Seq.{sets, length-sets}
 use Rattle.refusal.specs.declared.Refusal.{Refusal}
 use Rattle.refusal.specs.declared.Refusal.the-variants.{TooMany, Short, PoolFull}
-use Rattle.format.specs.Bytes.{numberFrom, zeros, padded}
+use Rattle.format.specs.Bytes.{numberFrom}
 use Rattle.format.specs.Datatype.{Datatype, member}
 use Rattle.format.specs.Message.{namePadding, offsetWidth, skippedBytes}
 use Rattle.format.specs.Reading.{Reader, got, refused, then, inner, readName, readMembers}
@@ -18,8 +18,8 @@ use Rattle.names.specs.declared.Name.{Name}
 use Rattle.names.specs.declared.Name.the-variants.{Whole, Missing, Full}
 use Rattle.reading.specs.declared.Limits.{Limits}
 use Rattle.reading.specs.declared.Step.the-variants.{Done as StepDone, Refused as StepRefused}
-use Rattle.reading.specs.Contract.{run, Entered, Enters}
-use Rattle.reading.proofs.Contracts.{by-done, not-done, by-refused, not-refused}
+use Rattle.reading.specs.Contract.{run, Ready, Entered, Enters}
+use Rattle.reading.proofs.Contracts.{by-done, not-done, by-refused, not-refused, ready-at}
 use Rattle.reading.proofs.Steps.{number-go, number-short, bytes-go, bytes-short}
 use Rattle.reader_behind.proofs.Naming.{name-rowless, name-missing, name-over, name-whole}
 
@@ -96,11 +96,11 @@ module _ {d : List ℕ} {lim : Limits} {ver size at used pooled : ℕ} {t t′ p
         pub enter-cut : length d < at + (n + 1) + pad + width + sk → Enters d lim ver size at used pooled (StepRefused (Short (at + (n + 1) + pad + width + sk) (length d))) t t′ p p′
         enter-cut h = stops (λ rd k. member-cut d lim ver size at used pooled rd k free n m pad width (w .whole n m q) (pe .0) (we .0) wide sk (se .0) h)
 
-        pub enter-inner : {o : ℕ} → at + (n + 1) + pad + width + sk ≤ length d → o ≡ numberFrom (take width (drop (at + (n + 1) + pad) d))
-            → t′ ≡ sets t (used * 16) (12 ∷ o ∷ pooled ∷ m ∷ 0 ∷ 0 ∷ 0 ∷ 0 ∷ 0 ∷ 0 ∷ 0 ∷ 0 ∷ 0 ∷ 0 ∷ 0 ∷ 0 ∷ [])
+        pub enter-inner : {o : ℕ} → Ready lim used pooled t p → at + (n + 1) + pad + width + sk ≤ length d → o ≡ numberFrom (take width (drop (at + (n + 1) + pad) d))
+            → t′ ≡ sets t (used * 16) (row 12 o pooled m 0 [])
             → Enters d lim ver size at used pooled (StepDone (record { at = at + (n + 1) + pad + width + sk; rows = used + 1; pooled = pooled + m; size = 0 })) t t′ p p′
-        unfolding memberRow row padded zeros
-        enter-inner {o} long oe et =
+        unfolding memberRow
+        enter-inner {o} ready long oe et =
             let y = w .whole n m q in
             let l = y .long in
             let f = y .fits in
@@ -113,8 +113,7 @@ module _ {d : List ℕ} {lim : Limits} {ver size at used pooled : ℕ} {t t′ p
                 pooled-are = ap (λ (k : ℕ). pooled + k) l;
                 table = et ∙ ap (λ (k : ℕ). sets t (used * 16) (memberRow pooled k m)) oe ∙ ap (λ (k : ℕ). sets t (used * 16) (memberRow pooled (numberFrom (take width (drop (at + (n + 1) + pad) d))) k)) l;
                 pool = y .pool;
-                filled = omega arith;
-                room = f;
+                ready = ready-at (used + 1) (pooled + m) ready (omega arith) f (ap length et ∙ length-sets t (used * 16) (row 12 o pooled m 0 [])) (ap length (y .pool) ∙ length-sets p pooled (mended (take n (drop at d))));
                 within = long;
               });
               stopped = not-refused (λ e. (rd : Reader Datatype) (k : ℕ) → run (readMembers rd ver size (suc k)) d lim at used pooled ≡ refused e);

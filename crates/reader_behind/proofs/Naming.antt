@@ -1,16 +1,16 @@
 -- A name at a place of the message, by what `read_name` found there: the laws of `readName`, and the ways out of `enter_enum_member`.
 use mathlib.Core.Path.{_≡_, refl, ap, _∙_}
 use mathlib.Core.Option.{none}
-use mathlib.Core.List.{List, [], _∷_}
+use mathlib.Core.List.{List, []}
 use Prim.Native.Nat.{ℕ, _+_, _-_, _*_, _<_, _≤_}
 use native.Mathlib.Omega.{arith}
-use mir.Syntax.{w32, w64}
+use mir.Syntax.{w64}
 use mir.Val.{Fits}
 use lib.ListN.{length, take, drop, length-drop}
 use lib.Seq.{sets, length-take-le}
 use Rattle.refusal.specs.declared.Refusal.{Refusal}
 use Rattle.refusal.specs.declared.Refusal.the-variants.{TooMany, Short, PoolFull}
-use Rattle.format.specs.Bytes.{firstNul, zeros, padded}
+use Rattle.format.specs.Bytes.{firstNul}
 use Rattle.format.specs.Message.{namePadding}
 use Rattle.format.specs.Reading.{got, refused, then, readName}
 use Rattle.format.specs.Table.{row, enumMemberRow}
@@ -81,11 +81,17 @@ module _ {d : List ℕ} {at : ℕ} {p p′ : List ℕ} {place room n m : ℕ} {x
   pub whole-next : length d < 18446744073709551616 → Fits w64 (at + (n + 1))
   whole-next l = let i = whole-inside in record { fits = omega arith }
 
+  pub whole-padded : {pad : ℕ} → pad < 8 → length d * 1 < 9223372036854775808 → Fits w64 (at + (n + 1) + pad)
+  whole-padded k l = let i = whole-inside in record { fits = omega arith }
+
+  pub whole-offset : {pad width : ℕ} → pad < 8 → width ≤ 4 → length d * 1 < 9223372036854775808 → Fits w64 (at + (n + 1) + pad + width)
+  whole-offset k h l = let i = whole-inside in record { fits = omega arith }
+
   pub whole-pooled : room ≤ 65536 → Fits w64 (place + m)
   whole-pooled l = let i = whole-fits in record { fits = omega arith }
 
-  pub whole-word : room ≤ 65536 → Fits w32 m
-  whole-word l = let i = whole-fits in record { fits = omega arith }
+  pub whole-word : room ≤ 65536 → m < 4294967296
+  whole-word l = let i = whole-fits in omega arith
 
 -- ---- the ways out of `enter_enum_member`
 
@@ -108,9 +114,9 @@ module _ {d : List ℕ} {lim : Limits} {ver width at used pooled : ℕ} {t t′ 
     enum-over q = stops (name-over d lim ver at used pooled free (w .full q))
 
     pub enum-named : {n m pad : ℕ} → x ≡ Whole n m → (pad ≡ namePadding ver (n + 1)) × (pad < 8)
-        → t′ ≡ sets t (used * 16) (13 ∷ 0 ∷ pooled ∷ m ∷ width ∷ 0 ∷ 0 ∷ 0 ∷ 0 ∷ 0 ∷ 0 ∷ 0 ∷ 0 ∷ 0 ∷ 0 ∷ 0 ∷ [])
+        → t′ ≡ sets t (used * 16) (row 13 0 pooled m width [])
         → Names d lim ver width at used pooled (StepDone (record { at = at + (n + 1) + pad; rows = used + 1; pooled = pooled + m; size = 0 })) t t′ p p′
-    unfolding enumMemberRow row padded zeros
+    unfolding enumMemberRow
     enum-named {n} {m} {pad} q pe et =
         let y = w .whole n m q in
         let i = y .inside in

@@ -118,8 +118,7 @@ module _ {d : List ℕ} {lim : Limits} {v count width from used₀ pooled₀ : �
           pooled-are = w .pooled-are;
           table = w .table;
           pool = w .pool;
-          filled = w .ready .filled;
-          room = w .ready .room;
+          ready = w .ready;
           near = w .near;
         })
 

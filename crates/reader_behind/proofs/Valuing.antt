@@ -5,7 +5,7 @@ use Prim.Native.Nat.{ℕ, suc, _+_, _-_, _*_, _<_, _≤_}
 use native.Mathlib.Nat.{add-zero}
 use native.Mathlib.Omega.{arith}
 use lib.ListN.{length, take, drop, length-append, length-drop}
-use lib.Seq.{sets, length-take-le}
+use lib.Seq.{sets, length-sets, length-take-le}
 use Rattle.refusal.specs.declared.Refusal.{Refusal}
 use Rattle.refusal.specs.declared.Refusal.the-variants.{Short, PoolFull}
 use Rattle.format.specs.Datatype.{EnumMember, enumNames, enumValues}
@@ -17,7 +17,7 @@ use Rattle.reading.specs.declared.Step.{Step}
 use Rattle.reading.specs.declared.Step.the-variants.{Done as StepDone, Refused as StepRefused}
 use Rattle.reading.specs.Contract.{run, nameRows, joinedNames, AfterNames, AfterEnum, Valued, Values, readEnumMembers}
 use Rattle.reading.proofs.Steps.{bytes-go, bytes-short, piece-go, piece-full}
-use Rattle.reading.proofs.Contracts.{by-done, not-done, by-refused, not-refused, refuses}
+use Rattle.reading.proofs.Contracts.{by-done, not-done, by-refused, not-refused, refuses, ready-at}
 use Rattle.format.proofs.Lists.{sets-append}
 
 -- ---- values
@@ -161,6 +161,17 @@ module _ (d : List ℕ) (lim : Limits) (v count width at used pooled : ℕ) (r :
   unfolding readEnumMembers then
   names-refused {e} q = refuses (rw (names .denied e q))
 
+  -- what the values ask, behind the names
+  module _ {s : State} (q : r ≡ StepDone s) where
+    pub names-room : s .pooled ≤ lim .pool
+    names-room = names .done s q .ready .room
+
+    pub names-near : s .at ≤ length d + 7
+    names-near = names .done s q .near
+
+    pub names-held : lim .pool ≤ length p₁
+    names-held = names .done s q .ready .pool
+
   pub names-valued : {s : State} {r′ : Step} {p′ : List ℕ} → r ≡ StepDone s → ValuesFrom d lim width (s .rows) count (s .at) (s .pooled) r′ p₁ p′
       → AfterEnum count (run (readEnumMembers v count width) d lim at used pooled) d lim used pooled r′ t t₁ p p′
   unfolding readEnumMembers then
@@ -179,8 +190,7 @@ module _ (d : List ℕ) (lim : Limits) (v count width at used pooled : ℕ) (r :
               pooled-are = omega (arith, length-append (enumNames (m .members)) (enumValues (m .members)), ap length (m .names-same));
               table = l .table ∙ ap (sets t (used * 16)) (sym (m .rows-same pooled));
               pool = joined (enumNames (m .members)) (joinedNames bs) (enumValues (m .members)) p p₁ _ pooled (s .pooled) (m .names-same) (l .pooled-are) (l .pool) (m .pool);
-              filled = omega (arith, m .rows-are, l .filled);
-              room = m .room;
+              ready = ready-at (z .rows) (z .pooled) (l .ready) (omega (arith, m .rows-are, l .ready .filled)) (m .room) refl (ap length (m .pool) ∙ length-sets p₁ (s .pooled) (enumValues (m .members)));
               near = m .near;
             };
         denied = λ f e. o ∙ w bs (l .such) .denied f e;

@@ -11,7 +11,6 @@ use primitives::offset_bytes_for_size;
 use primitives::put_row;
 use primitives::read_uint;
 use primitives::skipped_bytes;
-use primitives::wide;
 use primitives::wide32;
 use reading::Base;
 use reading::Limits;
@@ -19,14 +18,59 @@ use reading::State;
 use reading::Step;
 use refusal::Refusal;
 ghost use mathlib.Core.Path.{_≡_};
-ghost use mathlib.Core.List.{List};
+ghost use mathlib.Core.List.{List, []};
 ghost use Prim.Native.Nat.{ℕ, _+_, _*_, _<_, _≤_, min};
 ghost use lib.ListN.{length, take, drop};
+ghost use lib.Seq.{sets};
 ghost use Rattle.format.specs.Bytes.{dimensionsFrom};
 ghost use Rattle.format.specs.Datatype.{product};
-ghost use Rattle.format.specs.Reading.{classKind, readNames, readValues};
-ghost use Rattle.format.specs.Table.{isEnumeration, isVariableLength, isArray};
-ghost use Rattle.reading.specs.Contract.{run, Ready, Enters, Names, AfterNames, Values, AfterEnum, readEnumMembers, Ends, dimensionsOf, basedKind};
+ghost use Rattle.format.specs.Reading.{classKind, countOf, readNames, readValues};
+ghost use Rattle.format.specs.Table.{row, isEnumeration, isVariableLength, isArray};
+ghost use Rattle.reading.specs.Contract.{run, Ready, Enters, Names, AfterNames, Values, AfterEnum, readEnumMembers, OpensBased, BaseRead, Ends, dimensionsOf};
+
+// The number of members of a compound or an enumeration.
+pub fn member_count(header: Header) -> u32
+    ensures { λ r. ⌜ (r ≡ countOf header) × (r < 65536) ⌝ }
+{
+    wide32(header.f0) + 256 * wide32(header.f1)
+}
+
+// A member's row, by its kind (12 of a compound, 13 of an enumeration): its offset, where its name lies in the pool, its value's length.
+fn put_member_row(
+    table: &mut [u32],
+    used: usize,
+    kind: u32,
+    offset: u32,
+    place: usize,
+    long: usize,
+    width: u32,
+)
+    requires { ⌜ (used * 16 + 16 ≤ length (now table)) × ((place < 4294967296) × (long < 4294967296)) ⌝ }
+    ensures { λ r. ⌜ now (table .exit) ≡ sets (now (table .entry)) (used * 16) (row kind offset place long width []) ⌝ }
+{
+    put_row(
+        table,
+        used,
+        [
+            kind,
+            offset,
+            place as u32,
+            long as u32,
+            width,
+            0,
+            0,
+            0,
+            0,
+            0,
+            0,
+            0,
+            0,
+            0,
+            0,
+            0,
+        ],
+    );
+}
 
 // One member up to its type: its row and name are stored.
 pub fn enter_member(
@@ -60,28 +104,7 @@ pub fn enter_member(
             if data.len() < inner {
                 return Step::Refused(Refusal::Short(inner, data.len()));
             }
-            put_row(
-                table,
-                used,
-                [
-                    12,
-                    read_uint(data, from, width),
-                    pooled as u32,
-                    m as u32,
-                    0,
-                    0,
-                    0,
-                    0,
-                    0,
-                    0,
-                    0,
-                    0,
-                    0,
-                    0,
-                    0,
-                    0,
-                ],
-            );
+            put_member_row(table, used, 12, read_uint(data, from, width), pooled, m, 0);
             Step::Done(State {
                 at: inner,
                 rows: used + 1,
@@ -115,28 +138,7 @@ fn enter_enum_member(
         Name::Missing => Step::Refused(Refusal::Short(at + 1, data.len())),
         Name::Full => Step::Refused(Refusal::PoolFull),
         Name::Whole(n, m) => {
-            put_row(
-                table,
-                used,
-                [
-                    13,
-                    0,
-                    pooled as u32,
-                    m as u32,
-                    width,
-                    0,
-                    0,
-                    0,
-                    0,
-                    0,
-                    0,
-                    0,
-                    0,
-                    0,
-                    0,
-                    0,
-                ],
-            );
+            put_member_row(table, used, 13, 0, pooled, m, width);
             let next = at + (n + 1) + name_padding(version, n + 1);
             Step::Done(State {
                 at: next,
@@ -261,7 +263,7 @@ fn end_enumeration(
     ensures { λ r. ⌜ Ends (now («data» .entry)) limits used pooled header (dimensionsOf (now («data» .entry)) base) (inner .at) (inner .rows) (inner .pooled) (inner .size) r
         (now (table .entry)) (now (table .exit)) (now (pool .entry)) (now (pool .exit)) ⌝ }
 {
-    let count = wide32(header.f0) + 256 * wide32(header.f1);
+    let count = member_count(header);
     let got = read_enum_members(
         data,
         table,
@@ -404,7 +406,8 @@ fn end_array(
     })
 }
 
-// What stands behind the base of a class 8, 9 or 10 type, and the type's own row.
+// What stands behind the base of a class 8, 9 or 10 type, and the type's own row. The base was read as a message of its own: `inner` counts
+// from where that begins.
 pub fn end_based(
     data: &[u8],
     table: &mut [u32],
@@ -416,15 +419,20 @@ pub fn end_based(
     base: Base,
     inner: State,
 ) -> Step
-    requires { ⌜ (((Ready limits (inner .rows) (inner .pooled) (now table) (now pool) × (inner .at ≤ length (now «data») + 7)) × (0 < inner .size)) × ((used < limits .rows) × (used < inner .rows)))
-        × (basedKind (classKind (header .class)) (base .rank) × ((base .start + 4 * base .rank ≤ length (now «data»)) × (pooled + 4 * base .rank ≤ inner .pooled))) ⌝ }
-    ensures { λ r. ⌜ Ends (now («data» .entry)) limits used pooled header (dimensionsOf (now («data» .entry)) base) (inner .at) (inner .rows) (inner .pooled) (inner .size) r
+    requires { ⌜ OpensBased (now «data») limits used pooled header base × BaseRead (now «data») limits used base inner (now table) (now pool) ⌝ }
+    ensures { λ r. ⌜ Ends (now («data» .entry)) limits used pooled header (dimensionsOf (now («data» .entry)) base) (base .from + inner .at) (inner .rows) (inner .pooled) (inner .size) r
         (now (table .entry)) (now (table .exit)) (now (pool .entry)) (now (pool .exit)) ⌝ }
 {
+    let outer = State {
+        at: base.from + inner.at,
+        rows: inner.rows,
+        pooled: inner.pooled,
+        size: inner.size,
+    };
     let class = header.class;
     match class {
-        8 => end_enumeration(data, table, pool, limits, used, pooled, header, base, inner),
-        9 => end_variable(data, table, pool, limits, used, pooled, header, base, inner),
-        _ => end_array(data, table, pool, limits, used, pooled, header, base, inner),
+        8 => end_enumeration(data, table, pool, limits, used, pooled, header, base, outer),
+        9 => end_variable(data, table, pool, limits, used, pooled, header, base, outer),
+        _ => end_array(data, table, pool, limits, used, pooled, header, base, outer),
     }
 }

@@ -64,7 +64,7 @@ module _ {k : Kind} (h : Header) (d : List ℕ) {lim : Limits} {used pooled : �
       let some : 0 < typeSize tree = omega (arith, l .size) in
       lands (one-row tree w b
       (sized-go h (readLeaf h) (length d) 8 (drop 8 d) (lim .rows - (used + 1)) (lim .pool - pooled) tree (s .at) (drop (s .at) d) (lim .rows - s .rows) (lim .pool - s .pooled) (rw (asked .1) q) some)
-      (l .words-are) (l .bytes-are) (l .count) (es ∙ sym (l .size), some) er ep et eb (asked .0 .0 .1) room near)
+      (l .words-are) (l .bytes-are) (l .count) (es ∙ sym (l .size), some) er ep et eb (asked .0 .0 .0) (asked .0 .0 .1) room near)
 
 -- ---- properties that are numbers, sought together
 

@@ -3,12 +3,15 @@ use mathlib.Core.Path.{_≡_, refl, sym, ap, _∙_}
 use mathlib.Core.List.{List, [], _∷_, _++_}
 use Prim.Native.Nat.{ℕ, suc, _+_, _-_, _*_, _<_, _≤_}
 use native.Mathlib.Omega.{arith}
-use lib.ListN.{length, set}
-use lib.Seq.{sets, set-comm}
+use lib.ListN.{length, getD, set, take, drop, length-drop}
+use lib.Seq.{sets, length-sets, set-comm}
+use mir.Syntax.{w8}
+use mir.Val.{Fits}
 use Rattle.refusal.specs.declared.Refusal.{Refusal}
 use Rattle.format.specs.Datatype.{Datatype, typeSize, rowCount, poolBytes}
 use Rattle.format.specs.Reading.{Answer, refused}
 use Rattle.format.specs.Table.{rows}
+use Rattle.format.proofs.Lists.{part-all}
 use Rattle.reading.specs.declared.Limits.{Limits}
 use Rattle.reading.specs.declared.State.{State}
 use Rattle.reading.specs.declared.Step.{Step}
@@ -50,12 +53,20 @@ module _ {A : Type 0} {words : ℕ → A → List ℕ} {bytes : A → List ℕ} 
   pub refuses : {e : Refusal} → o ≡ refused e → After words bytes count Q o d lim used pooled (StepRefused e) t t′ p p′
   refuses q = record { done = λ z e. absurd (no-done (sym e)); denied = λ z e. q ∙ ap refused (refused-is e) }
 
+-- rows and bytes more are used, and the table and the pool keep their lengths
+pub ready-at : {lim : Limits} {used pooled : ℕ} {t t′ p p′ : List ℕ} (u v : ℕ) → Ready lim used pooled t p → u ≤ lim .rows → v ≤ lim .pool → length t′ ≡ length t → length p′ ≡ length p
+    → Ready lim u v t′ p′
+ready-at u v r a b e f =
+    let x = r .table in
+    let y = r .pool in
+    record { filled = a; few = r .few; table = omega arith; room = b; small = r .small; pool = omega arith }
+
 -- a type of one row
 pub one-row : (tree : Datatype) (w b : List ℕ) {o : Answer Datatype} {d : List ℕ} {lim : Limits} {used pooled : ℕ} {s : State} {t t′ p p′ : List ℕ}
     → o ≡ here tree d lim s → rows pooled tree ≡ w → poolBytes tree ≡ b → rowCount tree ≡ 1 → (s .size ≡ typeSize tree) × (0 < typeSize tree) → s .rows ≡ used + 1 → s .pooled ≡ pooled + length b
-    → t′ ≡ sets t (used * 16) w → p′ ≡ sets p pooled b → used < lim .rows → s .pooled ≤ lim .pool → s .at ≤ length d + 7
+    → t′ ≡ sets t (used * 16) w → p′ ≡ sets p pooled b → Ready lim used pooled t p → used < lim .rows → s .pooled ≤ lim .pool → s .at ≤ length d + 7
     → Landed rows poolBytes rowCount (λ t s. (s .size ≡ typeSize t) × (0 < typeSize t)) o d lim used pooled s t t′ p p′
-one-row tree w b {used = used} {pooled = pooled} {t = t} {p = p} is ew eb one size rs ps et ep free room near =
+one-row tree w b {used = used} {pooled = pooled} {s = s} {t = t} {p = p} is ew eb one size rs ps et ep ready free room near =
     record {
       tree = tree;
       such = size;
@@ -64,18 +75,18 @@ one-row tree w b {used = used} {pooled = pooled} {t = t} {p = p} is ew eb one si
       pooled-are = ps ∙ ap (λ (l : List ℕ). pooled + length l) (sym eb);
       table = et ∙ ap (sets t (used * 16)) (sym ew);
       pool = ep ∙ ap (sets p pooled) (sym eb);
-      filled = omega arith;
-      room = room;
+      ready = ready-at (s .rows) (s .pooled) ready (omega arith) room (ap length et ∙ length-sets t (used * 16) w) (ap length ep ∙ length-sets p pooled b);
       near = near;
     }
 
--- rows and bytes more are used, and the table and the pool keep their lengths
-pub ready-at : {lim : Limits} {used pooled : ℕ} {t t′ p p′ : List ℕ} (u v : ℕ) → Ready lim used pooled t p → u ≤ lim .rows → v ≤ lim .pool → length t′ ≡ length t → length p′ ≡ length p
-    → Ready lim u v t′ p′
-ready-at u v r a b e f =
-    let x = r .table in
-    let y = r .pool in
-    record { filled = a; few = r .few; table = omega arith; room = b; small = r .small; pool = omega arith }
+-- ---- facts in the form in which the code has or needs them
+
+pub byte-below : (d : List ℕ) (i : ℕ) → ((j : ℕ) → Fits w8 (getD d j 0)) → getD d i 0 < 256
+byte-below d i h = h i .fits
+
+-- a place in the part of a message from `from` on
+pub part-near : (d : List ℕ) {from k : ℕ} → from ≤ length d → k ≤ length (take (length d - from) (drop from d)) + 7 → from + k ≤ length d + 7
+part-near d {from} h n = omega (arith, ap length (part-all d from), length-drop from d)
 
 -- ---- stores side by side
 

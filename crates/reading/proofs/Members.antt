@@ -4,8 +4,10 @@ use mathlib.Core.List.{List, _++_, append-assoc, append-nil}
 use Prim.Native.Nat.{ℕ, suc, _+_, _-_, _*_, _<_, _≤_}
 use native.Mathlib.Omega.{arith}
 use native.Mathlib.Nat.{add-zero}
-use lib.ListN.{length, take, drop, length-append, length-drop}
+use lib.ListN.{length, take, drop, length-append}
 use lib.Seq.{sets, length-sets}
+use mir.Syntax.{w64}
+use mir.Val.{Fits}
 use Rattle.refusal.specs.declared.Refusal.{Refusal}
 use Rattle.format.specs.Datatype.{Datatype, Members, noMembers, member, memberCount, rowCount, memberRowCount, poolBytes, memberPool, typeSize}
 use Rattle.format.specs.Reading.{Answer, got, refused, Reader, then, readMembers}
@@ -17,7 +19,7 @@ use Rattle.reading.specs.declared.State.{State}
 use Rattle.reading.specs.declared.Step.{Step}
 use Rattle.reading.specs.declared.Step.the-variants.{Done as StepDone, Refused as StepRefused}
 use Rattle.reading.specs.Contract.{run, Ready, Landed, AfterType, AfterMembers, Entered, Enters}
-use Rattle.reading.proofs.Contracts.{lands, refuses, ready-at}
+use Rattle.reading.proofs.Contracts.{lands, refuses, part-near}
 use Rattle.reading.proofs.Steps.{inner-go, inner-no}
 use Rattle.reading.specs.Members.{joinMembers, Progress}
 
@@ -121,9 +123,10 @@ module _ (rd : Reader Datatype) (d : List ℕ) (lim : Limits) (v size count used
         place-is = l .pooled-are ∙ omega (arith, e .pooled-are, w .place-is, ap length bytes, length-append (memberPool (w .front) ++ b) (poolBytes (l .tree)), length-append (memberPool (w .front)) b);
         table = words₃ ∙ ap (sets t (used * 16)) (sym words);
         pool = bytes₃ ∙ ap (sets p pooled) (sym bytes);
-        filled = l .filled;
-        room = l .room;
-        near = omega (arith, l .near, ap length (part-all d (s .at)), length-drop (s .at) d, e .within);
+        ready = l .ready;
+        near = part-near d (e .within) (l .near);
+        few = w .few;
+        short = w .short;
       }
 
 -- the table and the pool keep their lengths, in the calls of a turn too
@@ -149,19 +152,28 @@ module _ {rd : Reader Datatype} {d : List ℕ} {lim : Limits} {v size count used
       pub pool-turned : m ≡ length p₁ → n ≡ m → n ≡ length p
       pool-turned h g = g ∙ h ∙ progress-pool
 
--- what a member's entering leaves for its type: premises in the order in which each fixes the next
-pub entered-ready : {rd : Reader Datatype} {d : List ℕ} {lim : Limits} {v size count used pooled i at rows place : ℕ} {t t₁ t₂ p p₁ p₂ : List ℕ} {x : Step} {s : State}
-    → Enters d lim v size at rows place x t₁ t₂ p₁ p₂ → x ≡ StepDone s → Progress rd d lim v size count used pooled i at rows place t t₁ p p₁ → Ready lim used pooled t p → Ready lim (s .rows) (s .pooled) t₂ p₂
-entered-ready {rows = rows} {place = place} {t₁ = t₁} {p₁ = p₁} {s = s} m q w ready =
-    let e = m .entered s q in
-    ready-at (s .rows) (s .pooled) ready (e .filled) (e .room)
-    (ap length (e .table) ∙ length-sets t₁ (rows * 16) (memberRow place (e .offset) (length (e .name))) ∙ progress-table w)
-    (ap length (e .pool) ∙ length-sets p₁ place (e .name) ∙ progress-pool w)
+-- what a member's entering leaves for its type
+pub entered-ready : {d : List ℕ} {lim : Limits} {v size at rows place : ℕ} {t t₂ p p₂ : List ℕ} {x : Step} {s : State}
+    → Enters d lim v size at rows place x t t₂ p p₂ → x ≡ StepDone s → Ready lim (s .rows) (s .pooled) t₂ p₂
+entered-ready {s = s} m q = m .entered s q .ready
+
+-- the place behind that type and the number of the next member do not wrap
+module _ {rd : Reader Datatype} {d : List ℕ} {lim : Limits} {v size count used pooled i at rows place : ℕ} {t t₁ p p₁ : List ℕ}
+    (w : Progress rd d lim v size count used pooled i at rows place t t₁ p p₁) where
+  pub entered-behind : {t₂ t₃ p₂ p₃ : List ℕ} {o : Answer Datatype} {x y : Step} {s z : State} → Enters d lim v size at rows place x t₁ t₂ p₁ p₂ → x ≡ StepDone s
+      → AfterType o (take (length d - s .at) (drop (s .at) d)) lim (s .rows) (s .pooled) y t₂ t₃ p₂ p₃ → y ≡ StepDone z → Fits w64 (s .at + z .at)
+  entered-behind {s = s} {z = z} m q n k =
+      let near = part-near d (m .entered s q .within) (n .done z k .near) in
+      let l = w .short in
+      record { fits = omega arith }
+
+  pub entered-next : i < count → Fits w64 (i + 1)
+  entered-next h = let l = w .few in record { fits = omega arith }
 
 module _ (rd : Reader Datatype) (d : List ℕ) (lim : Limits) (v size count used pooled : ℕ) where
-  pub members-begun : {t p : List ℕ} → Ready lim used pooled t p → 8 ≤ length d → Progress rd d lim v size count used pooled 0 8 used pooled t t p p
+  pub members-begun : {t p : List ℕ} → Ready lim used pooled t p → 8 ≤ length d → count < 65536 → length d * 1 < 9223372036854775808 → Progress rd d lim v size count used pooled 0 8 used pooled t t p p
   unfolding joinMembers memberCount rowCount poolBytes rows
-  members-begun ready long =
+  members-begun ready long few short =
       let whole : count - 0 ≡ count = omega arith in
       record {
         front = noMembers;
@@ -172,18 +184,13 @@ module _ (rd : Reader Datatype) (d : List ℕ) (lim : Limits) (v size count used
         place-is = omega arith;
         table = refl;
         pool = refl;
-        filled = ready .filled;
-        room = ready .room;
+        ready = ready;
         near = omega arith;
+        few = few;
+        short = short;
       }
 
   module _ {i at rows place : ℕ} {t t₁ p p₁ : List ℕ} (w : Progress rd d lim v size count used pooled i at rows place t t₁ p p₁) where
-    pub members-ready : Ready lim used pooled t p → Ready lim rows place t₁ p₁
-    members-ready ready =
-        ready-at rows place ready (w .filled) (w .room)
-        (ap length (w .table) ∙ length-sets t (used * 16) (memberRows pooled (w .front)))
-        (ap length (w .pool) ∙ length-sets p pooled (memberPool (w .front)))
-
     pub members-ended : count ≤ i
         → AfterMembers count (run (readMembers rd v size count) d lim 8 used pooled) d lim used pooled (StepDone (record { at = at; rows = rows; pooled = place; size = 0 })) t t₁ p p₁
     unfolding readMembers then
@@ -197,8 +204,7 @@ module _ (rd : Reader Datatype) (d : List ℕ) (lim : Limits) (v size count used
           pooled-are = w .place-is;
           table = w .table;
           pool = w .pool;
-          filled = w .filled;
-          room = w .room;
+          ready = w .ready;
           near = w .near;
         })
 
@@ -227,6 +233,3 @@ module _ (rd : Reader Datatype) (d : List ℕ) (lim : Limits) (v size count used
             pub members-turned : {z : State} → y ≡ StepDone z
                 → Progress rd d lim v size count used pooled (i + 1) (s .at + z .at) (z .rows) (z .pooled) t t₃ p p₃
             members-turned {z} k = turned rd d lim v size count used pooled w more (m .entered s q) (n .done z k)
-
-            pub turned-near : {z : State} → y ≡ StepDone z → s .at + z .at ≤ length d + 7
-            turned-near {z} k = members-turned k .near

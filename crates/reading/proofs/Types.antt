@@ -4,7 +4,7 @@ use mathlib.Core.Bool.{true}
 use mathlib.Core.List.{List, [], _++_}
 use Prim.Native.Nat.{ℕ, suc, _+_, _-_, _*_, _<_, _≤_}
 use native.Mathlib.Omega.{arith}
-use lib.ListN.{length, take, drop, length-drop}
+use lib.ListN.{length, take, drop}
 use lib.Seq.{sets, length-sets}
 use Rattle.refusal.specs.declared.Refusal.{Refusal}
 use Rattle.refusal.specs.declared.Refusal.the-variants.{TooDeep, ZeroSize}
@@ -22,7 +22,7 @@ use Rattle.reading.specs.declared.Step.{Step}
 use Rattle.reading.specs.declared.Step.the-variants.{Done as StepDone, Refused as StepRefused}
 use Rattle.reading.specs.declared.Opened.{Opened}
 use Rattle.reading.specs.declared.Opened.the-variants.{Leaf, Compound, Based, Refused as OpenRefused}
-use Rattle.reading.specs.Contract.{run, here, Ready, AfterType, AfterMembers, Opens, leafKind, readLeaf, readCompound, readBased, behind, basedKind, dimensionsOf, Ended, Ends}
+use Rattle.reading.specs.Contract.{run, here, Ready, AfterType, AfterMembers, Opens, leafKind, readLeaf, readCompound, readBased, behind, dimensionsOf, OpensBased, BaseRead, Ended, Ends}
 use Rattle.reading.specs.Members.{CompoundEnds}
 use Rattle.reading.proofs.Contracts.{same, refuses, ready-at, sets-before, by-done, by-refused, not-done, not-refused}
 use Rattle.reading.proofs.Members.{LandedType}
@@ -76,37 +76,28 @@ module _ {d : List ℕ} {lim : Limits} {used pooled : ℕ} {o : Opened} (w : Ope
     pub based-ready : {t p : List ℕ} → Ready lim used pooled t p → Ready lim (used + 1) (b .place) t p
     based-ready ready = ready-at (used + 1) (b .place) ready (omega (arith, based-free)) (w .based h b q .room) refl refl
 
-    module _ {inner : Answer Datatype} {r : Step} {t t₂ p p₂ : List ℕ} {s : State}
-        (n : AfterType inner (take (length d - b .from) (drop (b .from) d)) lim (used + 1) (b .place) r t t₂ p p₂) (k : r ≡ StepDone s) where
-      pub based-near : b .from + s .at ≤ length d + 7
-      based-near = omega (arith, n .done s k .near, ap length (part-all d (b .from)), length-drop (b .from) d, based-within)
+    pub based-opened : OpensBased d lim used pooled h b
+    based-opened = w .based h b q
 
-      pub based-asks : Ready lim used pooled t p
-          → (((Ready lim (s .rows) (s .pooled) t₂ p₂ × (b .from + s .at ≤ length d + 7)) × (0 < s .size)) × ((used < lim .rows) × (used < s .rows)))
-          × (basedKind (classKind (h .class)) (b .rank) × ((b .start + 4 * b .rank ≤ length d) × (pooled + 4 * b .rank ≤ s .pooled)))
-      based-asks ready =
-          let l = n .done s k in
-          let x = w .based h b q in (
-            (
-              (
-                (
-                  ready-at (s .rows) (s .pooled) ready (l .filled) (l .room)
-                      (ap length (l .table) ∙ length-sets t ((used + 1) * 16) (rows (b .place) (l .tree)))
-                      (ap length (l .pool) ∙ length-sets p (b .place) (poolBytes (l .tree))),
-                  based-near,
-                ),
-                omega (arith, l .such .0, l .such .1),
-              ),
-              (based-free, omega (arith, l .rows-are)),
-            ),
-            (x .based, (omega (arith, x .sought, x .within), omega (arith, x .place-is, l .pooled-are))),
-          )
+pub based-read : {d : List ℕ} {lim : Limits} {used : ℕ} {b : Base} {inner : Answer Datatype} {r : Step} {t t₂ p p₂ : List ℕ} {s : State}
+    → AfterType inner (take (length d - b .from) (drop (b .from) d)) lim (used + 1) (b .place) r t t₂ p p₂ → r ≡ StepDone s → BaseRead d lim used b s t₂ p₂
+based-read {s = s} n k =
+    let l = n .done s k in
+    record {
+      ready = l .ready;
+      near = l .near;
+      some-size = omega (arith, l .such .0, l .such .1);
+      more = omega (arith, l .rows-are);
+      place = omega (arith, l .pooled-are);
+    }
 
-pub compound-filled : {d : List ℕ} {lim : Limits} {used pooled : ℕ} {o : Opened} {h : Header} {v count : ℕ} {inner : Answer Members} {r : Step} {t t₂ p p₂ : List ℕ} {s : State}
-    → AfterMembers count inner d lim (used + 1) pooled r t t₂ p p₂ → r ≡ StepDone s → Opens d lim used pooled o → o ≡ Compound h v → Ready lim used pooled t p → used * 16 + 16 ≤ length t₂
-compound-filled {used = used} {pooled = pooled} {t = t} {s = s} m k w q ready =
-    let x = ready .table in
-    omega (arith, compound-free w q, ap length (m .done s k .table), length-sets t ((used + 1) * 16) (memberRows pooled (m .done s k .tree)))
+pub compound-filled : (used : ℕ) {d : List ℕ} {lim : Limits} {pooled count : ℕ} {inner : Answer Members} {r : Step} {t t₂ p p₂ : List ℕ} {s : State}
+    → AfterMembers count inner d lim (used + 1) pooled r t t₂ p p₂ → r ≡ StepDone s → used * 16 + 16 ≤ length t₂
+compound-filled used {s = s} m k =
+    let l = m .done s k in
+    let n = l .ready .filled in
+    let x = l .ready .table in
+    omega (arith, l .rows-are)
 
 -- ---- a type
 
@@ -133,21 +124,17 @@ module _ {d : List ℕ} {lim : Limits} {used pooled levels : ℕ} where
     -- ---- a compound
 
     module _ {h : Header} {v : ℕ} (q : o ≡ Compound h v) where
-      module _ {a b : ℕ} {r : Step} {t t₂ p p₂ : List ℕ} (ea : (a ≡ h .f0) × (a < 256)) (eb : (b ≡ h .f1) × (b < 256))
-          (m : AfterMembers (a + 256 * b) (run (readMembers (readType (lim .version) (levels - 1)) v (h .size) (a + 256 * b)) d lim 8 (used + 1) pooled) d lim (used + 1) pooled r t t₂ p p₂) where
-        counted : countOf h ≡ a + 256 * b
-        unfolding countOf
-        counted = rw (ea .0, eb .0)
-
-        compound-no : (e : Refusal) → run (readMembers (readType (lim .version) (levels - 1)) v (h .size) (a + 256 * b)) d lim 8 (used + 1) pooled ≡ refused e
+      module _ {count : ℕ} {r : Step} {t t₂ p p₂ : List ℕ} (counted : count ≡ countOf h)
+          (m : AfterMembers count (run (readMembers (readType (lim .version) (levels - 1)) v (h .size) count) d lim 8 (used + 1) pooled) d lim (used + 1) pooled r t t₂ p p₂) where
+        compound-no : (e : Refusal) → run (readMembers (readType (lim .version) (levels - 1)) v (h .size) count) d lim 8 (used + 1) pooled ≡ refused e
             → run (readCompound (readType (lim .version) (levels - 1)) h v) d lim 8 (used + 1) pooled ≡ refused e
         unfolding readCompound then
-        compound-no e k = rw (counted, k)
+        compound-no e k = rw (← counted, k)
 
-        compound-is : (ms : Members) (s : State) → run (readMembers (readType (lim .version) (levels - 1)) v (h .size) (a + 256 * b)) d lim 8 (used + 1) pooled ≡ here ms d lim s
+        compound-is : (ms : Members) (s : State) → run (readMembers (readType (lim .version) (levels - 1)) v (h .size) count) d lim 8 (used + 1) pooled ≡ here ms d lim s
             → run (readCompound (readType (lim .version) (levels - 1)) h v) d lim 8 (used + 1) pooled ≡ here (compound (h .size) ms) d lim s
         unfolding readCompound then
-        compound-is ms s k = rw (counted, k)
+        compound-is ms s k = rw (← counted, k)
 
         pub compound-refuses : {e : Refusal} → r ≡ StepRefused e
             → AfterType (run (readType (lim .version) levels) d lim 0 used pooled) d lim used pooled (StepRefused e) t t₂ p p₂
@@ -155,7 +142,7 @@ module _ {d : List ℕ} {lim : Limits} {used pooled levels : ℕ} where
             refuses (at-level (w .compound h v q .is (levels - 1) ∙ sized-no h (readCompound (readType (lim .version) (levels - 1)) h v) _ _ _ _ _ e (compound-no e (m .denied e k))))
 
         module _ {s : State} (k : r ≡ StepDone s) where
-          module _ {y : Step} {t₃ : List ℕ} (c : CompoundEnds used h (a + 256 * b) s y t₂ t₃) where
+          module _ {y : Step} {t₃ : List ℕ} (c : CompoundEnds used h count s y t₂ t₃) where
             compound-landed : (z : State) → y ≡ StepDone z → LandedType (run (readType (lim .version) levels) d lim 0 used pooled) d lim used pooled z t t₃ p p₂
             unfolding typeSize rows poolBytes rowCount
             compound-landed z e =
@@ -171,8 +158,7 @@ module _ {d : List ℕ} {lim : Limits} {used pooled levels : ℕ} where
                   pooled-are = l .pooled-are;
                   table = stored ∙ sets-before head (memberRows pooled (l .tree)) t (used * 16) ((used + 1) * 16) (omega (arith, length-row 7 (h .size) 0 0 (memberCount (l .tree)) [] (omega arith)));
                   pool = l .pool;
-                  filled = l .filled;
-                  room = l .room;
+                  ready = ready-at (s .rows) (s .pooled) (l .ready) (l .ready .filled) (l .ready .room) (ap length (x .2) ∙ length-sets t₂ (used * 16) (row 7 (h .size) 0 0 count [])) refl;
                   near = l .near;
                 })
 
@@ -243,8 +229,9 @@ module _ {d : List ℕ} {lim : Limits} {used pooled levels : ℕ} where
                       pool = x .pool ∙ ap (λ (m : List ℕ). sets m pooled (x .before)) pooled-inside
                           ∙ sets-before (x .before) (poolBytes (l .tree) ++ x .after) p pooled (b .place) place
                           ∙ ap (sets p pooled) (sym (x .bytes-are));
-                      filled = x .filled;
-                      room = x .room;
+                      ready = ready-at (z .rows) (z .pooled) (l .ready) (x .filled) (x .room)
+                          (ap length (x .table) ∙ length-sets (sets t₂ (s .rows * 16) (x .more)) (used * 16) (x .head) ∙ length-sets t₂ (s .rows * 16) (x .more))
+                          (ap length (x .pool) ∙ length-sets (sets p₂ (s .pooled) (x .after)) pooled (x .before) ∙ length-sets p₂ (s .pooled) (x .after));
                       near = x .near;
                     }
 

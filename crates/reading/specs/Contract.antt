@@ -50,8 +50,7 @@ pub record Landed {A : Type 0} (words : ℕ → A → List ℕ) (bytes : A → L
   pub pooled-are : s .pooled ≡ pooled + length (bytes tree)
   pub table : t′ ≡ sets t (used * 16) (words pooled tree)
   pub pool : p′ ≡ sets p pooled (bytes tree)
-  pub filled : s .rows ≤ lim .rows
-  pub room : s .pooled ≤ lim .pool
+  pub ready : Ready lim (s .rows) (s .pooled) t′ p′
   pub near : s .at ≤ length d + 7
 
 -- by what is returned; a refusal says nothing of the table and the pool
@@ -197,8 +196,7 @@ pub record Entered (d : List ℕ) (lim : Limits) (v size at used pooled : ℕ) (
   pub pooled-are : s .pooled ≡ pooled + length name
   pub table : t′ ≡ sets t (used * 16) (memberRow pooled offset (length name))
   pub pool : p′ ≡ sets p pooled name
-  pub filled : s .rows ≤ lim .rows
-  pub room : s .pooled ≤ lim .pool
+  pub ready : Ready lim (s .rows) (s .pooled) t′ p′
   pub within : s .at ≤ length d
 
 pub record Enters (d : List ℕ) (lim : Limits) (v size at used pooled : ℕ) (r : Step) (t t′ p p′ : List ℕ) : Type 0 where
@@ -258,6 +256,14 @@ abbrev pub AfterEnum : (count : ℕ) → Answer (List EnumMember) → List ℕ �
 AfterEnum k = After enumRows (λ ms. enumNames ms ++ enumValues ms) length (λ ms s. length ms ≡ k)
 
 -- ---- behind a nested message
+
+-- a base was read, as a message of its own, that begins where the header says
+pub record BaseRead (d : List ℕ) (lim : Limits) (used : ℕ) (b : Base) (inner : State) (t p : List ℕ) : Type 0 where
+  pub ready : Ready lim (inner .rows) (inner .pooled) t p
+  pub near : inner .at ≤ length (take (length d - b .from) (drop (b .from) d)) + 7
+  pub some-size : 0 < inner .size
+  pub more : used < inner .rows
+  pub place : b .place ≤ inner .pooled
 
 -- the rest of a type over a base that stands in the table and the pool already: its own row, and rows, pool bytes before and behind
 pub record Ended (d : List ℕ) (lim : Limits) (used pooled : ℕ) (h : Header) (ds : List ℕ) (base : Datatype) (at rows₀ pooled₀ : ℕ) (s : State) (t t′ p p′ : List ℕ) : Type 0 where

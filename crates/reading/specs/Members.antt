@@ -14,7 +14,7 @@ use Rattle.reading.specs.declared.Limits.{Limits}
 use Rattle.reading.specs.declared.State.{State}
 use Rattle.reading.specs.declared.Step.{Step}
 use Rattle.reading.specs.declared.Step.the-variants.{Done as StepDone, Refused as StepRefused}
-use Rattle.reading.specs.Contract.{run}
+use Rattle.reading.specs.Contract.{run, Ready}
 
 -- a compound's own row is stored, or its size is 0
 pub record CompoundEnds (used : ℕ) (h : Header) (count : ℕ) (inner : State) (r : Step) (t t′ : List ℕ) : Type 0 where
@@ -37,6 +37,7 @@ pub record Progress (rd : Reader Datatype) (d : List ℕ) (lim : Limits) (v size
   pub place-is : place ≡ pooled + length (memberPool front)
   pub table : t′ ≡ sets t (used * 16) (memberRows pooled front)
   pub pool : p′ ≡ sets p pooled (memberPool front)
-  pub filled : rows ≤ lim .rows
-  pub room : place ≤ lim .pool
+  pub ready : Ready lim rows place t′ p′
   pub near : at ≤ length d + 7
+  pub few : count < 65536
+  pub short : length d * 1 < 9223372036854775808

@@ -3,8 +3,8 @@ use borrow.Author.Needs.{needs}
 use native.Mathlib.Omega.{arith}
 use Rattle.format.specs.Reading.{readType}
 use Rattle.reading.specs.Members.{Progress}
-use Rattle.reading.proofs.Members.{members-begun, members-ready, members-ended, members-stopped, entered-ready, entered-within, members-refused, members-turned, turned-near, progress-table, progress-pool, table-entered, pool-entered, table-turned, pool-turned}
-use Rattle.reading.proofs.Types.{type-ends, type-shuts, leaf-free, leaf-long, leaf-kind, type-leaf, compound-free, compound-long, compound-ready, compound-refuses, compound-filled, compound-ends, based-free, based-within, based-ready, based-refuses, based-near, based-asks, based-ends}
+use Rattle.reading.proofs.Members.{members-begun, members-ended, members-stopped, entered-ready, entered-within, members-refused, members-turned, entered-behind, entered-next, progress-table, progress-pool, table-entered, pool-entered, table-turned, pool-turned}
+use Rattle.reading.proofs.Types.{type-ends, type-shuts, leaf-free, leaf-long, leaf-kind, type-leaf, compound-free, compound-long, compound-ready, compound-refuses, compound-filled, compound-ends, based-free, based-within, based-ready, based-refuses, based-opened, based-read, based-ends}
 use Prim.Native.Nat.{ℕ, _<_}
 use borrow.Fn.Kinds.{In}
 use borrow.Fn.PlainCycle.{Measures, is, falls, and}
@@ -14,11 +14,11 @@ use Rattle.reader.proofs.+read_members+read_type.Lts-read_members as re
 use Rattle.reader.proofs.read_type.Reads as read-type
 use Rattle.reader.proofs.read_type.Kinds as read-type-kinds
 use Rattle.reader.proofs.+read_members+read_type.Lts-read_type as read-type-lts
-use Rattle.primitives.proofs.wide32.Reads as wide32-reads
 use Rattle.reader.proofs.end_compound.Reads as end-compound-reads
 use Rattle.reader_before.proofs.open_type.Reads as open-type-reads
 use Rattle.reader_behind.proofs.end_based.Reads as end-based-reads
 use Rattle.reader_behind.proofs.enter_member.Reads as enter-member-reads
+use Rattle.reader_behind.proofs.member_count.Reads as member-count-reads
 use Rattle.reader_leaf.proofs.read_leaf.Reads as read-leaf-reads
 use Rattle.reader.proofs.+read_members+read_type.{statement}
 use Rattle.reader.proofs.+read_members+read_type.Tie.{close}
@@ -60,13 +60,13 @@ abbrev read-members-calls : ℕ → read-members-lts.Claims
 read-members-calls t = (enter-member-reads.Asked, enter-member-reads.Learnt, read-type-below t, read-type.Post)
 
 abbrev read-type-calls : ℕ → read-type-lts.Claims
-read-type-calls t = (open-type-reads.Asked, open-type-reads.Learnt, read-leaf-reads.Asked, read-leaf-reads.Learnt, wide32-reads.Asked, wide32-reads.Learnt, read-members-below t, read-members.Post, end-compound-reads.Asked, end-compound-reads.Learnt, read-type-below t, read-type.Post, end-based-reads.Asked, end-based-reads.Learnt)
+read-type-calls t = (open-type-reads.Asked, open-type-reads.Learnt, read-leaf-reads.Asked, read-leaf-reads.Learnt, member-count-reads.Asked, member-count-reads.Learnt, read-members-below t, read-members.Post, end-compound-reads.Asked, end-compound-reads.Learnt, read-type-below t, read-type.Post, end-based-reads.Asked, end-based-reads.Learnt)
 
 read-members-loop-holds : (t : ℕ) → read-members-lts.Need-loop-holds (read-members-calls t) (read-members-at t) read-members.Post read-members-Inv-loop read-members-μ-loop
 read-members-loop-holds t c = search members-begun
 
 read-members-enter-member-requires : (t : ℕ) → read-members-lts.Need-enter-member-requires (read-members-calls t) (read-members-at t) read-members.Post read-members-Inv-loop read-members-μ-loop
-read-members-enter-member-requires t c κs = search members-ready
+read-members-enter-member-requires t c κs = search needs
 
 read-members-same-length : (t : ℕ) → read-members-lts.Need-same-length (read-members-calls t) (read-members-at t) read-members.Post read-members-Inv-loop read-members-μ-loop
 read-members-same-length t c = search table-entered
@@ -87,7 +87,10 @@ read-members-part-read-type-end : (t : ℕ) → read-members-lts.Need-part-read-
 read-members-part-read-type-end t c = search (needs, entered-within)
 
 read-members-read-type-requires : (t : ℕ) → read-members-lts.Need-read-type-requires (read-members-calls t) (read-members-at t) read-members.Post read-members-Inv-loop read-members-μ-loop
-read-members-read-type-requires t c κs = (search needs, entered-ready ((c .before .before .before .before .before .before .before .before .before .before .enter-member) .ensures) ((c .before .before .before .before .entered2) .given .1) ((c .before .before .before .before .before .before .before .before .before .before .before .before .before .before .loop) .inv) ((c .before .before .before .before .before .before .before .before .before .before .before .before .before .before .before .before .before .before) .pre .1 .0 .0))
+read-members-read-type-requires t c κs =
+    let e : read-members-lts.After-enter-member (read-members-calls t) (read-members-at t) read-members.Post read-members-Inv-loop read-members-μ-loop = search in
+    let s : read-members-lts.After-entered2 (read-members-calls t) (read-members-at t) read-members.Post read-members-Inv-loop read-members-μ-loop = search in
+    (search needs, entered-ready (e .enter-member .ensures) (s .entered2 .given .1))
 
 read-members-same-length-3 : (t : ℕ) → read-members-lts.Need-same-length-3 (read-members-calls t) (read-members-at t) read-members.Post read-members-Inv-loop read-members-μ-loop
 read-members-same-length-3 t c = search table-turned
@@ -99,10 +102,10 @@ read-members-returns-2 : (t : ℕ) → read-members-lts.Need-returns-2 (read-mem
 read-members-returns-2 t c = search members-refused
 
 read-members-add-at : (t : ℕ) → read-members-lts.Need-add-at (read-members-calls t) (read-members-at t) read-members.Post read-members-Inv-loop read-members-μ-loop
-read-members-add-at t c = omega (arith, turned-near _ _ _ _ _ _ _ _ ((c .before .before .before .before .before .before .before .before .before .before .before .before .before .before .before .before .before .before .before .before .before .before .before .loop) .inv) ((c .before .before .before .before .before .before .before .before .before .before .before .before .before .before .before .before .before .before .before .before .before .before .loop-test) .taken) ((c .before .before .before .before .before .before .before .before .before .before .before .before .before .before .before .before .before .before .before .enter-member) .ensures) ((c .before .before .before .before .before .before .before .before .before .before .before .before .before .entered2) .given .1) ((c .before .before .before .before .before .before .before .before .read-type) .ensures) ((c .before .before .got2) .given .1), (c .before .before .before .before .before .before .before .before .before .before .before .before .before .before .before .before .before .before .before .before .before .before .before .before .before .before .before) .good .0 .1)
+read-members-add-at t c = search entered-behind
 
 read-members-add-i : (t : ℕ) → read-members-lts.Need-add-i (read-members-calls t) (read-members-at t) read-members.Post read-members-Inv-loop read-members-μ-loop
-read-members-add-i t c = omega (arith, (c .before .before .before .before .before .before .before .before .before .before .before .before .before .before .before .before .before .before .before .before .before .before .loop-test) .taken, (c .before .before .before .before .before .before .before .before .before .before .before .before .before .before .before .before .before .before .before .before .before .before .before .before .before .before .before) .pre .1 .1)
+read-members-add-i t c = search entered-next
 
 read-members-loop-again : (t : ℕ) → read-members-lts.Need-loop-again (read-members-calls t) (read-members-at t) read-members.Post read-members-Inv-loop read-members-μ-loop
 read-members-loop-again t c = search members-turned
@@ -129,7 +132,7 @@ read-type-read-members-requires : (t : ℕ) → read-type-lts.Need-read-members-
 read-type-read-members-requires t c κs = (search needs, ((search compound-ready, search compound-long), search needs))
 
 read-type-end-compound-requires : (t : ℕ) → read-type-lts.Need-end-compound-requires (read-type-calls t) (read-type-at t) read-type.Post
-read-type-end-compound-requires t c κs = compound-filled ((c .before .before .before .before .before .before .before .before .read-members) .ensures) ((c .before .before .got2) .given .1) ((c .before .before .before .before .before .before .before .before .before .before .before .before .before .before .before .before .open-type) .ensures) ((c .before .before .before .before .before .before .before .before .before .before .before .before .before .before .opened3) .given .1) ((c .before .before .before .before .before .before .before .before .before .before .before .before .before .before .before .before .before .before .before .before .before) .pre .1)
+read-type-end-compound-requires t c κs = search compound-filled
 
 read-type-sub-read-type : (t : ℕ) → read-type-lts.Need-sub-read-type (read-type-calls t) (read-type-at t) read-type.Post
 read-type-sub-read-type t c = search (needs, based-within)
@@ -143,11 +146,11 @@ read-type-add-read-type t c = search (needs, based-free)
 read-type-read-type-requires : (t : ℕ) → read-type-lts.Need-read-type-requires (read-type-calls t) (read-type-at t) read-type.Post
 read-type-read-type-requires t c κs = (search needs, search based-ready)
 
-read-type-add-at : (t : ℕ) → read-type-lts.Need-add-at (read-type-calls t) (read-type-at t) read-type.Post
-read-type-add-at t c = omega (arith, based-near ((c .before .before .before .before .before .before .before .before .before .before .before .before .before .before .before .open-type) .ensures) ((c .before .before .before .before .before .before .before .before .before .before .before .before .before .opened4) .given .1) ((c .before .before .before .before .before .before .before .before .read-type) .ensures) ((c .before .before .got4) .given .1), (c .before .before .before .before .before .before .before .before .before .before .before .before .before .before .before .before .before .before .before .before) .good .0 .1)
-
 read-type-end-based-requires : (t : ℕ) → read-type-lts.Need-end-based-requires (read-type-calls t) (read-type-at t) read-type.Post
-read-type-end-based-requires t c κs = based-asks ((c .before .before .before .before .before .before .before .before .before .before .before .before .before .before .before .before .before .open-type) .ensures) ((c .before .before .before .before .before .before .before .before .before .before .before .before .before .before .before .opened4) .given .1) ((c .before .before .before .before .before .before .before .before .before .before .read-type) .ensures) ((c .before .before .before .before .got4) .given .1) ((c .before .before .before .before .before .before .before .before .before .before .before .before .before .before .before .before .before .before .before .before .before .before) .pre .1)
+read-type-end-based-requires t c κs =
+    let e : read-type-lts.After-read-type (read-type-calls t) (read-type-at t) read-type.Post = search in
+    let s : read-type-lts.After-got4 (read-type-calls t) (read-type-at t) read-type.Post = search in
+    (search based-opened, based-read (e .read-type .ensures) (s .got4 .given .1))
 
 read-type-returns-2 : (t : ℕ) → read-type-lts.Need-returns-2 (read-type-calls t) (read-type-at t) read-type.Post
 read-type-returns-2 t c = search type-shuts
@@ -211,10 +214,7 @@ pub +read-members+read-type-spec : {M : Type 1} → statement M
     (λ c. search needs)  -- read-type-enum-known-opened-2
     (read-type-read-leaf-requires t)
     (λ c. search needs)  -- read-type-enum-known-opened-3
-    (λ c κs. search needs)  -- read-type-wide32-requires
-    (λ c κs. search needs)  -- read-type-wide32-requires-2
-    (λ c. search needs)  -- read-type-mul-count
-    (λ c. search needs)  -- read-type-add-count
+    (λ c κs. search needs)  -- read-type-member-count-requires
     (read-type-add-read-members t)
     (λ c. search needs)  -- read-type-sub-read-members
     (λ c. search needs)  -- read-type-cast-read-members
@@ -231,7 +231,6 @@ pub +read-members+read-type-spec : {M : Type 1} → statement M
     (read-type-read-type-requires t)
     (λ c. search needs)  -- read-type-enum-known-got-3
     (λ c. search needs)  -- read-type-enum-known-got-4
-    (read-type-add-at t)
     (read-type-end-based-requires t)
     (read-type-returns-2 t)
     (λ c. search needs)  -- read-type-same-length

@@ -4,16 +4,16 @@ use Rattle.reader_before.proofs.open_variable.Statement.{statement}
 use Rattle.reader_before.proofs.open_variable.Tie as tie
 
 returns : tie.Need-returns
-returns c = variable-padding (c .before .before .before .before .before .pre) (c .before .before .before .low4 .ensures) (c .before .before .if1 .taken) (c .before .high4 .ensures) (c .if2 .taken)
+returns c = search variable-padding
 
 returns-2 : tie.Need-returns-2
-returns-2 c = variable-charset (c .before .before .before .before .before .before .before .pre) (c .before .before .before .before .before .low4 .ensures) (c .before .before .before .before .if1 .taken) (c .before .before .before .high4 .ensures) (c .before .before .if2 .left) (c .before .low42 .ensures) (c .if3 .taken)
+returns-2 c = search variable-charset
 
 returns-3 : tie.Need-returns-3
 returns-3 c = search variable-string
 
 returns-4 : tie.Need-returns-4
-returns-4 c = variable-sequence (c .before .before .before .pre) (c .before .low4 .ensures) (c .if1 .left)
+returns-4 c = search variable-sequence
 
 pub open-variable-spec : {M : Type 1} → statement M
 open-variable-spec =

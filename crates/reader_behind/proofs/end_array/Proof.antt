@@ -1,7 +1,5 @@
-use Prim.Native.Nat.{ℕ, _<_}
-use native.Mathlib.Omega.{arith}
-use lib.ListN.{getD}
 use borrow.Author.Needs.{needs}
+use Rattle.reading.proofs.Contracts.{byte-below}
 use Rattle.reader_behind.proofs.Ending.{array-empty, array-ends}
 use Rattle.reader_behind.proofs.end_array.Statement.{statement}
 use Rattle.reader_behind.proofs.end_array.Tie as tie
@@ -10,9 +8,7 @@ returns : tie.Need-returns
 returns c = search array-empty
 
 returns-2 : tie.Need-returns-2
-returns-2 c =
-    let small : (i : ℕ) → getD (c .before .before .before .before .before .before .before .before .before .before .before .before .before .before .before .args .«data» .now) i 0 < 256 = λ i. omega (arith, c .before .before .before .before .before .before .before .before .before .before .before .before .before .before .shared-slice-known .given i) in
-    search array-ends
+returns-2 c = search (array-ends, byte-below)
 
 pub end-array-spec : {M : Type 1} → statement M
 end-array-spec =

@@ -16,10 +16,7 @@ pub end-enumeration-spec : {M : Type 1} → statement M
 end-enumeration-spec =
     tie.close
     (tie.spec
-    (λ c κs. search needs)  -- wide32-requires
-    (λ c κs. search needs)  -- wide32-requires-2
-    (λ c. search needs)  -- mul-count
-    (λ c. search needs)  -- add-count
+    (λ c κs. search needs)  -- member-count-requires
     (λ c. search needs)  -- cast-read-enum-members
     (λ c κs. search needs)  -- read-enum-members-requires
     (λ c. search needs)  -- enum-known-got

@@ -1,6 +1,5 @@
 -- `enter_enum_member` meets its contract: one law for each way out.
-use native.Mathlib.Omega.{arith}
-use Rattle.reader_behind.proofs.Naming.{whole-inside, whole-one, whole-next, whole-pooled, whole-word, enum-full, enum-unnamed, enum-over, enum-named}
+use Rattle.reader_behind.proofs.Naming.{whole-one, whole-next, whole-padded, whole-pooled, whole-word, enum-full, enum-unnamed, enum-over, enum-named}
 use borrow.Author.Needs.{needs}
 use Rattle.reader_behind.proofs.enter_enum_member.Statement.{statement}
 use Rattle.reader_behind.proofs.enter_enum_member.Tie as tie
@@ -8,23 +7,23 @@ use Rattle.reader_behind.proofs.enter_enum_member.Tie as tie
 returns : tie.Need-returns
 returns c = search enum-full
 
-cast-t27 : tie.Need-cast-t27
-cast-t27 c = search (whole-pooled, whole-word, needs)
+put-member-row-requires : tie.Need-put-member-row-requires
+put-member-row-requires c κs = (search needs, (search needs, search whole-word))
 
 add-next : tie.Need-add-next
-add-next c = search (whole-one, whole-next)
+add-next c = search whole-one
 
 add-next-2 : tie.Need-add-next-2
-add-next-2 c = search (whole-one, whole-next)
+add-next-2 c = search whole-next
 
 add-name-padding : tie.Need-add-name-padding
-add-name-padding c = search (whole-one, whole-next)
+add-name-padding c = search whole-one
 
 add-next-3 : tie.Need-add-next-3
-add-next-3 c = omega (arith, whole-inside ((c .before .before .before .before .before .before .before .before .before .before .read-name) .ensures) ((c .before .before .before .before .before .before .name) .given .1))
+add-next-3 c = search whole-padded
 
-add-t32 : tie.Need-add-t32
-add-t32 c = search (whole-pooled, whole-word, needs)
+add-t29 : tie.Need-add-t29
+add-t29 c = search (whole-pooled, needs)
 
 returns-2 : tie.Need-returns-2
 returns-2 c = search enum-unnamed
@@ -45,16 +44,14 @@ enter-enum-member-spec =
     (λ c. search needs)  -- add-t19
     (λ c. search needs)  -- enum-told-2
     (λ c. search needs)  -- enum-known-name
-    (λ c. search needs)  -- cast-t26
-    cast-t27
-    (λ c κs. search needs)  -- put-row-requires
+    put-member-row-requires
     add-next
     add-next-2
     add-name-padding
     (λ c κs. search needs)  -- name-padding-requires
     add-next-3
-    (λ c. search needs)  -- add-t29
-    add-t32
+    (λ c. search needs)  -- add-t26
+    add-t29
     (λ c. search needs)  -- same-length
     returns-2
     (λ c. search needs)  -- same-length-2

@@ -1,6 +1,5 @@
 -- `enter_member` meets its contract: one law for each way out.
-use native.Mathlib.Omega.{arith}
-use Rattle.reader_behind.proofs.Naming.{whole-inside, whole-one, whole-next, whole-pooled, whole-word}
+use Rattle.reader_behind.proofs.Naming.{whole-one, whole-next, whole-padded, whole-offset, whole-pooled, whole-word}
 use Rattle.reader_behind.proofs.Entering.{enter-full, enter-unnamed, enter-over, enter-narrow, enter-cut, enter-inner}
 use borrow.Author.Needs.{needs}
 use Rattle.reader_behind.proofs.enter_member.Statement.{statement}
@@ -10,22 +9,22 @@ returns : tie.Need-returns
 returns c = search enter-full
 
 add-from : tie.Need-add-from
-add-from c = search (whole-one, whole-next)
+add-from c = search whole-one
 
 add-from-2 : tie.Need-add-from-2
-add-from-2 c = search (whole-one, whole-next)
+add-from-2 c = search whole-next
 
 add-name-padding : tie.Need-add-name-padding
-add-name-padding c = search (whole-one, whole-next)
+add-name-padding c = search whole-one
 
 add-from-3 : tie.Need-add-from-3
-add-from-3 c = omega (arith, whole-inside ((c .before .before .before .before .before .before .read-name) .ensures) ((c .before .before .name) .given .1))
+add-from-3 c = search whole-padded
 
 add-if2 : tie.Need-add-if2
-add-if2 c = omega (arith, whole-inside ((c .before .before .before .before .before .before .before .read-name) .ensures) ((c .before .before .before .name) .given .1))
+add-if2 c = search whole-offset
 
 add-t30 : tie.Need-add-t30
-add-t30 c = omega (arith, whole-inside ((c .before .before .before .before .before .before .before .before .read-name) .ensures) ((c .before .before .before .before .name) .given .1))
+add-t30 c = search whole-offset
 
 returns-2 : tie.Need-returns-2
 returns-2 c = search enter-narrow
@@ -33,11 +32,11 @@ returns-2 c = search enter-narrow
 returns-3 : tie.Need-returns-3
 returns-3 c = search enter-cut
 
-cast-t40 : tie.Need-cast-t40
-cast-t40 c = search (whole-pooled, whole-word, needs)
+put-member-row-requires : tie.Need-put-member-row-requires
+put-member-row-requires c κs = (search needs, (search needs, search whole-word))
 
 add-t28 : tie.Need-add-t28
-add-t28 c = search (whole-pooled, whole-word, needs)
+add-t28 c = search (whole-pooled, needs)
 
 returns-4 : tie.Need-returns-4
 returns-4 c = search enter-unnamed
@@ -74,9 +73,7 @@ enter-member-spec =
     (λ c. search needs)  -- same-length-2
     returns-3
     (λ c κs. search needs)  -- read-uint-requires
-    (λ c. search needs)  -- cast-t39
-    cast-t40
-    (λ c κs. search needs)  -- put-row-requires
+    put-member-row-requires
     (λ c. search needs)  -- add-t26
     add-t28
     (λ c. search needs)  -- same-length-3

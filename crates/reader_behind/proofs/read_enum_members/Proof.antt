@@ -1,13 +1,10 @@
-use native.Mathlib.Omega.{arith}
 use borrow.Author.Needs.{needs}
-use Rattle.reader_behind.proofs.Valuing.{names-refused, names-valued}
+use Rattle.reader_behind.proofs.Valuing.{names-refused, names-room, names-near, names-held, names-valued}
 use Rattle.reader_behind.proofs.read_enum_members.Statement.{statement}
 use Rattle.reader_behind.proofs.read_enum_members.Tie as tie
 
 read-values-requires : tie.Need-read-values-requires
-read-values-requires c κs =
-    let l = c .before .before .before .before .before .before .before .before .before .read-names .ensures .done _ (c .before .before .before .named2 .given .1) in
-    (((l .room, omega arith), l .near), (omega arith, omega arith))
+read-values-requires c κs = search (names-room, names-near, names-held)
 
 returns : tie.Need-returns
 returns c = search names-refused

@@ -34,10 +34,7 @@ copy-bytes-requires : tie.Need-copy-bytes-requires Inv-loop μ-loop
 copy-bytes-requires c κs = (omega arith, omega arith)
 
 loop-again : tie.Need-loop-again Inv-loop μ-loop
-loop-again c =
-    let l = c .before .before .before .before .before .before .before .before .loop in
-    let e = c .before .before .copy-bytes .ensures in
-    ((omega arith, omega arith), ((omega arith, omega arith), (omega arith, onward-more _ _ _ _ _ _ _ _ _ _ _ _ (l .inv .1 .1 .1) (omega arith) (omega arith) _ (omega arith) e)))
+loop-again c = ((omega arith, omega arith), ((omega arith, omega arith), (omega arith, search (onward-more, needs))))
 
 same-length-3 : tie.Need-same-length-3 Inv-loop μ-loop
 same-length-3 c = c .before .loop .inv .1 .1 .0
