@@ -143,7 +143,7 @@ module _ (table pool : List ℕ) {r : Checked} (h : Checks table pool r) where
     pub kind : getD table 0 0 ≡ suc (classNumber t)
     pub small : getD table 0 0 ≤ 11
 
-  pub outermost : {s : Survey} (g : r ≡ Good s) → ((i : ℕ) → getD pool i 0 < 256) → Outermost (h .good s g .type)
+  outermost : {s : Survey} (g : r ≡ Good s) → ((i : ℕ) → getD pool i 0 < 256) → Outermost (h .good s g .type)
   outermost {s = s} g b =
       let t = h .good s g .type in
       let o = typeOf-sound table pool t (all-bytes pool b) (h .good s g .is) in
@@ -154,6 +154,17 @@ module _ (table pool : List ℕ) {r : Checked} (h : Checks table pool r) where
     where
       first : (t : Datatype) → table ≡ padded (length table) (rows 0 t) → 0 < length (rows 0 t) → getD table 0 0 ≡ suc (classNumber t)
       first t e n = unfold padded in ap (λ (l : List ℕ). getD l 0 0) e ∙ List·getD-append (rows 0 t) _ 0 0 n ∙ rows-first 0 t
+
+  -- the same in the form of a need
+  module _ {s : Survey} (g : r ≡ Good s) (b : (i : ℕ) → getD pool i 0 < 256) where
+    pub outermost-there : 0 < length table
+    outermost-there = omega (arith, outermost g b .there)
+
+    pub outermost-some : 1 ≤ getD table 0 0
+    outermost-some = omega (arith, outermost g b .kind)
+
+    pub outermost-small : getD table 0 0 ≤ 11
+    outermost-small = outermost g b .small
 
   pub element-zero : {s : Survey} {k : ℕ} → ((i : ℕ) → getD pool i 0 < 256) → r ≡ Good s → s .size ≡ 0 → k ≡ getD table 0 0 - 1 → SizedAs (elementSizing table pool) (SizedRefused (ZeroSize k))
   unfolding elementSizing sizedOf whenGiven unless

@@ -5,6 +5,8 @@ use mathlib.Core.List.{List, [], _∷_, _++_, append-nil}
 use mathlib.Core.Option.{Option, none, some}
 use native.Mathlib.Omega.{arith}
 use lib.ListN.{length, getD, take, drop, length-append, length-take, length-drop, List·getD-append, List·getD-eq-default}
+use mir.Syntax.{w64}
+use mir.Val.{Fits}
 use lib.Seq.{drop-at, drop-append-le, drop-drop, getD-drop}
 use Rattle.format.specs.Bytes.{dimensionBytes, padded, zeros}
 use Rattle.format.specs.Datatype.{Datatype, fixedPoint, floatingPoint, time, string, bitField, opaque, compound, reference, enumeration, variableLength, array, Members, noMembers, member, EnumMember, memberCount, rowCount, memberRowCount, poolBytes, memberPool, enumNames, enumValues}
@@ -217,9 +219,29 @@ module _ (table pool : List ℕ) (row : ℕ) {r : Checked} (h : Checks table poo
 
     module _ (k : row < s .row) where
       -- its row is one of the table's
-      pub name-inside : (row < 4096) × (row * 16 + 16 ≤ length table)
+      name-inside : (row < 4096) × (row * 16 + 16 ≤ length table)
       name-inside =
           (omega (arith, many, set-out .within .rows-fit), omega (arith, many, set-out .holds-rows, length-rows (h .good s g .type) 0))
+
+      -- the same in the form of a need: the words that are read lie in the table, and their numbers and bytes do not wrap
+      pub name-first : Fits w64 (row * 16)
+      name-first = let i = name-inside in record { fits = omega arith }
+
+      pub name-first-bytes : Fits w64 (row * 16 * 4)
+      name-first-bytes = let i = name-inside in record { fits = omega arith }
+
+      pub name-first-inside : row * 16 < length table
+      name-first-inside = let i = name-inside in omega arith
+
+      module _ (j : ℕ) (w : j < 16) where
+        pub name-word : Fits w64 (row * 16 + j)
+        name-word = let i = name-inside in record { fits = omega arith }
+
+        pub name-word-bytes : Fits w64 ((row * 16 + j) * 4)
+        name-word-bytes = let i = name-inside in record { fits = omega arith }
+
+        pub name-word-inside : row * 16 + j < length table
+        name-word-inside = let i = name-inside in omega arith
 
       named : RowNames (length pool) (getD (nameParts 0 (h .good s g .type)) row none) (drop (row * 16) table)
       named = row-names table pool (h .good s g .type) set-out row (omega (arith, many))

@@ -1,18 +1,14 @@
 use Rattle.rows.proofs.Decode.{byte-below}
-use native.Mathlib.Omega.{arith}
 use borrow.Author.Needs.{needs}
-use Rattle.table.proofs.Answers.{element-bad, element-good, element-zero, outermost}
+use Rattle.table.proofs.Answers.{element-bad, element-good, element-zero, outermost-small, outermost-some, outermost-there}
 use Rattle.table.proofs.element_size.Statement.{statement}
 use Rattle.table.proofs.element_size.Tie as tie
 
 shared-slice-read-class-of : tie.Need-shared-slice-read-class-of
-shared-slice-read-class-of c =
-    omega (arith, outermost _ _ (c .before .before .before .before .before .before .check .ensures) (c .before .before .before .before .checked .given .1) (λ i. omega (arith, c .before .before .before .before .before .before .before .shared-slice-known2 .given i)))
+shared-slice-read-class-of c = search (outermost-there, byte-below)
 
 class-of-requires : tie.Need-class-of-requires
-class-of-requires c κs =
-    let o = outermost _ _ (c .before .before .before .before .before .before .check .ensures) (c .before .before .before .before .checked .given .1) (λ i. omega (arith, c .before .before .before .before .before .before .before .shared-slice-known2 .given i)) in
-    (omega arith, omega arith)
+class-of-requires c κs = search (outermost-some, outermost-small, byte-below)
 
 returns : tie.Need-returns
 returns c = search (element-zero, byte-below)

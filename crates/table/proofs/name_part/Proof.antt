@@ -1,7 +1,7 @@
 use Rattle.rows.proofs.Decode.{byte-below}
-use native.Mathlib.Omega.{arith}
+use lib.Dec.{lit<}
 use borrow.Author.Needs.{needs, fits-under}
-use Rattle.table.proofs.Naming.{name-bad, name-behind, name-inside, name-none, name-some}
+use Rattle.table.proofs.Naming.{name-bad, name-behind, name-first, name-first-bytes, name-first-inside, name-none, name-some, name-word, name-word-bytes, name-word-inside}
 use Rattle.table.proofs.name_part.Statement.{statement}
 use Rattle.table.proofs.name_part.Tie as tie
 
@@ -18,43 +18,43 @@ returns : tie.Need-returns
 returns c = search (name-behind, byte-below)
 
 mul-at : tie.Need-mul-at
-mul-at c = omega (arith, name-inside _ _ _ (c .before .before .before .before .before .check .ensures) (λ i. omega (arith, c .before .before .before .before .before .before .shared-slice-known2 .given i)) (c .before .before .before .checked .given .1) (c .if1 .left))
+mul-at c = search (name-first, byte-below)
 
 mul-kind : tie.Need-mul-kind
-mul-kind c = omega (arith, name-inside _ _ _ (c .before .before .before .before .before .check .ensures) (λ i. omega (arith, c .before .before .before .before .before .before .shared-slice-known2 .given i)) (c .before .before .before .checked .given .1) (c .if1 .left))
+mul-kind c = search (name-first-bytes, byte-below)
 
 shared-slice-read-kind : tie.Need-shared-slice-read-kind
-shared-slice-read-kind c = omega (arith, name-inside _ _ _ (c .before .before .before .before .before .before .check .ensures) (λ i. omega (arith, c .before .before .before .before .before .before .before .shared-slice-known2 .given i)) (c .before .before .before .before .checked .given .1) (c .before .if1 .left))
+shared-slice-read-kind c = search (name-first-inside, byte-below)
 
 returns-2 : tie.Need-returns-2
 returns-2 c = search (name-none, byte-below)
 
 add-place : tie.Need-add-place
-add-place c = omega (arith, name-inside _ _ _ (c .before .before .before .before .before .before .before .check .ensures) (λ i. omega (arith, c .before .before .before .before .before .before .before .before .shared-slice-known2 .given i)) (c .before .before .before .before .before .checked .given .1) (c .before .before .if1 .left))
+add-place c = search (name-word, byte-below, lit<)
 
 mul-place : tie.Need-mul-place
-mul-place c = omega (arith, name-inside _ _ _ (c .before .before .before .before .before .before .before .check .ensures) (λ i. omega (arith, c .before .before .before .before .before .before .before .before .shared-slice-known2 .given i)) (c .before .before .before .before .before .checked .given .1) (c .before .before .if1 .left))
+mul-place c = search (name-word-bytes, byte-below, lit<)
 
 shared-slice-read-place : tie.Need-shared-slice-read-place
-shared-slice-read-place c = omega (arith, name-inside _ _ _ (c .before .before .before .before .before .before .before .before .check .ensures) (λ i. omega (arith, c .before .before .before .before .before .before .before .before .before .shared-slice-known2 .given i)) (c .before .before .before .before .before .before .checked .given .1) (c .before .before .before .if1 .left))
+shared-slice-read-place c = search (name-word-inside, byte-below, lit<)
 
 cast-place : tie.Need-cast-place
 cast-place c = fits-under _ _ _ (c .shared-slice-known4 .given _ .fits) tt
 
 add-length : tie.Need-add-length
-add-length c = omega (arith, name-inside _ _ _ (c .before .before .before .before .before .before .before .before .check .ensures) (λ i. omega (arith, c .before .before .before .before .before .before .before .before .before .shared-slice-known2 .given i)) (c .before .before .before .before .before .before .checked .given .1) (c .before .before .before .if1 .left))
+add-length c = search (name-word, byte-below, lit<)
 
 mul-length : tie.Need-mul-length
-mul-length c = omega (arith, name-inside _ _ _ (c .before .before .before .before .before .before .before .before .check .ensures) (λ i. omega (arith, c .before .before .before .before .before .before .before .before .before .shared-slice-known2 .given i)) (c .before .before .before .before .before .before .checked .given .1) (c .before .before .before .if1 .left))
+mul-length c = search (name-word-bytes, byte-below, lit<)
 
 shared-slice-read-length : tie.Need-shared-slice-read-length
-shared-slice-read-length c = omega (arith, name-inside _ _ _ (c .before .before .before .before .before .before .before .before .before .check .ensures) (λ i. omega (arith, c .before .before .before .before .before .before .before .before .before .before .shared-slice-known2 .given i)) (c .before .before .before .before .before .before .before .checked .given .1) (c .before .before .before .before .if1 .left))
+shared-slice-read-length c = search (name-word-inside, byte-below, lit<)
 
 cast-length : tie.Need-cast-length
 cast-length c = fits-under _ _ _ (c .shared-slice-known5 .given _ .fits) tt
 
 returns-3 : tie.Need-returns-3
-returns-3 c = name-bad _ _ _ (c .before .before .check .ensures) (c .enum-told .given .1)
+returns-3 c = search name-bad
 
 returns-4 : tie.Need-returns-4
 returns-4 c = search (name-some, byte-below)
