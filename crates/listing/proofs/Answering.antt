@@ -1,5 +1,5 @@
 -- The answers of `list_fields` and `list_refusal`, and what they leave in `out`.
-use Prim.Native.Nat.{ℕ, _+_, _<_, _≤_, min}
+use Prim.Native.Nat.{ℕ, _+_, _*_, _<_, _≤_, min}
 use mathlib.Core.Path.{_≡_, sym, ap, _∙_}
 use mathlib.Core.List.{List, [], _∷_, _++_}
 use native.Mathlib.Omega.{arith}
@@ -66,7 +66,7 @@ module _ (s : List ℕ) {n : ℕ} {none none′ : List ℕ} (m : Puts s 0 n none
   no-room : length out < n → Answers (fitting (length out) s) (Refused (NoRoom n)) out out
   no-room h = refused (fitting-not h)
 
-  room : length out < 9223372036854775808 → n ≤ length out → {k : ℕ} {out′ : List ℕ} → Puts s 0 k out out′ → Answers (fitting (length out) s) (Listed n) out out′
+  room : length out * 1 < 9223372036854775808 → n ≤ length out → {k : ℕ} {out′ : List ℕ} → Puts s 0 k out out′ → Answers (fitting (length out) s) (Listed n) out out′
   room small h x =
       let l : n ≡ length s = omega (arith, long) in
       given (fitting-there (omega arith)) l (x .written (omega arith) (omega arith) ∙ sets-front s out (omega arith))
@@ -78,7 +78,7 @@ module _ (e : Refusal) (out : List ℕ) {n : ℕ} {none none′ : List ℕ} (m :
   unfolding refusalListing
   refusal-no-room h = no-room (refusalText e) m out h
 
-  pub refusal-listed : length out < 9223372036854775808 → n ≤ length out → {k : ℕ} {out′ : List ℕ} → Puts (refusalText e) 0 k out out′ → Answers (refusalListing e (length out)) (Listed n) out out′
+  pub refusal-listed : length out * 1 < 9223372036854775808 → n ≤ length out → {k : ℕ} {out′ : List ℕ} → Puts (refusalText e) 0 k out out′ → Answers (refusalListing e (length out)) (Listed n) out out′
   unfolding refusalListing
   refusal-listed small h x = room (refusalText e) m out small h x
 
@@ -97,7 +97,7 @@ module _ (table pool out : List ℕ) {n : ℕ} {none none′ : List ℕ} (m : Pu
   pub fields-no-room : length out < n → ListsType table pool (Refused (NoRoom n)) out out
   fields-no-room h = record { lists = λ t f. no-room (fieldsText t) (said t f m) out h }
 
-  pub fields-listed : length out < 9223372036854775808 → n ≤ length out → {k : ℕ} {out′ : List ℕ} → PutsFields (typeAt 32 table pool 0 0) k out out′ → ListsType table pool (Listed n) out out′
+  pub fields-listed : length out * 1 < 9223372036854775808 → n ≤ length out → {k : ℕ} {out′ : List ℕ} → PutsFields (typeAt 32 table pool 0 0) k out out′ → ListsType table pool (Listed n) out out′
   fields-listed small h x = record { lists = λ t f. room (fieldsText t) (said t f m) out small h (said t f x) }
 
 -- ---- a table that is checked

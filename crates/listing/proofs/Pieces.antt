@@ -8,6 +8,8 @@ use native.Mathlib.Omega.{arith}
 use native.Mathlib.Numerals.{add-one}
 use lib.ListN.{length, getD, take, drop, length-append, length-drop}
 use lib.Seq.{sets, length-sets, set-out, take-suc, take-all, getD-take, getD-drop, length-take-le}
+use mir.Syntax.{w8}
+use mir.Val.{Fits}
 use lib.Dec.{ltb}
 use borrow.Author.Tests.{lt-ltb, le-ltb, ltb-true, ltb-false}
 use Rattle.format.proofs.Lists.{sets-append}
@@ -157,6 +159,10 @@ unfolding hexadecimal
 hex-joins [] y = refl
 hex-joins (b ∷ x) y = ap (λ (l : List ℕ). hexDigit (b / 16) ∷ hexDigit (b % 16) ∷ l) (hex-joins x y)
 
+-- a byte's high digit
+pub byte-high : (pool : List ℕ) (i : ℕ) → ((j : ℕ) → Fits w8 (getD pool j 0)) → getD pool i 0 / 16 < 16
+byte-high pool i h = omega (arith, h i .fits)
+
 -- n bytes of the pool from p on
 module _ (pool : List ℕ) (p n : ℕ) (inside : p + n ≤ length pool) where
   piece-long : length (take n (drop p pool)) ≡ n
@@ -254,6 +260,10 @@ first-numbers n (a ∷ b ∷ d ∷ vs) h = absurd (omega arith)
 module _ (e : Refusal) {v : RefusalValues} (q : v ≡ valuesFrom e) where
   pub value-count : 1 + v .count ≤ 3
   value-count = let k : v .count ≡ length (valuesOf e) = ap (λ (x : RefusalValues). x .count) q in omega (arith, few-values e)
+
+  -- so many of three words
+  pub value-taken : (x y z : ℕ) → 1 + v .count ≡ length (take (1 + v .count) (x ∷ y ∷ z ∷ []))
+  value-taken x y z = sym (length-take-le (1 + v .count) (x ∷ y ∷ z ∷ []) value-count)
 
   pub refusal-put : {n a b r : ℕ} {out out₁ out₂ out₃ : List ℕ} → n ≡ numberOf e → Puts (114 ∷ 101 ∷ 102 ∷ 117 ∷ 115 ∷ 101 ∷ 100 ∷ []) 0 a out out₁
       → Puts (spaced (take (1 + v .count) (n ∷ v .first ∷ v .second ∷ []))) a b out₁ out₂ → Puts (10 ∷ []) b r out₂ out₃ → Puts (refusalText e) 0 r out out₃

@@ -1,6 +1,3 @@
-use native.Mathlib.Omega.{arith}
-use Prim.Native.Nat.{_<_}
-use lib.ListN.{length}
 use Rattle.listing.proofs.Answering.{refusal-no-room, refusal-listed}
 use borrow.Author.Needs.{needs}
 use Rattle.listing.proofs.list_refusal.Statement.{statement}
@@ -10,7 +7,7 @@ returns : tie.Need-returns
 returns c = search refusal-no-room
 
 returns-2 : tie.Need-returns-2
-returns-2 c = let small : length ((c .before .before .before .before .before .before .before .before .before) .args .out .now) < 9223372036854775808 = omega arith in search (refusal-listed, small)
+returns-2 c = search refusal-listed
 
 pub list-refusal-spec : {M : Type 1} → statement M
 list-refusal-spec =

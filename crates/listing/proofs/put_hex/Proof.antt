@@ -2,7 +2,7 @@ use native.Mathlib.Omega.{arith}
 use Prim.Native.Nat.{_-_, _+_}
 use lib.ListN.{take, drop}
 use Rattle.listing.specs.Text.{hexadecimal}
-use Rattle.listing.proofs.Pieces.{PutFirst, hex-begun, hex-next, hex-ended}
+use Rattle.listing.proofs.Pieces.{PutFirst, byte-high, hex-begun, hex-next, hex-ended}
 use borrow.Author.Needs.{needs}
 use Rattle.listing.proofs.put_hex.Statement.{statement}
 use Rattle.listing.proofs.put_hex.Tie as tie
@@ -17,7 +17,7 @@ loop-holds : tie.Need-loop-holds Inv-loop μ-loop
 loop-holds c = search hex-begun
 
 hex-digit-requires : tie.Need-hex-digit-requires Inv-loop μ-loop
-hex-digit-requires c κs = omega (arith, (c .shared-slice-known2) .given ((c .before .before .before .before .before) .args .from + (c .before .before .loop) .i))
+hex-digit-requires c κs = search byte-high
 
 loop-again : tie.Need-loop-again Inv-loop μ-loop
 loop-again c = search hex-next

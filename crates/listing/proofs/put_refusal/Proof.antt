@@ -1,6 +1,4 @@
-use mathlib.Core.Path.{sym}
-use lib.Seq.{length-take-le}
-use Rattle.listing.proofs.Pieces.{value-count, refusal-put}
+use Rattle.listing.proofs.Pieces.{value-count, value-taken, refusal-put}
 use borrow.Author.Needs.{needs}
 use Rattle.listing.proofs.put_refusal.Statement.{statement}
 use Rattle.listing.proofs.put_refusal.Tie as tie
@@ -9,7 +7,7 @@ array-share-prefix-numbers : tie.Need-array-share-prefix-numbers
 array-share-prefix-numbers c = search value-count
 
 slice-aggregate-put-spaced : tie.Need-slice-aggregate-put-spaced
-slice-aggregate-put-spaced c = sym (length-take-le _ _ (value-count ((c .before .before .before .before .before .before .before .before .before .before) .args .refusal) ((c .before .before .before .before .before .before .before .before .values) .ensures)))
+slice-aggregate-put-spaced c = search value-taken
 
 returns : tie.Need-returns
 returns c = search refusal-put
