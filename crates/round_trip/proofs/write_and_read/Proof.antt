@@ -1,25 +1,17 @@
-use Prim.Native.Nat.{ℕ, _<_}
-use native.Mathlib.Omega.{arith}
-use lib.ListN.{getD}
+use Rattle.reading.proofs.Contracts.{byte-below}
 use Rattle.round_trip.proofs.Returning.{not-written, read-back, refused-back}
 use borrow.Author.Needs.{needs}
 use Rattle.round_trip.proofs.write_and_read.Statement.{statement}
 use Rattle.round_trip.proofs.write_and_read.Tie as tie
-use Rattle.round_trip.proofs.write_and_read.Reads as reads
-use Rattle.round_trip.proofs.write_and_read.Lts as lts
 
 returns : tie.Need-returns
 returns c = search not-written
 
 returns-2 : tie.Need-returns-2
-returns-2 c =
-    let small : (i : ℕ) → getD ((c .before .before .before .before .before .before .before .before .before .before .before .before .before .before .before .before .before .before .before .before .before .before) .args .pool .now) i 0 < 256 = λ i. omega (arith, (c .before .before .before .before .before .before .before .before .before .before .before .before .before .before .before .before .before .before .before .before .shared-slice-known2) .given i) in
-    search (refused-back, small)
+returns-2 c = search (refused-back, byte-below)
 
 returns-3 : tie.Need-returns-3
-returns-3 c =
-    let small : (i : ℕ) → getD ((c .before .before .before .before .before .before .before .before .before .before .before .before .before .before .before .before .before .before .before .before .before .before) .args .pool .now) i 0 < 256 = λ i. omega (arith, (c .before .before .before .before .before .before .before .before .before .before .before .before .before .before .before .before .before .before .before .before .shared-slice-known2) .given i) in
-    search (read-back, small)
+returns-3 c = search (read-back, byte-below)
 
 pub write-and-read-spec : {M : Type 1} → statement M
 write-and-read-spec =
