@@ -8,7 +8,7 @@ use borrow.Author.Tests.{le-leb, lt-leb}
 use lib.Dec.{leb}
 use lib.ListN.{length, take}
 use Rattle.format.specs.Utf8.{Lead, single, ill, lead, upTo, leads, ready, waiting, Utf8Step, replacement, begin, broken, going, step, carried}
-use Rattle.names.specs.Pass.{leadOf, Sized, carrying, stateOf, Fits, Steps}
+use Rattle.names.specs.Pass.{leadOf, Sized, carrying, stateOf, carryOn, Fits, Steps}
 use Rattle.names.specs.declared.Start.{Start}
 use Rattle.names.specs.declared.Start.the-variants.{Single, Ill, More}
 use Rattle.names.specs.declared.Carry.{Carry}
@@ -133,16 +133,13 @@ module _ (st : Carry) (b : ℕ) (ok : Fits st × (0 < st .count)) where
         let one : st .more ≡ 1 = omega (arith, total, waits-more) in
         rw (carried-3 three, last one) (given _ 4 z _ none refl (omega arith) refl refl)
 
-  pub longer-2 : st .count ≡ 1 → (st .more ≡ 1 → ⊥) →
-      Steps
-      (record { out = 0 ∷ 0 ∷ 0 ∷ 0 ∷ 0 ∷ 0 ∷ []; len = 0; next = record { count = 2; first = st .first; second = b; third = 0; more = st .more - 1; low = 0x80; high = 0xbf } })
-      (going (carried (stateOf st) ++ (b ∷ [])) (st .more - 1))
+  pub longer-2 : {r : Stepped} → st .count ≡ 1 → (st .more ≡ 1 → ⊥) → r ≡ carryOn 2 (st .first) b 0 (st .more - 1) → Steps r (going (carried (stateOf st) ++ (b ∷ [])) (st .more - 1))
   unfolding going stateOf carrying
-  longer-2 h k =
+  longer-2 h k e =
       let m = more-left (st .more) (omega (arith, waits-more)) in
       let f : 2 + (st .more - 1) ≤ 4 = omega (arith, total, waits-more) in
       let g : 0 < st .more - 1 = omega (arith, waits-more) in
-      rw (carried-1 h, m .1)
+      rw (e, carried-1 h, m .1)
       (record {
         out = refl;
         next = refl;
@@ -151,15 +148,12 @@ module _ (st : Carry) (b : ℕ) (ok : Fits st × (0 < st .count)) where
         short = omega arith;
       })
 
-  pub longer-3 : st .count ≡ 2 → (st .more ≡ 1 → ⊥) →
-      Steps
-      (record { out = 0 ∷ 0 ∷ 0 ∷ 0 ∷ 0 ∷ 0 ∷ []; len = 0; next = record { count = 3; first = st .first; second = st .second; third = b; more = st .more - 1; low = 0x80; high = 0xbf } })
-      (going (carried (stateOf st) ++ (b ∷ [])) (st .more - 1))
+  pub longer-3 : {r : Stepped} → st .count ≡ 2 → (st .more ≡ 1 → ⊥) → r ≡ carryOn 3 (st .first) (st .second) b (st .more - 1) → Steps r (going (carried (stateOf st) ++ (b ∷ [])) (st .more - 1))
   unfolding going stateOf carrying
-  longer-3 h k =
+  longer-3 h k e =
       let m = more-left (st .more) (omega (arith, waits-more)) in
       let f : 3 + (st .more - 1) ≤ 4 = omega (arith, total, waits-more) in
-      rw (carried-2 h, m .1)
+      rw (e, carried-2 h, m .1)
       (record {
         out = refl;
         next = refl;

@@ -27,6 +27,10 @@ carrying (suc k) w n lo hi = waiting (take (suc k) w) n lo hi
 unfoldable pub stateOf : Carry → Utf8State
 stateOf c = carrying (c .count) (c .first ∷ c .second ∷ c .third ∷ []) (c .more) (c .low) (c .high)
 
+-- nothing is given out, and so many bytes are carried on: the next one is any that may follow
+abbrev pub carryOn : (count first second third more : ℕ) → Stepped
+carryOn k a b c n = record { out = 0 ∷ 0 ∷ 0 ∷ 0 ∷ 0 ∷ 0 ∷ []; len = 0; next = record { count = k; first = a; second = b; third = c; more = n; low = 0x80; high = 0xbf } }
+
 -- what is carried and what is to come are at most four bytes, of which one is to come
 pub record Fits (c : Carry) : Type 0 where
   pub few : c .count ≤ 3

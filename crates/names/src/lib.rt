@@ -6,7 +6,7 @@ ghost use lib.ListN.{length, take, drop};
 ghost use mathlib.Core.Bool.{_&&_};
 ghost use Rattle.format.specs.Message.{noNul};
 ghost use Rattle.format.specs.Utf8.{upTo, leads, begin, broken, going, step, carried, atEnd, wellFormed};
-ghost use Rattle.names.specs.Pass.{stateOf, leadOf, Fits, Sized, Steps};
+ghost use Rattle.names.specs.Pass.{stateOf, leadOf, carryOn, Fits, Sized, Steps};
 ghost use Rattle.names.specs.Names.{Stored, Reads};
 
 // A name's bytes before its NUL and, made valid, in the pool.
@@ -155,6 +155,25 @@ fn break_off(b: u8) -> Stepped
     }
 }
 
+// A character that is not whole after its second or third byte: nothing is given out yet.
+fn carry_on(count: u8, first: u8, second: u8, third: u8, more: u8) -> Stepped
+    ensures { λ r. ⌜ r ≡ carryOn count first second third more ⌝ }
+{
+    Stepped {
+        out: [0, 0, 0, 0, 0, 0],
+        len: 0,
+        next: Carry {
+            count: count,
+            first: first,
+            second: second,
+            third: third,
+            more: more,
+            low: 0x80,
+            high: 0xbf,
+        },
+    }
+}
+
 // A character goes on with this byte.
 fn go_on(st: Carry, b: u8) -> Stepped
     requires { ⌜ Fits st × (0 < st .count) ⌝ }
@@ -168,19 +187,7 @@ fn go_on(st: Carry, b: u8) -> Stepped
                 next: nothing(),
             };
         }
-        return Stepped {
-            out: [0, 0, 0, 0, 0, 0],
-            len: 0,
-            next: Carry {
-                count: 2,
-                first: st.first,
-                second: b,
-                third: 0,
-                more: st.more - 1,
-                low: 0x80,
-                high: 0xbf,
-            },
-        };
+        return carry_on(2, st.first, b, 0, st.more - 1);
     }
     if st.count == 2 {
         if st.more == 1 {
@@ -190,19 +197,7 @@ fn go_on(st: Carry, b: u8) -> Stepped
                 next: nothing(),
             };
         }
-        return Stepped {
-            out: [0, 0, 0, 0, 0, 0],
-            len: 0,
-            next: Carry {
-                count: 3,
-                first: st.first,
-                second: st.second,
-                third: b,
-                more: st.more - 1,
-                low: 0x80,
-                high: 0xbf,
-            },
-        };
+        return carry_on(3, st.first, st.second, b, st.more - 1);
     }
     Stepped {
         out: [st.first, st.second, st.third, b, 0, 0],

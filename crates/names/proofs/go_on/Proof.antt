@@ -6,8 +6,8 @@ use Rattle.names.proofs.go_on.Tie as tie
 returns : tie.Need-returns
 returns c = search whole-2
 
-sub-t8 : tie.Need-sub-t8
-sub-t8 c = search waits-more
+sub-carry-on : tie.Need-sub-carry-on
+sub-carry-on c = search waits-more
 
 returns-2 : tie.Need-returns-2
 returns-2 c = search longer-2
@@ -15,8 +15,8 @@ returns-2 c = search longer-2
 returns-3 : tie.Need-returns-3
 returns-3 c = search whole-3
 
-sub-t14 : tie.Need-sub-t14
-sub-t14 c = search waits-more
+sub-carry-on-2 : tie.Need-sub-carry-on-2
+sub-carry-on-2 c = search waits-more
 
 returns-4 : tie.Need-returns-4
 returns-4 c = search longer-3
@@ -30,11 +30,13 @@ go-on-spec =
     (tie.spec
     (λ c κs. search needs)  -- nothing-requires
     returns
-    sub-t8
+    sub-carry-on
+    (λ c κs. search needs)  -- carry-on-requires
     returns-2
     (λ c κs. search needs)  -- nothing-requires-2
     returns-3
-    sub-t14
+    sub-carry-on-2
+    (λ c κs. search needs)  -- carry-on-requires-2
     returns-4
     (λ c κs. search needs)  -- nothing-requires-3
     returns-5)

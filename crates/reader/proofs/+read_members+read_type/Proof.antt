@@ -84,7 +84,7 @@ read-members-part-read-type-start : (t : ℕ) → read-members-lts.Need-part-rea
 read-members-part-read-type-start t c = search (needs, entered-within)
 
 read-members-part-read-type-end : (t : ℕ) → read-members-lts.Need-part-read-type-end (read-members-calls t) (read-members-at t) read-members.Post read-members-Inv-loop read-members-μ-loop
-read-members-part-read-type-end t c = search (needs, entered-within)
+read-members-part-read-type-end t c = search needs
 
 read-members-read-type-requires : (t : ℕ) → read-members-lts.Need-read-type-requires (read-members-calls t) (read-members-at t) read-members.Post read-members-Inv-loop read-members-μ-loop
 read-members-read-type-requires t c κs =
