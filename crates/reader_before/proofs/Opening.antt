@@ -230,7 +230,7 @@ module _ {d : List ℕ} {lim : Limits} {used pooled : ℕ} {h : Header} (w : Beg
         w
         (λ n. text-padding (readType (lim .version) n) h d (lim .rows - (used + 1)) (lim .pool) pooled v (omega arith) (omega arith) ∙ ap (λ (k : ℕ). refused (BadPadding k)) (sym (b .0)))
 
-    module _ (low : padding ≤ 2) {charset : ℕ} (c : (charset ≡ lowBits 4 (h .f1)) × (charset < 16)) where
+    module _ (low : padding < 3) {charset : ℕ} (c : (charset ≡ lowBits 4 (h .f1)) × (charset < 16)) where
       pub variable-charset : 1 < charset → Opens d lim used pooled (OpenRefused (BadCharset charset))
       variable-charset x =
           ends
@@ -238,7 +238,7 @@ module _ {d : List ℕ} {lim : Limits} {used pooled : ℕ} {h : Header} (w : Beg
           (λ n. text-charset (readType (lim .version) n) h d (lim .rows - (used + 1)) (lim .pool) pooled v (omega arith) (omega arith) (omega arith)
           ∙ ap (λ (k : ℕ). refused (BadCharset k)) (sym (c .0)))
 
-      pub variable-string : charset ≤ 1 → Opens d lim used pooled (Based h (record { from = 8; place = pooled; start = 8; rank = 0 }))
+      pub variable-string : charset < 2 → Opens d lim used pooled (Based h (record { from = 8; place = pooled; start = 8; rank = 0 }))
       variable-string x =
           variable-based
           (λ n. text-go (readType (lim .version) n) h d (lim .rows - (used + 1)) (lim .pool) pooled v (omega arith) (omega arith) (omega arith))

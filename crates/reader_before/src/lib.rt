@@ -46,15 +46,24 @@ fn open_variable(data: &[u8], limits: Limits, used: usize, pooled: usize, header
     ensures { λ r. ⌜ Opens (now («data» .entry)) limits used pooled r ⌝ }
 {
     let kind = low4(header.f0);
-    if kind == 1 {
-        let padding = high4(header.f0);
-        if padding > 2 {
-            return Opened::Refused(Refusal::BadPadding(padding));
+    match kind {
+        1 => {
+            let padding = high4(header.f0);
+            match padding {
+                0..=2 => {}
+                _ => {
+                    return Opened::Refused(Refusal::BadPadding(padding));
+                }
+            }
+            let charset = low4(header.f1);
+            match charset {
+                0..=1 => {}
+                _ => {
+                    return Opened::Refused(Refusal::BadCharset(charset));
+                }
+            }
         }
-        let charset = low4(header.f1);
-        if charset > 1 {
-            return Opened::Refused(Refusal::BadCharset(charset));
-        }
+        _ => {}
     }
     Opened::Based(
         header,

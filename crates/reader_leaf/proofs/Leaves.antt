@@ -189,16 +189,16 @@ module _ (h : Header) (d : List ℕ) {lim : Limits} {used pooled : ℕ} {t p : L
     unfolding readProperties then require
     string-padding m = leaf-refuses h d asked (rw (← ea .0, lt-leb a 2 m))
 
-    module _ (c : ℕ) (ok : a ≤ 2) (ec : (c ≡ highBits 4 (h .f0)) × (c < 16)) where
+    module _ (c : ℕ) (ok : a < 3) (ec : (c ≡ highBits 4 (h .f0)) × (c < 16)) where
       pub string-charset : {t′ p′ : List ℕ} → 1 < c → Ends h d lim used pooled t p (Refused (BadCharset c)) t′ p′
       unfolding readProperties then require
-      string-charset m = leaf-refuses h d asked (rw (← ea .0, ← ec .0, le-leb a 2 ok, lt-leb c 1 m))
+      string-charset m = leaf-refuses h d asked (rw (← ea .0, ← ec .0, le-leb a 2 (omega arith), lt-leb c 1 m))
 
-      module _ (fine : c ≤ 1) where
+      module _ (fine : c < 2) where
         string-is : run (readProperties (refuse TooDeep) h isString) d lim 8 (used + 1) pooled
             ≡ here (string (h .size) a c) d lim (ended h 8 used pooled)
         unfolding readProperties then require
-        string-is = rw (← ea .0, ← ec .0, le-leb a 2 ok, le-leb c 1 fine)
+        string-is = rw (← ea .0, ← ec .0, le-leb a 2 (omega arith), le-leb c 1 (omega arith))
 
         pub string-zero : {t′ p′ : List ℕ} → h .size ≡ 0 → Ends h d lim used pooled t p (Refused (ZeroSize (h .class))) t′ p′
         string-zero z = leaf-zero h d asked _ (ended h 8 used pooled) string-is (string-leaf h pooled a c) z
@@ -214,11 +214,11 @@ module _ (h : Header) (d : List ℕ) {lim : Limits} {used pooled : ℕ} {t p : L
     unfolding readProperties then require
     reference-kind m = leaf-refuses h d asked (rw (← ec .0, lt-leb c 1 m))
 
-    module _ (fine : c ≤ 1) where
+    module _ (fine : c < 2) where
       reference-is : run (readProperties (refuse TooDeep) h isReference) d lim 8 (used + 1) pooled
           ≡ here (reference (h .size) c) d lim (ended h 8 used pooled)
       unfolding readProperties then require
-      reference-is = rw (← ec .0, le-leb c 1 fine)
+      reference-is = rw (← ec .0, le-leb c 1 (omega arith))
 
       pub reference-zero : {t′ p′ : List ℕ} → h .size ≡ 0 → Ends h d lim used pooled t p (Refused (ZeroSize (h .class))) t′ p′
       reference-zero z = leaf-zero h d asked _ (ended h 8 used pooled) reference-is (reference-leaf h pooled c) z

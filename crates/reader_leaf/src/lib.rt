@@ -198,12 +198,18 @@ fn read_string(
         (now («data» .entry)) limits used pooled r (now (table .entry)) (now (table .exit)) (now (pool .entry)) (now (pool .exit)) ⌝ }
 {
     let padding = low4(header.f0);
-    if padding > 2 {
-        return Step::Refused(Refusal::BadPadding(padding));
+    match padding {
+        0..=2 => {}
+        _ => {
+            return Step::Refused(Refusal::BadPadding(padding));
+        }
     }
     let charset = high4(header.f0);
-    if charset > 1 {
-        return Step::Refused(Refusal::BadCharset(charset));
+    match charset {
+        0..=1 => {}
+        _ => {
+            return Step::Refused(Refusal::BadCharset(charset));
+        }
     }
     if header.size == 0 {
         return Step::Refused(Refusal::ZeroSize(header.class));
@@ -359,8 +365,11 @@ fn read_reference(
         (now («data» .entry)) limits used pooled r (now (table .entry)) (now (table .exit)) (now (pool .entry)) (now (pool .exit)) ⌝ }
 {
     let kind = low4(header.f0);
-    if kind > 1 {
-        return Step::Refused(Refusal::BadReferenceKind(kind));
+    match kind {
+        0..=1 => {}
+        _ => {
+            return Step::Refused(Refusal::BadReferenceKind(kind));
+        }
     }
     if header.size == 0 {
         return Step::Refused(Refusal::ZeroSize(header.class));

@@ -6,13 +6,14 @@ use mathlib.Core.List.{List, _++_}
 use native.Mathlib.Omega.{arith}
 use lib.ListN.{length, take, drop, getD}
 use lib.Seq.{take-at}
+use Rattle.refusal.specs.Refusal.{numberOf, valuesOf}
 use Rattle.refusal.specs.declared.Refusal.{Refusal}
 use Rattle.refusal.specs.declared.Refusal.the-variants.{TooNew}
 use Rattle.format.specs.Bytes.{padded}
 use Rattle.format.specs.Datatype.{Datatype, rowCount, poolBytes}
 use Rattle.format.specs.Message.{message, storable, carried, writing}
-use Rattle.format.specs.Outcome.{Outcome, gives, refuses, outputAfter}
-use Rattle.format.specs.Reading.{Read}
+use Rattle.format.specs.Outcome.{Outcome, gives, refuses, outputAfter, outcomeNumber, outcomeValues}
+use Rattle.format.specs.Reading.{Read, reading}
 use Rattle.format.specs.Table.{SetsOut, typeOf, rows, tableOf, poolOf}
 use Rattle.format.proofs.Bytes.{all-bytes}
 use Rattle.format.proofs.Rows.{length-rows}
@@ -25,7 +26,7 @@ use Rattle.reading.proofs.Promises.{Refuses, GivesBack, Written as Supposed, wr
 use Rattle.writer.specs.Writes.{Answers, answerOf as writtenAs}
 use Rattle.writer.specs.declared.Writing.{Writing}
 use Rattle.writer.specs.declared.Writing.the-variants.{Written as AnswerWritten, Refused as NotWrittenAs}
-use Rattle.round_trip.specs.Back.{answerOf, TooNewBack, SameBack, Back}
+use Rattle.round_trip.specs.Back.{roundTripNumber, roundTripValues, answerOf, NotWritten, TooNewBack, SameBack, Back}
 use Rattle.round_trip.specs.declared.RoundTrip.{RoundTrip}
 use Rattle.round_trip.specs.declared.RoundTrip.the-variants.{Length, Refused}
 
@@ -60,6 +61,22 @@ front-pool : {t : Datatype} {table pool : List ℕ} → SetsOut t table pool →
 unfolding padded
 front-pool {t = t} {pool = pool} h = ap (take (length (poolBytes t))) (h .pool-is) ∙ take-at (poolBytes t) _ (length (poolBytes t)) refl
 
+-- ---- number and values of an answer
+
+number-of : (x : Outcome Read) → roundTripNumber (answerOf x) ≡ outcomeNumber x
+unfolding roundTripNumber answerOf outcomeNumber
+number-of (gives x) = refl
+number-of (refuses e) = refl
+
+values-of : (x : Outcome Read) → roundTripValues (answerOf x) ≡ outcomeValues (λ x. x .consumed) x
+unfolding roundTripValues answerOf outcomeValues
+values-of (gives x) = refl
+values-of (refuses e) = refl
+
+is-refused : {e f : Refusal} {buffer buffer′ t p : List ℕ} → e ≡ f → buffer′ ≡ buffer → NotWritten f (Refused e) buffer buffer′ t t p p
+unfolding roundTripNumber roundTripValues
+is-refused i b = record { answer = ap Refused i; number = ap numberOf i; values = ap valuesOf i; buffer-is = b; table-is = refl; pool-is = refl }
+
 module _ (table pool : List ℕ) (edition limit : ℕ) (buffer t p : List ℕ) where
   -- writing is refused
   pub not-written : {w : Writing} {e : Refusal} {buffer′ : List ℕ} → Answers (writing table pool edition (length buffer)) w buffer buffer′ → w ≡ NotWrittenAs e
@@ -77,7 +94,7 @@ module _ (table pool : List ℕ) (edition limit : ℕ) (buffer t p : List ℕ) w
           let i : e ≡ f = cc in
           let b : buffer′ ≡ buffer = rw k at (a .out-is) in
           record {
-            refused = λ g h. record { answer = ap Refused (i ∙ same-refusal (sym k ∙ h)); buffer-is = b; table-is = refl; pool-is = refl };
+            refused = λ g h. is-refused (i ∙ same-refusal (sym k ∙ h)) b;
             written = λ m h. absurd (no-gives (sym h ∙ k));
             too-new = λ type v h e′ s c l n m q. absurd (no-gives (sym (is-written table pool edition (length buffer) type h e′ s c l) ∙ k));
             back = λ type h e′ s c l n m q. absurd (no-gives (sym (is-written table pool edition (length buffer) type h e′ s c l) ∙ k));
@@ -101,11 +118,20 @@ module _ (table pool : List ℕ) (edition limit : ℕ) (buffer t p : List ℕ) w
         }
 
     turned-back : Back table pool edition limit (turned r) buffer buffer′ t t′ p p′
-    unfolding writtenAs outputAfter turned tableOf poolOf
+    unfolding writtenAs outputAfter turned tableOf poolOf roundTripNumber roundTripValues
     turned-back =
         record {
           refused = λ e g. absurd (went e g);
-          written = λ m g. record { buffer-is = put m g; answer = ap turned (h .answer) ∙ turned-is _; table-is = h .table-is; pool-is = h .pool-is };
+          written = λ m g.
+              let q : turned r ≡ answerOf (reading limit (length t) (length p) buffer′) = ap turned (h .answer) ∙ turned-is _ in
+              record {
+                buffer-is = put m g;
+                answer = q;
+                number = ap roundTripNumber q ∙ number-of _;
+                values = ap roundTripValues q ∙ values-of _;
+                table-is = h .table-is;
+                pool-is = h .pool-is;
+              };
           too-new = λ type v g b s c l n m q. new (written-too-new h (supposed type g b s c l n m) v q);
           back = λ type g b s c l n m q. old type (typeOf-sound table pool type (all-bytes pool small) g) (written-reads-back h (supposed type g b s c l n m) q);
         }
@@ -120,12 +146,17 @@ module _ (table pool : List ℕ) (edition limit : ℕ) (buffer t p : List ℕ) w
         put m g = rw g at (a .out-is)
 
         new : {v : ℕ} → Refuses (TooNew v) t p r t′ p′ → TooNewBack v (turned r) t t′ p p′
-        new x = record { answer = ap turned (x .answer); table-is = x .table-is; pool-is = x .pool-is }
+        new x =
+            let q = ap turned (x .answer) in
+            record { answer = q; number = ap roundTripNumber q; values = ap roundTripValues q; table-is = x .table-is; pool-is = x .pool-is }
 
         old : (type : Datatype) → SetsOut type table pool → GivesBack type (length (message edition type)) t p r t′ p′ → SameBack type edition table pool (turned r) t t′ p p′
         old type o x =
+            let q = ap turned (x .answer) in
             record {
-              answer = ap turned (x .answer);
+              answer = q;
+              number = ap roundTripNumber q;
+              values = ap roundTripValues q;
               table-is = x .table-is ∙ ap (padded (length t)) (sym (front-rows o));
               pool-is = x .pool-is ∙ ap (padded (length p)) (sym (front-pool o));
             }

@@ -11,7 +11,7 @@ use Rattle.refusal.specs.declared.Refusal.the-variants.{TooNew}
 use Rattle.format.specs.Bytes.{zeros, padded}
 use Rattle.format.specs.Datatype.{Datatype, rowCount, poolBytes}
 use Rattle.format.specs.Message.{message, versions, firstAbove, storable, carried, writing}
-use Rattle.format.specs.Outcome.{Outcome, gives, refuses}
+use Rattle.format.specs.Outcome.{Outcome, gives, refuses, outcomeNumber, outcomeValues}
 use Rattle.format.specs.Reading.{Read, reading, tableAfter, poolAfter}
 use Rattle.format.specs.Table.{typeOf}
 use Rattle.round_trip.specs.declared.RoundTrip.{RoundTrip}
@@ -34,6 +34,8 @@ answerOf (refuses e) = Refused e
 -- "Where writing is refused, the answer is that refusal and buffer, second table and second pool are as they were"
 pub record NotWritten (e : Refusal) (r : RoundTrip) (buffer buffer′ t t′ p p′ : List ℕ) : Type 0 where
   pub answer : r ≡ Refused e
+  pub number : roundTripNumber r ≡ numberOf e
+  pub values : roundTripValues r ≡ valuesOf e
   pub buffer-is : buffer′ ≡ buffer
   pub table-is : t′ ≡ t
   pub pool-is : p′ ≡ p
@@ -42,18 +44,24 @@ pub record NotWritten (e : Refusal) (r : RoundTrip) (buffer buffer′ t t′ p p
 pub record Written (m : List ℕ) (limit : ℕ) (r : RoundTrip) (buffer buffer′ t t′ p p′ : List ℕ) : Type 0 where
   pub buffer-is : buffer′ ≡ m ++ drop (length m) buffer
   pub answer : r ≡ answerOf (reading limit (length t) (length p) buffer′)
+  pub number : roundTripNumber r ≡ outcomeNumber (reading limit (length t) (length p) buffer′)
+  pub values : roundTripValues r ≡ outcomeValues (λ x. x .consumed) (reading limit (length t) (length p) buffer′)
   pub table-is : t′ ≡ tableAfter (length t) (reading limit (length t) (length p) buffer′)
   pub pool-is : p′ ≡ poolAfter (length p) (reading limit (length t) (length p) buffer′)
 
 -- "the answer is TooNew with the first header version above the limit (second table and pool all zero)"
 pub record TooNewBack (v : ℕ) (r : RoundTrip) (t t′ p p′ : List ℕ) : Type 0 where
   pub answer : r ≡ Refused (TooNew v)
+  pub number : roundTripNumber r ≡ 5
+  pub values : roundTripValues r ≡ v ∷ []
   pub table-is : t′ ≡ zeros (length t)
   pub pool-is : p′ ≡ zeros (length p)
 
 -- "or the written length with the first table's rows and pool bytes in the second, zeros after"
 pub record SameBack (type : Datatype) (edition : ℕ) (table pool : List ℕ) (r : RoundTrip) (t t′ p p′ : List ℕ) : Type 0 where
   pub answer : r ≡ Length (length (message edition type))
+  pub number : roundTripNumber r ≡ 0
+  pub values : roundTripValues r ≡ length (message edition type) ∷ []
   pub table-is : t′ ≡ padded (length t) (take (16 * rowCount type) table)
   pub pool-is : p′ ≡ padded (length p) (take (length (poolBytes type)) pool)
 
