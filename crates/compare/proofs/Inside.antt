@@ -31,16 +31,6 @@ use Rattle.compare.specs.declared.Agreed.the-variants.{Apart, Together, 
 use Rattle.compare.proofs.Agreed.{the-type}
 use Rattle.compare.proofs.Ranges.{answers-together, answers-apart}
 
--- an answer other than Together, by its variant's number
-abbrev pub Stops : Agreed → Type 0
-Stops x = OneOf (0 ∷ 2 ∷ []) (tagOf the-type x)
-
-stopped : (x : Agreed) → Stops x → (x ≡ Apart) ⊎ (x ≡ Lost)
-stopped Apart h = inl refl
-stopped (Together s) (inl h) = absurd (omega arith)
-stopped (Together s) (inr h) = absurd (omega arith)
-stopped Lost h = inr refl
-
 -- ---- one member more
 
 -- what is known of an admitted compound's first member, and of the others
@@ -188,14 +178,27 @@ module _ (table pool : List ℕ) (depth r p left : ℕ) (a b : List ℕ) (at : �
         members-past z h = members-named z (past _ o _ a b at z _ h)
 
         module _ (got : Agreed) (g : Agrees (typeAt (32 - depth) table pool (r + 1) (p + n)) a b (at + o) got) where
-          pub members-stop : Stops got → AgreesIn y a b at got
-          members-stop f = members-named got (⊎-elim (λ e. rw e (apart _ o _ a b at _ got g e)) (λ e. lost _ o _ a b at _ got g got e) (stopped got f))
+          pub members-lost : (z : Agreed) → got ≡ Lost → AgreesIn y a b at z
+          members-lost z f = members-named z (lost _ o _ a b at _ got g z f)
+
+          pub members-apart : got ≡ Apart → AgreesIn y a b at Apart
+          members-apart f = members-named Apart (apart _ o _ a b at _ got g f)
 
           pub members-next : {s : Spot} → got ≡ Together s → Leads (membersAt (typeAt (32 - depth) table pool) table pool (left - 1) (s .row) (s .place)) y a b at
           unfolding Leads
           members-next {s = s} f z h = members-named z (next _ o _ a b at _ got g z s f h)
 
 -- ---- entries
+
+-- an answer other than Together, by its variant's number
+abbrev pub Stops : Agreed → Type 0
+Stops x = OneOf (0 ∷ 2 ∷ []) (tagOf the-type x)
+
+stopped : (x : Agreed) → Stops x → (x ≡ Apart) ⊎ (x ≡ Lost)
+stopped Apart h = inl refl
+stopped (Together s) (inl h) = absurd (omega arith)
+stopped (Together s) (inr h) = absurd (omega arith)
+stopped Lost h = inr refl
 
 -- the first k entries agree
 unfoldable pub Done : Found Datatype → (stride k : ℕ) (a b : List ℕ) (at : ℕ) → Type 0

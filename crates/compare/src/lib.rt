@@ -199,8 +199,7 @@ fn agree_type(
     ensures { λ r. ⌜ Agrees (typeAt (33 - path .depth) (now (table .entry)) (now (pool .entry)) (topOf path) place) (now (a .entry)) (now (b .entry)) at r ⌝ }
 {
     let depth = path.depth;
-    let rows = path.rows;
-    let row = rows[depth - 1];
+    let row = path.rows[depth - 1];
     match entry {
         Entry::Unknown => Agreed::Lost,
         Entry::VariableLength(_, _, _) => Agreed::Lost,
@@ -324,12 +323,19 @@ fn agree_members(
             b,
             at + offset as usize,
         );
-        let Agreed::Together(spot) = got else {
-            return got;
-        };
-        r = spot.row;
-        p = spot.place;
-        left -= 1;
+        match got {
+            Agreed::Lost => {
+                return Agreed::Lost;
+            }
+            Agreed::Apart => {
+                return Agreed::Apart;
+            }
+            Agreed::Together(spot) => {
+                r = spot.row;
+                p = spot.place;
+                left -= 1;
+            }
+        }
     }
     Agreed::Together(Spot { row: r, place: p })
 }

@@ -4,7 +4,7 @@ use Rattle.format.specs.Table.{typeAt, membersAt}
 use Rattle.rows.proofs.Decode.{enumeration-inside, array-piece, compound-next, leaf-behind, leaf-next, named-behind, named-next}
 use Rattle.table.specs.Path.{topOf}
 use Rattle.compare.proofs.Types.{type-unknown, type-variableLength, type-leaf, type-entry, type-compound, array-lost, array-field, array-entries, array-row, base-deeper, standing-entered, read-entered, member-leaf, member-enumeration, member-entered}
-use Rattle.compare.proofs.Inside.{Leads, leads-same, members-end, members-deep, members-unnamed, members-past, members-stop, members-next, Going, entries-end, entries-start, entries-past, entries-stop, entries-next}
+use Rattle.compare.proofs.Inside.{Leads, leads-same, members-end, members-deep, members-unnamed, members-past, members-lost, members-apart, members-next, Going, entries-end, entries-start, entries-past, entries-stop, entries-next}
 use borrow.Fn.Kinds.{In}
 use borrow.Fn.PlainCycle.{Measures, is, falls, and}
 use Rattle.compare.proofs.agree_array.Reads as agree-array
@@ -196,13 +196,16 @@ agree-members-add-agree-member-2 : (t : ℕ) → agree-members-lts.Need-add-agre
 agree-members-add-agree-member-2 t c = search (named-next, named-behind, needs)
 
 agree-members-returns-4 : (t : ℕ) → agree-members-lts.Need-returns-4 (agree-members-calls t) (agree-members-at t) agree-members.Post agree-members-Inv-loop agree-members-μ-loop
-agree-members-returns-4 t c = search members-stop
+agree-members-returns-4 t c = search members-lost
+
+agree-members-returns-5 : (t : ℕ) → agree-members-lts.Need-returns-5 (agree-members-calls t) (agree-members-at t) agree-members.Post agree-members-Inv-loop agree-members-μ-loop
+agree-members-returns-5 t c = search members-apart
 
 agree-members-loop-again : (t : ℕ) → agree-members-lts.Need-loop-again (agree-members-calls t) (agree-members-at t) agree-members.Post agree-members-Inv-loop agree-members-μ-loop
 agree-members-loop-again t c = search members-next
 
-agree-members-returns-5 : (t : ℕ) → agree-members-lts.Need-returns-5 (agree-members-calls t) (agree-members-at t) agree-members.Post agree-members-Inv-loop agree-members-μ-loop
-agree-members-returns-5 t c = search members-end
+agree-members-returns-6 : (t : ℕ) → agree-members-lts.Need-returns-6 (agree-members-calls t) (agree-members-at t) agree-members.Post agree-members-Inv-loop agree-members-μ-loop
+agree-members-returns-6 t c = search members-end
 
 agree-type-add-t25 : (t : ℕ) → agree-type-lts.Need-add-t25 (agree-type-calls t) (agree-type-at t) agree-type.Post
 agree-type-add-t25 t c = search (leaf-next, leaf-behind, needs)
@@ -322,19 +325,22 @@ pub +agree-array+agree-entries+agree-member+agree-members+agree-type-spec :
     (λ c. search needs)  -- agree-members-cast-agree-member-2
     (λ c. search needs)  -- agree-members-add-agree-member-3
     (λ c κs. search needs)  -- agree-members-agree-member-requires
-    (λ c. search needs)  -- agree-members-enum-known-got
+    (λ c. search needs)  -- agree-members-enum-told-2
     (agree-members-returns-4 t)
+    (λ c. search needs)  -- agree-members-enum-told-3
+    (agree-members-returns-5 t)
+    (λ c. search needs)  -- agree-members-enum-known-got
     (λ c. search needs)  -- agree-members-sub-left
     (λ c. search needs)  -- agree-members-loop-less
     (agree-members-loop-again t)
-    (agree-members-returns-5 t))
+    (agree-members-returns-6 t))
     λ t. agree-type-lts.spec
     (agree-type-calls t)
     (agree-type-at t)
     agree-type.Post
     (λ c. search needs)  -- agree-type-sub-row
     (λ c. search needs)  -- agree-type-mul-row
-    (λ c. search needs)  -- agree-type-array-read-row
+    (λ c. search needs)  -- agree-type-element-copy-out-row
     (λ c. search needs)  -- agree-type-enum-told
     (λ c. search needs)  -- agree-type-enum-told-2
     (λ c. search needs)  -- agree-type-enum-known-entry
