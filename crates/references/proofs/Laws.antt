@@ -9,7 +9,7 @@ use native.Mathlib.Omega.{arith}
 use lib.ListN.{length, getD, take, drop, set}
 use lib.Seq.{sets, drop-cons, take-all}
 use lib.Dec.{leb}
-use mir.Syntax.{w64}
+use mir.Syntax.{w8, w64}
 use mir.Val.{Fits}
 use borrow.Author.Tests.{lt-ltb, le-ltb, le-leb, lt-leb}
 use Rattle.refusal.specs.declared.Refusal.the-variants.{SlotOutside, NoRoom}
@@ -18,6 +18,7 @@ use Rattle.format.specs.Outcome.{Outcome, gives, refuses, unless, needed, outco
 use Rattle.format.specs.Slots.{References as Found·References, shifted, entries, someOutside, recordSize, recordCount, valuesAt, referencePlaces, referencing}
 use Rattle.format.proofs.Slots.{length-shifted, length-entries, length-places, length-values, value-at, getD-shifted, slot-inside}
 use Rattle.format.proofs.Lists.{sets-more, sets-front, sets-take}
+use Rattle.primitives.proofs.Laws.{byte-more}
 use Rattle.references.specs.References.{ReferencesAre, referencesNumber, referencesValues, answerOf, placesAfter, valuesAfter}
 use Rattle.references.specs.declared.References.{References}
 use Rattle.references.specs.declared.References.the-variants.{Found, Refused}
@@ -64,7 +65,7 @@ module _ (a b : ℕ) (h : b ≡ 0 → ⊥) where
 -- ---- numbers of 8 bytes
 
 -- fewer than eight bytes leave room for one more
-pub byte-room : (k : ℕ) → k < 8 → 256 ^ k ≤ 72057594037927936
+byte-room : (k : ℕ) → k < 8 → 256 ^ k ≤ 72057594037927936
 byte-room zero h = omega arith
 byte-room (suc zero) h = omega arith
 byte-room (suc (suc zero)) h = omega arith
@@ -74,6 +75,21 @@ byte-room (suc (suc (suc (suc (suc zero))))) h = omega arith
 byte-room (suc (suc (suc (suc (suc (suc zero)))))) h = omega arith
 byte-room (suc (suc (suc (suc (suc (suc (suc zero))))))) h = omega arith
 byte-room (suc (suc (suc (suc (suc (suc (suc (suc k)))))))) h = absurd (omega arith)
+
+-- a byte, and a number of fewer than eight bytes before it
+module _ (block : List ℕ) (j : ℕ) (bytes : (i : ℕ) → Fits w8 (getD block i 0)) where
+  pub byte-fits : Fits w64 (getD block j 0)
+  byte-fits = record { fits = omega (arith, bytes j) }
+
+  module _ (k v : ℕ) (h : k < 8) (l : v < 256 ^ k) where
+    pub number-fits : Fits w64 (256 * v + getD block j 0)
+    number-fits = record { fits = omega (arith, bytes j, byte-room k h) }
+
+    pub number-below : 256 * v + getD block j 0 < 256 ^ (k + 1)
+    number-below = byte-more k v (getD block j 0) (omega (arith, bytes j)) l
+
+pub shifted-fits : (k v : ℕ) → k < 8 → v < 256 ^ k → Fits w64 (256 * v)
+shifted-fits k v h l = record { fits = omega (arith, byte-room k h) }
 
 -- ---- the references of one record
 

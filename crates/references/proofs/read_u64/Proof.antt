@@ -1,10 +1,11 @@
 use Prim.Native.Nat.{_+_, _-_, _^_, _≤_, _<_}
 use mathlib.Core.Path.{_≡_, refl}
 use native.Mathlib.Omega.{arith}
-use lib.ListN.{take, drop, getD}
+use lib.ListN.{take, drop}
 use Rattle.format.specs.Bytes.{numberFrom}
-use Rattle.primitives.proofs.Laws.{number-more, number-ended, byte-more}
-use Rattle.references.proofs.Laws.{byte-room}
+use Rattle.primitives.proofs.Laws.{number-more, number-ended}
+use Rattle.references.proofs.Laws.{shifted-fits, byte-fits, number-fits, number-below}
+use borrow.Author.Needs.{needs}
 use Rattle.references.proofs.read_u64.Statement.{statement}
 use Rattle.references.proofs.read_u64.Tie as tie
 
@@ -19,31 +20,16 @@ unfolding numberFrom
 loop-holds c = (omega arith, (omega arith, refl))
 
 mul-value : tie.Need-mul-value Inv-loop μ-loop
-mul-value c = omega (arith, byte-room (c .before .loop .i) (omega arith))
+mul-value c = search (shifted-fits, needs)
 
 cast-value : tie.Need-cast-value Inv-loop μ-loop
-cast-value c =
-    let a = c .before .before .before .args in
-    let l = c .before .before .loop in
-    omega (arith, c .shared-slice-known .given (a .place + (8 - (l .i + 1))))
+cast-value c = search (byte-fits, needs)
 
 add-value-2 : tie.Need-add-value-2 Inv-loop μ-loop
-add-value-2 c =
-    let a = c .before .before .before .args in
-    let l = c .before .before .loop in
-    omega (arith, c .shared-slice-known .given (a .place + (8 - (l .i + 1))), byte-room (l .i) (omega arith))
+add-value-2 c = search (number-fits, needs)
 
 loop-again : tie.Need-loop-again Inv-loop μ-loop
-loop-again c =
-    let a = c .before .before .before .args in
-    let l = c .before .before .loop in
-    let x = getD (a .block .now) (a .place + (8 - (l .i + 1))) 0 in (
-      omega arith,
-      (
-        byte-more (l .i) (l .value) x (omega (arith, c .shared-slice-known .given (a .place + (8 - (l .i + 1))))) (l .inv .1 .0),
-        number-more (a .block .now) (a .place) 8 (l .i) (l .value) (omega arith) (omega arith) (l .inv .1 .1),
-      ),
-    )
+loop-again c = search (number-below, number-more, needs)
 
 returns : tie.Need-returns Inv-loop μ-loop
 returns c =
