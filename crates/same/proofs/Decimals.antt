@@ -20,34 +20,38 @@ unfolding decimalOf
 some-digits [] h = absurd (h refl)
 some-digits (b ∷ s) h = refl
 
-pub all-digits : (s : List ℕ) (v i : ℕ) → length s ≤ i → Number v ≡ decimalFrom v (drop i s)
+none-left : (s : List ℕ) (v i : ℕ) → length s ≤ i → decimalFrom v (drop i s) ≡ Number v
 unfolding decimalFrom
-all-digits [] v zero h = refl
-all-digits [] v (suc i) h = refl
-all-digits (b ∷ s) v zero h = absurd (omega arith)
-all-digits (b ∷ s) v (suc i) h = all-digits s v i (omega arith)
+none-left [] v zero h = refl
+none-left [] v (suc i) h = refl
+none-left (b ∷ s) v zero h = absurd (omega arith)
+none-left (b ∷ s) v (suc i) h = none-left s v i (omega arith)
 
-module _ (s : List ℕ) (v i b : ℕ) (h : i < length s) (e : b ≡ getD s i 0) where
+pub all-digits : (s : List ℕ) (v i : ℕ) → decimalOf s ≡ decimalFrom v (drop i s) → length s ≤ i → Number v ≡ decimalOf s
+all-digits s v i w h = sym (w ∙ none-left s v i h)
+
+-- the digits before i write v: what byte i makes of it
+module _ (s : List ℕ) (v i b : ℕ) (w : decimalOf s ≡ decimalFrom v (drop i s)) (h : i < length s) (e : b ≡ getD s i 0) where
   here : decimalFrom v (drop i s) ≡ decimalFrom v (b ∷ drop (suc i) s)
   here = ap (decimalFrom v) (drop-cons s i 0 h ∙ ap (λ (x : ℕ). x ∷ drop (suc i) s) (sym e))
 
-  pub below-digits : b < 48 → NoNumber ≡ decimalFrom v (drop i s)
+  pub below-digits : b < 48 → NoNumber ≡ decimalOf s
   unfolding decimalFrom isDigit
-  below-digits l = sym (here ∙ rw (lt-leb 48 b l))
+  below-digits l = sym (w ∙ here ∙ rw (lt-leb 48 b l))
 
-  pub above-digits : 48 ≤ b → 57 < b → NoNumber ≡ decimalFrom v (drop i s)
+  pub above-digits : 48 ≤ b → 57 < b → NoNumber ≡ decimalOf s
   unfolding decimalFrom isDigit
-  above-digits k l = sym (here ∙ rw (le-leb 48 b k, lt-leb b 57 l))
+  above-digits k l = sym (w ∙ here ∙ rw (le-leb 48 b k, lt-leb b 57 l))
 
   module _ (k : 48 ≤ b) (l : b ≤ 57) where
-    pub too-large : (18446744073709551615 - (b - 48)) / 10 < v → NoNumber ≡ decimalFrom v (drop i s)
+    pub too-large : (18446744073709551615 - (b - 48)) / 10 < v → NoNumber ≡ decimalOf s
     unfolding decimalFrom isDigit
     too-large g =
         let m : 18446744073709551616 ≤ 10 * v + (b - 48) = omega arith in
-        sym (here ∙ rw (le-leb 48 b k, le-leb b 57 l, le-ltb (10 * v + (b - 48)) 18446744073709551616 m))
+        sym (w ∙ here ∙ rw (le-leb 48 b k, le-leb b 57 l, le-ltb (10 * v + (b - 48)) 18446744073709551616 m))
 
-    pub next-digit : v ≤ (18446744073709551615 - (b - 48)) / 10 → decimalFrom v (drop i s) ≡ decimalFrom (10 * v + (b - 48)) (drop (i + 1) s)
+    pub next-digit : v ≤ (18446744073709551615 - (b - 48)) / 10 → decimalOf s ≡ decimalFrom (10 * v + (b - 48)) (drop (i + 1) s)
     unfolding decimalFrom isDigit
     next-digit g =
         let m : 10 * v + (b - 48) < 18446744073709551616 = omega arith in
-        here ∙ rw (le-leb 48 b k, le-leb b 57 l, lt-ltb (10 * v + (b - 48)) 18446744073709551616 m, add-one)
+        w ∙ here ∙ rw (le-leb 48 b k, le-leb b 57 l, lt-ltb (10 * v + (b - 48)) 18446744073709551616 m, add-one)

@@ -1,8 +1,8 @@
 use Prim.Native.Nat.{ℕ}
-use mathlib.Core.Path.{_≡_, subst}
+use mathlib.Core.Path.{_≡_}
 use native.Mathlib.Omega.{arith}
 use borrow.Author.Needs.{needs}
-use Rattle.io.specs.Counts.{Counts}
+use Rattle.same.proofs.Reading.{bytes-read}
 use Rattle.same.proofs.files.read_whole.Statement.{statement}
 use Rattle.same.proofs.files.read_whole.Tie as tie
 
@@ -19,9 +19,7 @@ returns-4 : tie.Need-returns-4
 returns-4 c = record { within = λ n e. let z : _≡_ {A = ℕ} 0 1 = cc in absurd (omega arith) }
 
 returns-5 : tie.Need-returns-5
-returns-5 c =
-    let f = c .before .before .before .before .before .before .before .before .read-full in
-    record { within = λ n e. let q : f .result ≡ n = cc in subst (λ (m : ℕ). Counts m (f .last .1 .0)) q (f .ensures) }
+returns-5 c = search bytes-read
 
 pub read-whole-spec : {M : Type 1} → statement M
 read-whole-spec =

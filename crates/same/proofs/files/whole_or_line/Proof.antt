@@ -1,9 +1,10 @@
 use borrow.Author.Needs.{needs}
+use Rattle.same.proofs.Reading.{bytes-within}
 use Rattle.same.proofs.files.whole_or_line.Statement.{statement}
 use Rattle.same.proofs.files.whole_or_line.Tie as tie
 
 returns-2 : tie.Need-returns-2
-returns-2 c = c .before .before .before .before .before .before .read-whole .ensures .within _ (c .before .before .whole .given .1)
+returns-2 c = search bytes-within
 
 pub whole-or-line-spec : {M : Type 1} → statement M
 whole-or-line-spec =

@@ -1,5 +1,5 @@
 use Prim.Native.Nat.{_-_, _≤_}
-use mathlib.Core.Path.{_≡_, sym, _∙_}
+use mathlib.Core.Path.{_≡_}
 use native.Mathlib.Omega.{arith}
 use borrow.Author.Needs.{needs}
 use lib.ListN.{length, drop}
@@ -21,29 +21,19 @@ loop-holds : tie.Need-loop-holds Inv-loop μ-loop
 loop-holds c = (omega arith, some-digits _ (c .if1 .left))
 
 returns-2 : tie.Need-returns-2 Inv-loop μ-loop
-returns-2 c =
-    let l = c .before .before .before .before .loop in
-    below-digits _ (l .value) (l .i) (c .before .wide .result) (omega arith) (c .before .wide .ensures) (omega arith) ∙ sym (l .inv .1)
+returns-2 c = search below-digits
 
 returns-3 : tie.Need-returns-3 Inv-loop μ-loop
-returns-3 c =
-    let l = c .before .before .before .before .before .loop in
-    above-digits _ (l .value) (l .i) (c .before .before .wide .result) (omega arith) (c .before .before .wide .ensures) (omega arith) (omega arith) ∙ sym (l .inv .1)
+returns-3 c = search above-digits
 
 returns-4 : tie.Need-returns-4 Inv-loop μ-loop
-returns-4 c =
-    let l = c .before .before .before .before .before .before .loop in
-    too-large _ (l .value) (l .i) (c .before .before .before .wide .result) (omega arith) (c .before .before .before .wide .ensures) (omega arith) (omega arith) (omega arith) ∙ sym (l .inv .1)
+returns-4 c = search too-large
 
 loop-again : tie.Need-loop-again Inv-loop μ-loop
-loop-again c =
-    let l = c .before .before .before .before .before .before .loop in
-    (omega arith, l .inv .1 ∙ next-digit _ (l .value) (l .i) (c .before .before .before .wide .result) (omega arith) (c .before .before .before .wide .ensures) (omega arith) (omega arith) (omega arith))
+loop-again c = (omega arith, search next-digit)
 
 returns-5 : tie.Need-returns-5 Inv-loop μ-loop
-returns-5 c =
-    let l = c .before .loop in
-    all-digits _ (l .value) (l .i) (omega arith) ∙ sym (l .inv .1)
+returns-5 c = search all-digits
 
 pub decimal-spec : {M : Type 1} → statement M
 decimal-spec =
