@@ -19,9 +19,21 @@ pub tells-as : {A : Type 0} (number : A → ℕ) (values : A → List ℕ) {x y 
 tells-as number values e t = rw e t
 
 -- what is returned and put into `first` and `second`, by what the definition's answer has for number and values
+module _ {n : ℕ} {vs : List ℕ} {a : Answer} (t : Tells n vs a) where
+  pub told-number : {m : ℕ} → n ≡ m → a .number ≡ m
+  told-number k = t .number-is ∙ k
+
+  module _ {ws : List ℕ} (h : vs ≡ ws) where
+    pub told-first : a .first ≡ getD ws 0 0
+    told-first = t .first-is ∙ ap (λ (l : List ℕ). getD l 0 0) h
+
+    pub told-second : a .second ≡ getD ws 1 0
+    told-second = t .second-is ∙ ap (λ (l : List ℕ). getD l 1 0) h
+
+-- all three
 pub told : {n m : ℕ} {vs ws : List ℕ} {a : Answer} → Tells n vs a → n ≡ m → vs ≡ ws
     → (a .number ≡ m) × ((a .first ≡ getD ws 0 0) × (a .second ≡ getD ws 1 0))
-told t k h = (t .number-is ∙ k, (t .first-is ∙ ap (λ (l : List ℕ). getD l 0 0) h, t .second-is ∙ ap (λ (l : List ℕ). getD l 1 0) h))
+told t k h = (told-number t k, (told-first t h, told-second t h))
 
 -- the same, with what holds of the lent output
 pub told-with : {n m : ℕ} {vs ws : List ℕ} {a : Answer} {B : Type 0} → Tells n vs a → n ≡ m → vs ≡ ws → B

@@ -1,10 +1,10 @@
-use Rattle.abi.proofs.Answers.{told-with}
+use Rattle.abi.proofs.Answers.{told-number, told-first, told-second}
 use borrow.Author.Needs.{needs}
 use Rattle.abi.proofs.datatype_read.Statement.{statement}
 use Rattle.abi.proofs.datatype_read.Tie as tie
 
 returns : tie.Need-returns
-returns c = let r = c .before .before .before .before .before .read .ensures in told-with (c .of-reading .ensures) (r .number) (r .values) (r .table-is, r .pool-is)
+returns c = (search told-number, (search told-first, (search told-second, (search, search))))
 
 pub datatype-read-spec : {M : Type 1} → statement M
 datatype-read-spec =

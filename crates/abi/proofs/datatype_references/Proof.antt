@@ -1,10 +1,10 @@
-use Rattle.abi.proofs.Answers.{told-with}
+use Rattle.abi.proofs.Answers.{told-number, told-first, told-second}
 use borrow.Author.Needs.{needs}
 use Rattle.abi.proofs.datatype_references.Statement.{statement}
 use Rattle.abi.proofs.datatype_references.Tie as tie
 
 returns : tie.Need-returns
-returns c = let r = c .before .before .before .before .before .stored-object-references .ensures in told-with (c .of-references .ensures) (r .answer-number) (r .answer-values) (r .places-are, r .values-are)
+returns c = (search told-number, (search told-first, (search told-second, (search, search))))
 
 pub datatype-references-spec : {M : Type 1} → statement M
 datatype-references-spec =
