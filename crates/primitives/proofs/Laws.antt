@@ -35,6 +35,11 @@ number-more d offset width i value h g e =
     = number-step d (offset + (width - (i + 1))) i (omega arith) ∙ ap (λ (k : ℕ). getD d (offset + (width - (i + 1))) 0 + 256 * numberFrom (take i (drop k d))) j in
     omega arith
 
+-- the same, of a byte that a call has given
+pub number-with : (d : List ℕ) (offset width i value : ℕ) {b : ℕ} → b ≡ getD d (offset + (width - (i + 1))) 0 → i < width → offset + width ≤ length d
+    → value ≡ numberFrom (take i (drop (offset + (width - i)) d)) → 256 * value + b ≡ numberFrom (take (i + 1) (drop (offset + (width - (i + 1))) d))
+number-with d offset width i value q h g e = rw q (number-more d offset width i value h g e)
+
 pub number-ended : (d : List ℕ) (offset width i value : ℕ) → i ≡ width → value ≡ numberFrom (take i (drop (offset + (width - i)) d)) → value ≡ numberFrom (take width (drop offset d))
 number-ended d offset width i value h e =
     let z : offset + (width - i) ≡ offset = omega arith in

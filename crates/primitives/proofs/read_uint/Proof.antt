@@ -4,7 +4,7 @@ use native.Mathlib.Omega.{arith}
 use lib.ListN.{take, drop}
 use borrow.Author.Needs.{needs}
 use Rattle.format.specs.Bytes.{numberFrom}
-use Rattle.primitives.proofs.Laws.{number-more, number-ended, byte-room, byte-more}
+use Rattle.primitives.proofs.Laws.{number-with, number-ended, byte-room, byte-more}
 use Rattle.primitives.proofs.read_uint.Statement.{statement}
 use Rattle.primitives.proofs.read_uint.Tie as tie
 
@@ -25,15 +25,7 @@ add-value : tie.Need-add-value Inv-loop μ-loop
 add-value c = omega (arith, byte-room (c .before .before .before .loop .i) (omega arith))
 
 loop-again : tie.Need-loop-again Inv-loop μ-loop
-loop-again c =
-    let a = c .before .before .before .before .before .args in
-    let l = c .before .before .before .loop in (
-      omega arith,
-      (
-        byte-more (l .i) (l .value) (c .wide32 .result) (c .wide32 .ensures .1) (l .inv .1 .0),
-        rw (c .wide32 .ensures .0) (number-more (a .«data» .now) (a .offset) (a .width) (l .i) (l .value) (omega arith) (omega arith) (l .inv .1 .1)),
-      ),
-    )
+loop-again c = search (byte-more, number-with, arith)
 
 returns : tie.Need-returns Inv-loop μ-loop
 returns c =
