@@ -102,7 +102,7 @@ read-members-returns-2 : (t : ℕ) → read-members-lts.Need-returns-2 (read-mem
 read-members-returns-2 t c = search members-refused
 
 read-members-add-at : (t : ℕ) → read-members-lts.Need-add-at (read-members-calls t) (read-members-at t) read-members.Post read-members-Inv-loop read-members-μ-loop
-read-members-add-at t c = search entered-behind
+read-members-add-at t c = search (entered-behind, needs)
 
 read-members-add-i : (t : ℕ) → read-members-lts.Need-add-i (read-members-calls t) (read-members-at t) read-members.Post read-members-Inv-loop read-members-μ-loop
 read-members-add-i t c = search entered-next

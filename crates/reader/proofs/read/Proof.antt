@@ -4,13 +4,13 @@ use Rattle.reader.proofs.read.Statement.{statement}
 use Rattle.reader.proofs.read.Tie as tie
 
 mul-zero-words : tie.Need-mul-zero-words
-mul-zero-words c = search rows-fit
+mul-zero-words c = search (rows-fit, needs)
 
 zero-words-requires : tie.Need-zero-words-requires
-zero-words-requires c κs = search rows-held
+zero-words-requires c κs = search (rows-held, needs)
 
 zero-bytes-requires : tie.Need-zero-bytes-requires
-zero-bytes-requires c κs = search pool-held
+zero-bytes-requires c κs = search (pool-held, needs)
 
 returns : tie.Need-returns
 returns c = search whole-done
