@@ -1,5 +1,5 @@
 use native.Mathlib.Omega.{arith}
-use Prim.Native.Nat.{_-_, _+_}
+use Prim.Native.Nat.{_-_}
 use lib.ListN.{take, drop}
 use Rattle.listing.specs.Text.{hexadecimal}
 use Rattle.listing.proofs.Pieces.{PutFirst, byte-high, hex-begun, hex-next, hex-ended}
