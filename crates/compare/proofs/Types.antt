@@ -21,7 +21,6 @@ use Rattle.format.proofs.TableSteps.{then-found}
 use Rattle.rows.specs.Entries.{entryAt, fromEntry, EntryInside, EntryIfKnown}
 use Rattle.rows.specs.declared.Entry.{Entry}
 use Rattle.rows.specs.declared.Entry.the-variants.{Leaf, Compound, Enumeration, VariableLength, Array, Unknown}
-use Rattle.rows.proofs.Decode.{array-inside}
 use Rattle.rows.proofs.Known.{claim-of-type}
 use Rattle.table.specs.Survey.{surveyOf, spotOf, enumSpotOf}
 use Rattle.table.specs.declared.Survey.{Survey}
@@ -264,10 +263,6 @@ module _ (table pool : List ℕ) (depth row place k : ℕ) {y : Based} (g : Base
     base-deeper = omega (arith, base-is .deep)
 
 -- ---- one level further down
-
--- the row of an array lies in the table
-pub array-row : (w b r p : ℕ) {e : Entry} {k : ℕ} → EntryInside e w b r p → e ≡ Array k → r * 16 + 16 ≤ w
-array-row w b r p h i = array-inside w b r p h i .0
 
 pub standing-entered : {a b : List ℕ} {at depth : ℕ} (inner : Path) → inner .depth ≡ depth + 1 → depth < 32 → at ≤ length a → length b ≡ length a → Standing inner a b at
 standing-entered inner e h s l = record { deep = omega arith; shallow = omega arith; begins = s; lengths = l }

@@ -7,6 +7,8 @@ use native.Mathlib.Omega.{arith}
 use native.Mathlib.Nat.{zero-add, mod-eq-of-lt, div-eq-of-lt, add-mul-mod-self-left, add-mul-div-left, pow-suc}
 use lib.ListN.{length, getD, take, drop, length-replicate, length-append, length-take, length-drop, take-append-drop}
 use lib.Seq.{take-at, drop-at, take-take}
+use mir.Syntax.{w8, w32}
+use mir.Val.{Fits}
 use Rattle.format.specs.Bytes.{littleEndian, numberFrom, AllBytes, zeros, padded, firstNul, oneMore, totalWidth, packNumbers, unpackNumbers, dimensionBytes, dimensionsFrom}
 use Rattle.format.proofs.Facts.{Fit, NoNul, AllBelow}
 use Rattle.format.proofs.Lists.{drop-take}
@@ -173,3 +175,10 @@ pub length-dimensionsFrom : (k : ℕ) (s : List ℕ) → length (dimensionsFrom 
 unfolding dimensionsFrom
 length-dimensionsFrom zero s = refl
 length-dimensionsFrom (suc k) s = ap suc (length-dimensionsFrom k (drop 4 s))
+
+-- a byte or a word of a slice, by what is known of each
+pub byte-below : (l : List ℕ) (i : ℕ) → ((j : ℕ) → Fits w8 (getD l j 0)) → getD l i 0 < 256
+byte-below l i h = h i .fits
+
+pub word-below : (l : List ℕ) (i : ℕ) → ((j : ℕ) → Fits w32 (getD l j 0)) → getD l i 0 < 4294967296
+word-below l i h = h i .fits

@@ -3,10 +3,8 @@ use mathlib.Core.Path.{_≡_, refl, sym, ap, _∙_}
 use mathlib.Core.List.{List, [], _∷_, _++_}
 use Prim.Native.Nat.{ℕ, suc, _+_, _-_, _*_, _<_, _≤_}
 use native.Mathlib.Omega.{arith}
-use lib.ListN.{length, getD, set, take, drop, length-drop}
+use lib.ListN.{length, set, take, drop, length-drop}
 use lib.Seq.{sets, length-sets, set-comm}
-use mir.Syntax.{w8}
-use mir.Val.{Fits}
 use Rattle.refusal.specs.declared.Refusal.{Refusal}
 use Rattle.format.specs.Datatype.{Datatype, typeSize, rowCount, poolBytes}
 use Rattle.format.specs.Reading.{Answer, refused}
@@ -81,8 +79,17 @@ one-row tree w b {used = used} {pooled = pooled} {s = s} {t = t} {p = p} is ew e
 
 -- ---- facts in the form in which the code has or needs them
 
-pub byte-below : (d : List ℕ) (i : ℕ) → ((j : ℕ) → Fits w8 (getD d j 0)) → getD d i 0 < 256
-byte-below d i h = h i .fits
+-- that a table and a pool are ready is no matter of the version limit
+pub ready-any-version : {lim : Limits} {used pooled : ℕ} {t p : List ℕ} (lim′ : Limits) → Ready lim used pooled t p → lim′ .rows ≡ lim .rows → lim′ .pool ≡ lim .pool → Ready lim′ used pooled t p
+ready-any-version lim′ k a b =
+    record {
+      filled = omega arith;
+      few = omega arith;
+      table = omega arith;
+      room = omega arith;
+      small = omega arith;
+      pool = omega arith;
+    }
 
 -- a place in the part of a message from `from` on
 pub part-near : (d : List ℕ) {from k : ℕ} → from ≤ length d → k ≤ length (take (length d - from) (drop from d)) + 7 → from + k ≤ length d + 7

@@ -7,7 +7,7 @@ use native.Mathlib.Omega.{arith}
 use native.Mathlib.Nat.{add-zero}
 use lib.ListN.{length, getD, take, drop}
 use lib.Dec.{leb}
-use mir.Syntax.{w8, w32, w64}
+use mir.Syntax.{w64}
 use mir.Val.{Fits}
 use borrow.Author.Tests.{leb-true}
 use Rattle.format.specs.Datatype.{Datatype, member}
@@ -165,7 +165,8 @@ module _ {m : Member} {x y : ℕ} (w b r p : ℕ) (i : m ≡ Named x y) where
   unfolding MemberInside enumMemberNameLength
   enumNamed-inside h = rw i at h
 
--- The same in the form of a need: the number of the next row and the place behind a piece do not wrap, and a piece lies in the pool.
+-- The same in the form of a need: the number of the next row and the place behind a piece do not wrap, a row lies in the table and a piece in
+-- the pool.
 module _ {e : Entry} (w b r p : ℕ) (h : EntryInside e w b r p) where
   pub leaf-next : {c n l x : ℕ} → e ≡ Leaf c n l x → w < 18446744073709551616 → Fits w64 (r + 1)
   leaf-next i k = let j = leaf-inside w b r p h i in record { fits = omega arith }
@@ -188,6 +189,12 @@ module _ {e : Entry} (w b r p : ℕ) (h : EntryInside e w b r p) where
   pub array-behind : {k : ℕ} → e ≡ Array k → b < 18446744073709551616 → Fits w64 (p + k * 4)
   array-behind i k = let j = array-inside w b r p h i in record { fits = omega arith }
 
+  pub enumeration-row : {n k : ℕ} → e ≡ Enumeration n k → r * 16 + 16 ≤ w
+  enumeration-row i = enumeration-inside w b r p h i
+
+  pub array-row : {k : ℕ} → e ≡ Array k → r * 16 + 16 ≤ w
+  array-row i = array-inside w b r p h i .0
+
   pub array-piece : {k : ℕ} → e ≡ Array k → p + k * 4 ≤ b
   array-piece i = array-inside w b r p h i .1
 
@@ -209,10 +216,3 @@ module _ {m : Member} {x y : ℕ} (w b r p : ℕ) (i : m ≡ Named x y) where
 
   pub enumNamed-piece : MemberInside m w b r p (enumMemberNameLength m) → p + x ≤ b
   enumNamed-piece h = enumNamed-inside w b r p i h .1
-
--- a word of a table, and a byte of a pool, by what is known of all of them
-pub word-below : (table : List ℕ) (i : ℕ) → ((j : ℕ) → Fits w32 (getD table j 0)) → getD table i 0 < 4294967296
-word-below table i h = h i .fits
-
-pub byte-below : (pool : List ℕ) (i : ℕ) → ((j : ℕ) → Fits w8 (getD pool j 0)) → getD pool i 0 < 256
-byte-below pool i h = h i .fits

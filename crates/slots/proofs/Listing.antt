@@ -16,10 +16,10 @@ use Rattle.format.specs.Slots.{isSlot, shifted, entries, slots, memberSlots, ho
 use Rattle.format.specs.Table.{Found, found, bad, Walk, andThen, typeAt, membersAt}
 use Rattle.format.proofs.Booleans.{or-neither}
 use Rattle.format.proofs.Slots.{length-slots, first-zero-size, no-slot-no-reference, or-else-none}
-use Rattle.rows.specs.Entries.{entryAt, leafType, fromEntry, EntryInside}
+use Rattle.rows.specs.Entries.{entryAt, leafType, fromEntry}
 use Rattle.rows.specs.declared.Entry.{Entry}
 use Rattle.rows.specs.declared.Entry.the-variants.{Leaf, Compound, Enumeration, VariableLength, Array, Unknown}
-use Rattle.rows.proofs.Decode.{typeAt-entry, array-inside}
+use Rattle.rows.proofs.Decode.{typeAt-entry}
 use Rattle.rows.proofs.Leaves.{leaf-law}
 use Rattle.table.specs.Survey.{surveyOf}
 use Rattle.table.specs.declared.Survey.{Survey}
@@ -230,10 +230,6 @@ module _ (table pool : List ℕ) (depth row place base : ℕ) (out : List ℕ) (
   type-array x out′ h v = rw (type-as h) v
 
 -- ---- an array
-
--- its row lies in the table
-pub array-row : (w b r p : ℕ) {e : Entry} {k : ℕ} → EntryInside e w b r p → e ≡ Array k → r * 16 + 16 ≤ w
-array-row w b r p h i = array-inside w b r p h i .0
 
 module _ (table pool : List ℕ) (depth row place k base : ℕ) (out : List ℕ) (at : ℕ) where
   module _ {y : Surveyed} (g : y ≡ surveyOf (typeAt (32 - depth) table pool (row + 1) (place + k * 4))) where

@@ -1,9 +1,9 @@
 use Prim.Native.Nat.{ℕ, _<_, _+_, _-_, _*_}
 use borrow.Author.Needs.{needs}
 use Rattle.format.specs.Table.{typeAt, membersAt}
-use Rattle.rows.proofs.Decode.{enumeration-inside, array-piece, compound-next, leaf-behind, leaf-next, named-behind, named-next}
+use Rattle.rows.proofs.Decode.{enumeration-inside, array-piece, array-row, compound-next, leaf-behind, leaf-next, named-behind, named-next}
 use Rattle.table.specs.Path.{topOf}
-use Rattle.compare.proofs.Types.{type-unknown, type-variableLength, type-leaf, type-entry, type-compound, array-lost, array-field, array-entries, array-row, base-deeper, standing-entered, read-entered, member-leaf, member-enumeration, member-entered}
+use Rattle.compare.proofs.Types.{type-unknown, type-variableLength, type-leaf, type-entry, type-compound, array-lost, array-field, array-entries, base-deeper, standing-entered, read-entered, member-leaf, member-enumeration, member-entered}
 use Rattle.compare.proofs.Inside.{Leads, leads-same, members-end, members-deep, members-unnamed, members-past, members-lost, members-apart, members-next, Going, entries-end, entries-start, entries-past, entries-stop, entries-next}
 use borrow.Fn.Kinds.{In}
 use borrow.Fn.PlainCycle.{Measures, is, falls, and}

@@ -3,7 +3,7 @@ use mathlib.Core.Path.{_≡_}
 use native.Mathlib.Omega.{arith}
 use borrow.Author.Needs.{needs}
 use Rattle.format.specs.Table.{typeAt, membersAt}
-use Rattle.rows.proofs.Decode.{leaf-inside, enumeration-inside, array-piece, array-behind, array-next, compound-next, named-behind, named-next, named-piece, variableLength-next}
+use Rattle.rows.proofs.Decode.{leaf-inside, enumeration-row, array-piece, array-behind, array-next, compound-next, named-behind, named-next, named-piece, variableLength-next}
 use Rattle.measure.specs.Measure.{measureIn}
 use Rattle.measure.proofs.Measures.{gathered, type-none, type-unknown, type-leaf, type-compound-lost, type-compound, type-enumeration, enumeration-unbased, enumeration-unlisted, enumeration-listed, type-variableLength-lost, type-variableLength, type-array-lost, type-array, members-start, members-unnamed, members-lost, members-next, member-short, members-end}
 use Prim.Native.Nat.{ℕ, _<_}
@@ -171,7 +171,7 @@ measure-type-add-measure-members : (t : ℕ) → measure-type-lts.Need-add-measu
 measure-type-add-measure-members t c = search (compound-next, needs)
 
 measure-type-measure-enumeration-requires : (t : ℕ) → measure-type-lts.Need-measure-enumeration-requires (measure-type-calls t) (measure-type-at t) measure-type.Post
-measure-type-measure-enumeration-requires t c κs = (omega arith, enumeration-inside _ _ _ _ (c .before .before .before .entry-at .ensures .1) (c .before .entry3 .given .1))
+measure-type-measure-enumeration-requires t c κs = search (enumeration-row, needs)
 
 measure-type-add-measure-type : (t : ℕ) → measure-type-lts.Need-add-measure-type (measure-type-calls t) (measure-type-at t) measure-type.Post
 measure-type-add-measure-type t c = search (variableLength-next, needs)

@@ -1,4 +1,4 @@
-use Rattle.rows.proofs.Decode.{byte-below}
+use Rattle.format.proofs.Bytes.{byte-below}
 use Rattle.measure.proofs.Made.{array-made, array-below}
 use borrow.Author.Needs.{needs}
 use Rattle.measure.proofs.array_measure.Statement.{statement}

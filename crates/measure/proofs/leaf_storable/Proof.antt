@@ -1,7 +1,7 @@
 use Prim.Native.Nat.{_+_, _*_}
 use native.Mathlib.Omega.{arith}
 use Rattle.measure.proofs.Leaves.{leaf-empty, leaf-fixed, leaf-float, leaf-time, leaf-bits, leaf-opaque, leaf-other}
-use Rattle.rows.proofs.Decode.{word-below}
+use Rattle.format.proofs.Bytes.{word-below}
 use borrow.Author.Needs.{needs}
 use Rattle.measure.proofs.leaf_storable.Statement.{statement}
 use Rattle.measure.proofs.leaf_storable.Tie as tie

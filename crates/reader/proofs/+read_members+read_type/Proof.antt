@@ -3,7 +3,9 @@ use borrow.Author.Needs.{needs}
 use native.Mathlib.Omega.{arith}
 use Rattle.format.specs.Reading.{readType}
 use Rattle.reading.specs.Members.{Progress}
+use mathlib.Core.Path.{refl}
 use Rattle.reading.proofs.Members.{members-begun, members-ended, members-stopped, entered-ready, entered-within, members-refused, members-turned, entered-behind, entered-next, progress-table, progress-pool, table-entered, pool-entered, table-turned, pool-turned}
+use Rattle.reading.proofs.Contracts.{ready-any-version}
 use Rattle.reading.proofs.Types.{type-ends, type-shuts, leaf-free, leaf-long, leaf-kind, type-leaf, compound-free, compound-long, compound-ready, compound-refuses, compound-filled, compound-ends, based-free, based-within, based-ready, based-refuses, based-opened, based-read, based-ends}
 use Prim.Native.Nat.{ℕ, _<_}
 use borrow.Fn.Kinds.{In}
@@ -90,7 +92,7 @@ read-members-read-type-requires : (t : ℕ) → read-members-lts.Need-read-type-
 read-members-read-type-requires t c κs =
     let e : read-members-lts.After-enter-member (read-members-calls t) (read-members-at t) read-members.Post read-members-Inv-loop read-members-μ-loop = search in
     let s : read-members-lts.After-entered2 (read-members-calls t) (read-members-at t) read-members.Post read-members-Inv-loop read-members-μ-loop = search in
-    (search needs, entered-ready (e .enter-member .ensures) (s .entered2 .given .1))
+    (search needs, ready-any-version _ (entered-ready (e .enter-member .ensures) (s .entered2 .given .1)) refl refl)
 
 read-members-same-length-3 : (t : ℕ) → read-members-lts.Need-same-length-3 (read-members-calls t) (read-members-at t) read-members.Post read-members-Inv-loop read-members-μ-loop
 read-members-same-length-3 t c = search table-turned

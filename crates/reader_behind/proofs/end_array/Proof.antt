@@ -1,5 +1,5 @@
 use borrow.Author.Needs.{needs}
-use Rattle.reading.proofs.Contracts.{byte-below}
+use Rattle.format.proofs.Bytes.{byte-below}
 use Rattle.reader_behind.proofs.Ending.{array-empty, array-ends}
 use Rattle.reader_behind.proofs.end_array.Statement.{statement}
 use Rattle.reader_behind.proofs.end_array.Tie as tie

@@ -1,4 +1,4 @@
-use Rattle.reading.proofs.Contracts.{byte-below}
+use Rattle.format.proofs.Bytes.{byte-below}
 use Rattle.round_trip.proofs.Returning.{not-written, read-back, refused-back}
 use borrow.Author.Needs.{needs}
 use Rattle.round_trip.proofs.write_and_read.Statement.{statement}

@@ -1,9 +1,9 @@
 use Prim.Native.Nat.{ℕ, _<_, _+_, _-_, _*_}
 use borrow.Author.Needs.{needs}
 use Rattle.format.specs.Table.{typeAt, membersAt}
-use Rattle.rows.proofs.Decode.{array-piece, compound-next, named-behind, named-next}
+use Rattle.rows.proofs.Decode.{array-piece, array-row, compound-next, named-behind, named-next}
 use Rattle.table.specs.Path.{topOf}
-use Rattle.slots.proofs.Listing.{sound-deeper, standing-entered, type-unknown, type-enumeration, type-variableLength, type-leaf-other, type-leaf-full, type-leaf, type-compound, type-array, array-row, array-unsound, array-none, array-put, member-none, member-far, member-put}
+use Rattle.slots.proofs.Listing.{sound-deeper, standing-entered, type-unknown, type-enumeration, type-variableLength, type-leaf-other, type-leaf-full, type-leaf, type-compound, type-array, array-unsound, array-none, array-put, member-none, member-far, member-put}
 use Rattle.slots.proofs.ListingInside.{Puts, members-start, members-unnamed, members-unsound, members-next, members-end, PutsEach, entries-start, entries-far, entries-next, entries-end}
 use borrow.Fn.Kinds.{In}
 use borrow.Fn.PlainCycle.{Measures, is, falls, and}

@@ -1,4 +1,4 @@
-use Rattle.rows.proofs.Decode.{byte-below}
+use Rattle.format.proofs.Bytes.{byte-below}
 use borrow.Author.Needs.{needs}
 use Rattle.table.proofs.Answers.{element-bad, element-good, element-zero, outermost-small, outermost-some, outermost-there}
 use Rattle.table.proofs.element_size.Statement.{statement}

@@ -1,4 +1,4 @@
-use Rattle.rows.proofs.Decode.{byte-below}
+use Rattle.format.proofs.Bytes.{byte-below}
 use lib.Dec.{lit<}
 use borrow.Author.Needs.{needs, fits-under}
 use Rattle.table.proofs.Naming.{name-bad, name-behind, name-first, name-first-bytes, name-first-inside, name-none, name-some, name-word, name-word-bytes, name-word-inside}

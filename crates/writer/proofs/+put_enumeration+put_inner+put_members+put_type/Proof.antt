@@ -2,7 +2,8 @@ use Prim.Native.Nat.{ℕ, _<_, _*_, _+_, _≤_}
 use native.Mathlib.Omega.{arith}
 use borrow.Author.Needs.{needs}
 use Rattle.format.specs.Table.{typeAt}
-use Rattle.rows.proofs.Decode.{leaf-inside, enumeration-inside, array-behind, array-next, compound-next, named-behind, named-next, variableLength-next, byte-below}
+use Rattle.format.proofs.Bytes.{byte-below}
+use Rattle.rows.proofs.Decode.{leaf-inside, enumeration-row, array-behind, array-next, compound-next, named-behind, named-next, variableLength-next}
 use Rattle.writer.proofs.Compounds.{MembersLeft, members-begun, members-ended, members-unnamed, members-full, members-lost, members-next}
 use Rattle.writer.proofs.Types.{type-shallow, type-unknown, type-leaf, type-compound-full, type-compound, type-enumeration, enumeration-full, enumeration-lost, enumeration-put, type-variable-full, type-variable, type-array-full, type-array}
 use Prim.Native.Nat.{ℕ, _<_}
@@ -152,7 +153,7 @@ put-type-add-put-members : (t : ℕ) → put-type-lts.Need-add-put-members (put-
 put-type-add-put-members t c = search (compound-next, needs)
 
 put-type-put-enumeration-requires : (t : ℕ) → put-type-lts.Need-put-enumeration-requires (put-type-calls t) (put-type-at t) put-type.Post
-put-type-put-enumeration-requires t c κs = (omega arith, (search needs, enumeration-inside _ _ _ _ (c .before .before .before .before .known-entry-at .ensures .1) (c .before .before .entry3 .given .1)))
+put-type-put-enumeration-requires t c κs = search (enumeration-row, needs)
 
 put-type-add-put-type : (t : ℕ) → put-type-lts.Need-add-put-type (put-type-calls t) (put-type-at t) put-type.Post
 put-type-add-put-type t c = search (variableLength-next, needs)

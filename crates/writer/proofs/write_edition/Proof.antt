@@ -1,4 +1,4 @@
-use Rattle.rows.proofs.Decode.{byte-below}
+use Rattle.format.proofs.Bytes.{byte-below}
 use Rattle.writer.proofs.Answering.{write-lost, rows-fit, place-fits, write-behind, write-unstorable, write-not-carried, write-no-room, write-unput, write-written}
 use borrow.Author.Needs.{needs}
 use Rattle.writer.proofs.write_edition.Statement.{statement}
