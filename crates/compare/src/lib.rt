@@ -199,7 +199,9 @@ fn agree_type(
     ensures { λ r. ⌜ Agrees (typeAt (33 - path .depth) (now (table .entry)) (now (pool .entry)) (topOf path) place) (now (a .entry)) (now (b .entry)) at r ⌝ }
 {
     let depth = path.depth;
-    let row = path.rows[depth - 1];
+    // In a local of its own: read out of the path, the array is compiled to one copy more.
+    let rows = path.rows;
+    let row = rows[depth - 1];
     match entry {
         Entry::Unknown => Agreed::Lost,
         Entry::VariableLength(_, _, _) => Agreed::Lost,

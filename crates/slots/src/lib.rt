@@ -297,7 +297,9 @@ fn put_type(
     ensures { λ r. ⌜ PutAs (typeAt (33 - path .depth) (now (table .entry)) (now (pool .entry)) (topOf path) place) base (now (out .entry)) at r (now (out .exit)) ⌝ }
 {
     let depth = path.depth;
-    let row = path.rows[depth - 1];
+    // In a local of its own: read out of the path, the array is compiled to one copy more.
+    let rows = path.rows;
+    let row = rows[depth - 1];
     let entry = entry_at(table, pool, row, place);
     match entry {
         Entry::Unknown => at,
