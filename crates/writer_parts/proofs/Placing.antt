@@ -137,6 +137,9 @@ module _ (out out′ : List ℕ) (at : ℕ) where
     pub number-stored : (v : ℕ) → out′ ≡ sets out at (littleEndian n v) → Places (littleEndian n v) at (Behind (at + n)) out out′
     number-stored v w = stored (length-littleEndian n v) w
 
+    pub number-of-width : (v : ℕ) {w : ℕ} → n ≡ w → out′ ≡ sets out at (littleEndian w v) → Places (littleEndian n v) at (Behind (at + n)) out out′
+    number-of-width v e h = number-stored v (h ∙ rw e)
+
   module _ (c v f g size : ℕ) where
     pub header-full : {m : ℕ} → m ≡ length out - at → m < 8 → Places (header c v f g size) at Full out out′
     header-full t h = full t (length-header c v f g size) h

@@ -69,7 +69,7 @@ pub fn put_zeros(out: &mut [u8], at: usize, n: usize) -> Placed
     Placed::Behind(at + n)
 }
 
-// The `width` low bytes of a number, little-endian.
+// The `width` low bytes of a number, little-endian. A width that is known is compiled to one store.
 pub fn put_number(out: &mut [u8], at: usize, width: usize, value: u32) -> Placed
     requires { ⌜ (0 < width) × (width ≤ 4) ⌝ }
     ensures { λ r. ⌜ Places (littleEndian width value) at r (now (out .entry)) (now (out .exit)) ⌝ }
@@ -77,8 +77,13 @@ pub fn put_number(out: &mut [u8], at: usize, width: usize, value: u32) -> Placed
     if room(out.len(), at) < width {
         return Placed::Full;
     }
-    write_uint(out, at, width, value);
-    Placed::Behind(at + width)
+    let behind = at + width;
+    match width {
+        1 => write_uint(out, at, 1, value),
+        2 => write_uint(out, at, 2, value),
+        _ => write_uint(out, at, width, value),
+    }
+    Placed::Behind(behind)
 }
 
 // n bytes of the pool from `place` on.
