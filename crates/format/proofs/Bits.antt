@@ -86,7 +86,7 @@ unfolding fixedFlags
 signed-back o s h g = let e : joinBits 3 o s ≡ o + 8 * s = join-add 3 o s (omega arith) in bit-of 3 (joinBits 3 o s) ∙ omega arith
 
 pub float-order-back : (o : ℕ) → o < 3 → floatOrder (floatFlags o) ≡ o
-unfolding floatOrder floatFlags bitAt lowBits highBits
+unfolding floatOrder floatFlags joinBits bitAt lowBits highBits
 float-order-back zero h = refl
 float-order-back (suc zero) h = refl
 float-order-back (suc (suc zero)) h = refl
@@ -116,7 +116,7 @@ fixed-flags-lt o s h g = join-lt 3 1 o s (omega arith) g
 
 pub float-flags-lt : (o : ℕ) → floatFlags o < 256
 unfolding floatFlags
-float-flags-lt zero = omega arith
-float-flags-lt (suc zero) = omega arith
-float-flags-lt (suc (suc zero)) = omega arith
-float-flags-lt (suc (suc (suc o))) = omega arith
+float-flags-lt o =
+    let b = bit-lt 0 o in
+    let l = join-lt 5 1 (bitAt 0 o) 1 (omega arith) (omega arith) in
+    omega (arith, join-lt 6 1 (joinBits 5 (bitAt 0 o) 1) (bitAt 1 o) l (bit-lt 1 o))

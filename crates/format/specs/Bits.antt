@@ -1,10 +1,8 @@
 -- Header and flag bytes, split and put together by masks and shifts. proofs/Bits.antt has their laws to / and %.
 use Prim.Native.Nat.{ℕ, _-_, _*_, _/_, _^_}
 use mathlib.Core.Bool.{cond}
-use mathlib.Core.List.{[], _∷_}
 use lib.Bits.{bitAnd, bitOr}
 use lib.Dec.{eqb}
-use lib.ListN.{getD}
 
 -- b & (2^k - 1)
 unfoldable pub lowBits : (k b : ℕ) → ℕ
@@ -30,9 +28,9 @@ classAndVersion class version = joinBits 4 class version
 unfoldable pub fixedFlags : (order signed : ℕ) → ℕ
 fixedFlags order signed = joinBits 3 order signed
 
--- class 1, written: bit 5 set; big-endian adds bit 0, "VAX adds bit 6 only"
+-- class 1, written: bit 5 set; big-endian (1) adds bit 0, "VAX adds bit 6 only" (2)
 unfoldable pub floatFlags : (order : ℕ) → ℕ
-floatFlags order = getD (0x20 ∷ 0x21 ∷ 0x60 ∷ []) order 0
+floatFlags order = joinBits 6 (joinBits 5 (bitAt 0 order) 1) (bitAt 1 order)
 
 -- class 1, read: "bit 6 set is VAX, else bit 0 order"
 unfoldable pub floatOrder : (f0 : ℕ) → ℕ

@@ -12,7 +12,7 @@ use lib.Pow.{shl-exact}
 use borrow.Author.Tests.{le-leb, lt-leb, eq-eqb, ne-eqb}
 use Rattle.format.specs.Bytes.{numberFrom, littleEndian, zeros}
 use Rattle.format.specs.Bits.{lowBits, highBits, joinBits, bitAt, floatFlags, floatOrder}
-use Rattle.format.proofs.Bits.{join-lt, bit-of}
+use Rattle.format.proofs.Bits.{join-lt, bit-of, float-flags-lt}
 use Rattle.format.proofs.Bytes.{length-zeros}
 use Rattle.format.proofs.Lists.{sets-append}
 use Rattle.primitives.specs.Ensured.{ensured}
@@ -120,17 +120,15 @@ pub float-order-bit : (f : ℕ) → (bitAnd (f / 64) 1 ≡ 1 → ⊥) → bitAt 
 unfolding floatOrder bitAt lowBits highBits
 float-order-bit f h = rw (ne-eqb (bitAnd (f / 64) 1) 1 h)
 
-pub float-flags-little : (o : ℕ) → o ≡ 0 → 0x20 ≡ floatFlags o
-unfolding floatFlags
-float-flags-little o h = rw h
+pub float-flags-made : (o : ℕ) → o < 3 → bitOr (bitOr (bitAnd o 1) 32) ((o / 2 * 64) % 4294967296) ≡ floatFlags o
+unfolding floatFlags joinBits bitAt lowBits highBits
+float-flags-made zero h = refl
+float-flags-made (suc zero) h = refl
+float-flags-made (suc (suc zero)) h = refl
+float-flags-made (suc (suc (suc o))) h = absurd (omega arith)
 
-pub float-flags-big : (o : ℕ) → o ≡ 1 → 0x21 ≡ floatFlags o
-unfolding floatFlags
-float-flags-big o h = rw h
-
-pub float-flags-vax : (o : ℕ) → o ≡ 2 → 0x60 ≡ floatFlags o
-unfolding floatFlags
-float-flags-vax o h = rw h
+pub float-flags-fit : (o : ℕ) → o < 3 → bitOr (bitOr (bitAnd o 1) 32) ((o / 2 * 64) % 4294967296) < 256
+float-flags-fit o h = rw (float-flags-made o h) (float-flags-lt o)
 
 -- ---- the ways out of `ensure_len`
 

@@ -109,16 +109,12 @@ pub fn fixed_flags(order: u32, signed: u32) -> u8
     (order | (signed << 3)) as u8
 }
 
-// f0 of a float: bit 5, and the order.
+// f0 of a float: bit 5, and the order's two bits in bits 0 and 6.
 pub fn float_flags(order: u32) -> u8
     requires { ⌜ order < 3 ⌝ }
     ensures { λ r. ⌜ r ≡ floatFlags order ⌝ }
 {
-    match order {
-        0 => 0x20,
-        1 => 0x21,
-        _ => 0x60,
-    }
+    ((order & 1) | 0x20 | ((order >> 1) << 6)) as u8
 }
 
 // A byte of its low and its high four bits.
