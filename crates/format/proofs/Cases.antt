@@ -28,7 +28,7 @@ pub data Question : Type 0 where
   reads : (limit : ℕ) (message : List ℕ) → Question
   -- the message that an edition writes, and how many bytes it has
   writes counts : (edition : ℕ) (message : List ℕ) → Question
-  -- 1 if two records are the same, else 0
+  -- 0 if two records are the same, 1 if they differ
   compares : (message a b : List ℕ) → Question
   sizes finds : (message : List ℕ) → Question
 
@@ -48,7 +48,7 @@ unfoldable pub ask : Question → Outcome (List ℕ)
 ask (reads l s) = whenGiven (readHere l s) λ x. gives (x .consumed ∷ setOut (x .type))
 ask (writes e s) = onTable s λ table pool. writing table pool e 1024
 ask (counts e s) = onTable s λ table pool. whenGiven (writing table pool e 1024) λ b. gives (length b ∷ [])
-ask (compares s a b) = onTable s λ table pool. whenGiven (comparing table pool a b) λ same. gives (cond same 1 0 ∷ [])
+ask (compares s a b) = onTable s λ table pool. whenGiven (comparing table pool a b) λ same. gives (cond same 0 1 ∷ [])
 ask (sizes s) = onTable s λ table pool. whenGiven (sizing table pool) λ n. gives (n ∷ [])
 ask (finds s) = onTable s λ table pool. findingSlots table pool 1024
 
@@ -106,9 +106,9 @@ starred =
     ∷ record { question = counts 2 P; says = 0 ∷ 56 ∷ [] }
     ∷ record { question = counts 1 P; says = 0 ∷ 112 ∷ [] }
     ∷ record { question = reads 2 P; says = 5 ∷ 3 ∷ [] }
-    ∷ record { question = compares P (0x01 ∷ 0xff ∷ 0x05 ∷ 0x00 ∷ []) (0x01 ∷ 0x00 ∷ 0x05 ∷ 0x00 ∷ []); says = 0 ∷ 1 ∷ [] }
-    ∷ record { question = compares P (0x01 ∷ 0xff ∷ 0x05 ∷ 0x00 ∷ []) (0x02 ∷ 0x00 ∷ 0x05 ∷ 0x00 ∷ []); says = 0 ∷ 0 ∷ [] }
-    ∷ record { question = compares P (0x01 ∷ 0x00 ∷ 0x05 ∷ 0x00 ∷ []) (0x02 ∷ 0x00 ∷ 0x05 ∷ 0x00 ∷ []); says = 0 ∷ 0 ∷ [] }
+    ∷ record { question = compares P (0x01 ∷ 0xff ∷ 0x05 ∷ 0x00 ∷ []) (0x01 ∷ 0x00 ∷ 0x05 ∷ 0x00 ∷ []); says = 0 ∷ 0 ∷ [] }
+    ∷ record { question = compares P (0x01 ∷ 0xff ∷ 0x05 ∷ 0x00 ∷ []) (0x02 ∷ 0x00 ∷ 0x05 ∷ 0x00 ∷ []); says = 0 ∷ 1 ∷ [] }
+    ∷ record { question = compares P (0x01 ∷ 0x00 ∷ 0x05 ∷ 0x00 ∷ []) (0x02 ∷ 0x00 ∷ 0x05 ∷ 0x00 ∷ []); says = 0 ∷ 1 ∷ [] }
     ∷ record { question = reads 15 (0x3a ∷ (sevenZeros ++ (1 ∷ 0 ∷ 0 ∷ 0 ∷ 0 ∷ U1))); says = 12 ∷ 10 ∷ [] }
     ∷ record { question = reads 15 twoR; says = 0 ∷ 21 ∷ setOut (array (2 ∷ []) (reference 8 0)) }
     ∷ record { question = sizes twoR; says = 0 ∷ 16 ∷ [] }
@@ -145,7 +145,7 @@ unfoldable pub reasonable : List Case
 reasonable =
     record { question = reads 15 (0x36 ∷ 1 ∷ 0 ∷ 0 ∷ 4 ∷ 0 ∷ 0 ∷ 0 ∷ 0x61 ∷ 0 ∷ 0 ∷ 0x10 ∷ 0 ∷ []); says = 4 ∷ 8 ∷ 2 ∷ [] }
     ∷ record { question = reads 15 (0x36 ∷ 1 ∷ 0 ∷ 0 ∷ 0 ∷ 0 ∷ 0 ∷ 0 ∷ 0x61 ∷ 0 ∷ 0 ∷ []); says = 4 ∷ 8 ∷ 0 ∷ [] }
-    ∷ record { question = compares (0x38 ∷ 0 ∷ 0 ∷ 0 ∷ 2 ∷ 0 ∷ 0 ∷ 0 ∷ U1) (0 ∷ 0 ∷ []) (0 ∷ 1 ∷ []); says = 0 ∷ 0 ∷ [] }
+    ∷ record { question = compares (0x38 ∷ 0 ∷ 0 ∷ 0 ∷ 2 ∷ 0 ∷ 0 ∷ 0 ∷ U1) (0 ∷ 0 ∷ []) (0 ∷ 1 ∷ []); says = 0 ∷ 1 ∷ [] }
     ∷ []
 
 pub reasonable-cases : answers reasonable ≡ expected reasonable
