@@ -34,18 +34,29 @@ sure-found : {A : Type 0} {Q : A → ℕ → ℕ → Type 0} {a : A} {r p : ℕ}
 sure-found (holds s) = s
 
 module _ (table pool : List ℕ) where
-  -- what stands in a table at its start lies in it
-  pub stands-at : (t : Datatype) (r p : ℕ) → ((i : ℕ) → getD pool i 0 < 256) → typeAt 32 table pool 0 0 ≡ found t r p → TypeStands table pool 32 0 0 t r p
-  stands-at t r p b e = sure-found (rw e at (typeAt-sound table pool (all-bytes pool b) 32 0 0))
+  -- what stands in a table at its start lies in it, whatever levels it has
+  pub stands-at : (k : ℕ) (t : Datatype) (r p : ℕ) → ((i : ℕ) → getD pool i 0 < 256) → typeAt k table pool 0 0 ≡ found t r p → TypeStands table pool k 0 0 t r p
+  stands-at k t r p b e = sure-found (rw e at (typeAt-sound table pool (all-bytes pool b) k 0 0))
 
-  pub stands-fits : (t : Datatype) (r p : ℕ) → ((i : ℕ) → getD pool i 0 < 256) → typeAt 32 table pool 0 0 ≡ found t r p → (r * 16 ≤ length table) × (p ≤ length pool)
-  stands-fits t r p small e =
-      let s = stands-at t r p small e in
+  pub stands-fits : (k : ℕ) (t : Datatype) (r p : ℕ) → ((i : ℕ) → getD pool i 0 < 256) → typeAt k table pool 0 0 ≡ found t r p → (r * 16 ≤ length table) × (p ≤ length pool)
+  stands-fits k t r p small e =
+      let s = stands-at k t r p small e in
       let w : table ≡ rows 0 t ++ drop (r * 16) table = s .words in
       let b : pool ≡ poolBytes t ++ drop p pool = s .bytes in (
         omega (arith, s .row-behind, length-rows t 0, ap length w, length-append (rows 0 t) (drop (r * 16) table)),
         omega (arith, s .place-behind, ap length b, length-append (poolBytes t) (drop p pool)),
       )
+
+  pub survey-fits : (k : ℕ) {y : Surveyed} {s : Survey} → y ≡ surveyOf (typeAt k table pool 0 0) → y ≡ Sound s → ((i : ℕ) → getD pool i 0 < 256) → (s .row * 16 ≤ length table) × (s .place ≤ length pool)
+  unfolding Told
+  survey-fits k {s = s} q e small = go (typeAt k table pool 0 0) (told (typeAt k table pool 0 0) s q e) refl
+    where
+      go : (x : Found Datatype) → Told x s → typeAt k table pool 0 0 ≡ x → (s .row * 16 ≤ length table) × (s .place ≤ length pool)
+      go (found t r p) h j =
+          let fr : s .row ≡ r = ap (λ (v : Survey). v .row) (h .is) in
+          let fp : s .place ≡ p = ap (λ (v : Survey). v .place) (h .is) in
+          rw (fr, fp) (stands-fits k t r p small j)
+      go bad h j = absurd h
 
   -- ---- the limits and the zeros behind a type
 
@@ -112,10 +123,6 @@ module _ (table pool : List ℕ) where
               let fp : s .place ≡ p = ap (λ (v : Survey). v .place) (k .is) in
               record { type = t; stands = rw (fr, fp) j; says = rw (k .is) }
           go bad k j = absurd k
-
-      -- the rows and the pool bytes lie in the table and in the pool
-      pub check-fits : ((i : ℕ) → getD pool i 0 < 256) → (s .row * 16 ≤ length table) × (s .place ≤ length pool)
-      check-fits b = stands-fits (standing .type) (s .row) (s .place) b (standing .stands)
 
       module _ {u : Bool} (w : u ≡ endsAt table pool (s .row) (s .place)) where
         pub check-bad : u ≡ false → Checks table pool Bad

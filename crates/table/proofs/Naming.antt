@@ -195,7 +195,7 @@ module _ (table pool : List ℕ) (row : ℕ) {r : Checked} (h : Checks table poo
     set-out = typeOf-sound table pool (h .good s g .type) (all-bytes pool b) (h .good s g .is)
 
     many : s .row ≡ rowCount (h .good s g .type)
-    many = omega (arith, stands-at table pool (h .good s g .type) (s .row) (s .place) b (h .good s g .stands) .row-behind)
+    many = omega (arith, stands-at table pool 32 (h .good s g .type) (s .row) (s .place) b (h .good s g .stands) .row-behind)
 
     -- by the part of the row
     name-is : (p n : ℕ) → p + n ≤ length pool → take n (drop p pool) ≡ partOf pool (getD (nameParts 0 (h .good s g .type)) row none) → p ≡ placeOf (getD (nameParts 0 (h .good s g .type)) row none)

@@ -99,10 +99,10 @@ module _ (table pool : List ℕ) (e : ℕ) {y : Measured} (q : y ≡ measureOf e
 
     -- its rows and pool bytes lie in the table and in the pool
     pub rows-fit : ((i : ℕ) → getD pool i 0 < 256) → m .row * 16 ≤ length table
-    rows-fit small = stands-fits table pool t (m .row) (m .place) small (measuring .stands) .0
+    rows-fit small = stands-fits table pool 32 t (m .row) (m .place) small (measuring .stands) .0
 
     pub place-fits : ((i : ℕ) → getD pool i 0 < 256) → m .place ≤ length pool
-    place-fits small = stands-fits table pool t (m .row) (m .place) small (measuring .stands) .1
+    place-fits small = stands-fits table pool 32 t (m .row) (m .place) small (measuring .stands) .1
 
     module _ (out : List ℕ) {u : Bool} (w : u ≡ endsAt table pool (m .row) (m .place)) where
       pub write-behind : not u ≡ true → Writes table pool e (AnswerRefused BadTable) out out

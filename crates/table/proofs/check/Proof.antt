@@ -1,12 +1,11 @@
-use native.Mathlib.Omega.{arith}
 use borrow.Author.Needs.{needs}
-use Rattle.table.proofs.Checking.{check-unsound, check-bad, check-good, check-fits}
+use Rattle.table.proofs.Checking.{check-unsound, check-bad, check-good, survey-fits}
 use Rattle.table.proofs.check.Statement.{statement}
 use Rattle.table.proofs.check.Tie as tie
 
 ends-at-requires : tie.Need-ends-at-requires
 ends-at-requires c κs =
-    check-fits _ _ (c .before .before .before .survey-type .ensures) _ (c .before .got .given .1) (λ i. omega (arith, c .before .before .before .before .shared-slice-known2 .given i))
+    survey-fits _ _ _ (c .before .before .before .survey-type .ensures) (c .before .got .given .1) (λ i. c .before .before .before .before .shared-slice-known2 .given i .fits)
 
 returns : tie.Need-returns
 returns c = search check-good
