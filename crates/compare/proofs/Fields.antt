@@ -62,18 +62,7 @@ module _ (table pool : List ℕ) (r p : ℕ) where
   -- what a leaf's row says of its type
   pub leaf-owns : {k n l x : ℕ} {e : Entry} → e ≡ entryAt table pool r p → e ≡ Leaf k n l x → OwnsAll (leafType table pool r p k) n
   unfolding typeSize owned
-  leaf-owns =
-      leaf-law table pool r p (λ k n l x t. OwnsAll t n) (
-      record {
-        of-fixedPoint = record { size = refl; places = λ i. refl };
-        of-floatingPoint = record { size = refl; places = λ i. refl };
-        of-time = record { size = refl; places = λ i. refl };
-        of-string = record { size = refl; places = λ i. refl };
-        of-bitField = record { size = refl; places = λ i. refl };
-        of-opaque = λ b. record { size = refl; places = λ i. refl };
-        of-reference = record { size = refl; places = λ i. refl };
-      }
-      )
+  leaf-owns q e = let h = leaf-law table pool r p q e in rw (h .is) (record { size = refl; places = λ i. refl })
 
 -- a type, where one is found, that owns all its bytes
 unfoldable pub Solid : Found Datatype → Type 0

@@ -3,7 +3,7 @@ use Prim.Native.Nat.{ℕ}
 use mathlib.Core.Path.{_≡_, refl}
 use mathlib.Core.List.{List, [], _∷_}
 use lib.ListN.{length, replicate}
-use Rattle.format.specs.Datatype.{Datatype, fixedPoint, floatingPoint, time, string, bitField, opaque, compound, reference, enumeration, variableLength, array, noMembers, member}
+use Rattle.format.specs.Datatype.{floatLayout, fixedPoint, floatingPoint, time, string, bitField, opaque, reference, Datatype, leaf, compound, enumeration, variableLength, array, noMembers, member}
 use Rattle.format.specs.Outcome.{gives}
 use Rattle.format.specs.Ownership.{admitting}
 use Rattle.format.proofs.Cases.{computing, answer}
@@ -37,11 +37,11 @@ admitted =
     ∷ array (4294967295 ∷ []) (fixed 1)
     ∷ array (3 ∷ 1431655765 ∷ []) (fixed 1)
     ∷ only 4294967295 valid 4294967294 (fixed 1)
-    ∷ reference 8 0
-    ∷ enumeration 8 (reference 8 0) []
+    ∷ leaf 8 (reference 0)
+    ∷ enumeration 8 (leaf 8 (reference 0)) []
     ∷ onlyValue (fixed 2) withNul (0 ∷ [])
-    ∷ fixedPoint 4 2 0 65536 65536
-    ∷ floatingPoint 536870912 2 0 0 0 0 0 0 0
+    ∷ leaf 4 (fixedPoint 2 0 65536 65536)
+    ∷ leaf 536870912 (floatingPoint 2 (floatLayout []))
     ∷ []
 
 -- one past these bounds, also inside another type
@@ -62,13 +62,13 @@ outsideRecord =
 -- also below an enumeration
 unfoldable pub heldInHeap : List Datatype
 heldInHeap =
-    reference 8 1
+    leaf 8 (reference 1)
     ∷ variableLength 0 0 0 (fixed 1)
     ∷ variableLength 1 1 1 (fixed 1)
-    ∷ enumeration 8 (reference 8 1) []
+    ∷ enumeration 8 (leaf 8 (reference 1)) []
     ∷ enumeration 8 (variableLength 0 0 0 (fixed 1)) []
     ∷ compound 24 (member valid 0 (fixed 8) (member valid 8 (variableLength 0 0 0 (fixed 1)) noMembers))
-    ∷ array (2 ∷ []) (reference 8 1)
+    ∷ array (2 ∷ []) (leaf 8 (reference 1))
     ∷ []
 
 unfoldable pub admissions : List Admission
@@ -86,13 +86,13 @@ admissions =
           ∷ [];
       says = 12 ∷ 0 ∷ [];
     }
-    ∷ record { types = floatingPoint 0 0 0 0 0 0 0 0 0 ∷ []; says = 12 ∷ 1 ∷ [] }
-    ∷ record { types = time 0 0 0 ∷ []; says = 12 ∷ 2 ∷ [] }
-    ∷ record { types = string 0 0 0 ∷ []; says = 12 ∷ 3 ∷ [] }
-    ∷ record { types = bitField 0 0 0 0 ∷ []; says = 12 ∷ 4 ∷ [] }
-    ∷ record { types = opaque 0 [] ∷ []; says = 12 ∷ 5 ∷ [] }
+    ∷ record { types = leaf 0 (floatingPoint 0 (floatLayout [])) ∷ []; says = 12 ∷ 1 ∷ [] }
+    ∷ record { types = leaf 0 (time 0 0) ∷ []; says = 12 ∷ 2 ∷ [] }
+    ∷ record { types = leaf 0 (string 0 0) ∷ []; says = 12 ∷ 3 ∷ [] }
+    ∷ record { types = leaf 0 (bitField 0 0 0) ∷ []; says = 12 ∷ 4 ∷ [] }
+    ∷ record { types = leaf 0 (opaque []) ∷ []; says = 12 ∷ 5 ∷ [] }
     ∷ record { types = compound 0 noMembers ∷ only 0 valid 0 (fixed 0) ∷ []; says = 12 ∷ 6 ∷ [] }
-    ∷ record { types = reference 0 0 ∷ reference 0 1 ∷ []; says = 12 ∷ 7 ∷ [] }
+    ∷ record { types = leaf 0 (reference 0) ∷ leaf 0 (reference 1) ∷ []; says = 12 ∷ 7 ∷ [] }
     ∷ record { types = enumeration 0 (fixed 0) [] ∷ []; says = 12 ∷ 8 ∷ [] }
     ∷ record { types = array (0 ∷ []) (fixed 1) ∷ array (2 ∷ []) (fixed 0) ∷ array (65536 ∷ 65536 ∷ 0 ∷ []) (fixed 1) ∷ []; says = 12 ∷ 10 ∷ [] }
     ∷ []

@@ -4,7 +4,7 @@ use mathlib.Core.Path.{_≡_, refl}
 use mathlib.Core.Bool.{Bool, true, not, _&&_}
 use mathlib.Core.List.{List, [], _∷_, _++_}
 use lib.ListN.{replicate}
-use Rattle.format.specs.Datatype.{Datatype, fixedPoint, floatingPoint, time, string, bitField, opaque, compound, reference, enumeration, variableLength, array, noMembers, member}
+use Rattle.format.specs.Datatype.{floatLayout, fixedPoint, floatingPoint, time, string, bitField, opaque, reference, Datatype, leaf, compound, enumeration, variableLength, array, noMembers, member}
 use Rattle.format.specs.Message.{storable}
 use Rattle.format.proofs.Cases.{computing}
 
@@ -12,7 +12,7 @@ use Rattle.format.proofs.Cases.{computing}
 
 -- a fixed type of so many bytes
 abbrev pub fixed : ℕ → Datatype
-fixed n = fixedPoint n 0 0 0 8
+fixed n = leaf n (fixedPoint 0 0 0 8)
 
 -- the name é, one with a NUL, and one that breaks off
 abbrev pub valid : List ℕ
@@ -36,12 +36,12 @@ onlyValue t b v = enumeration 1 t (record { name = b; value = v } ∷ [])
 unfoldable pub ofSize : ℕ → List Datatype
 ofSize n =
     fixed n
-    ∷ time n 0 8
-    ∷ string n 0 0
-    ∷ bitField n 0 0 8
-    ∷ opaque n []
+    ∷ leaf n (time 0 8)
+    ∷ leaf n (string 0 0)
+    ∷ leaf n (bitField 0 0 8)
+    ∷ leaf n (opaque [])
     ∷ compound n noMembers
-    ∷ reference n 0
+    ∷ leaf n (reference 0)
     ∷ enumeration n (fixed 1) []
     ∷ []
 
@@ -72,8 +72,8 @@ sizeBound = record { can = ofSize 1 ++ ofSize 4294967295; cannot = ofSize 0 ++ o
 unfoldable pub floatSizeBound : Bound
 floatSizeBound =
     record {
-      can = floatingPoint 1 0 0 0 0 0 0 0 0 ∷ floatingPoint 536870911 0 0 0 0 0 0 0 0 ∷ [];
-      cannot = floatingPoint 0 0 0 0 0 0 0 0 0 ∷ floatingPoint 536870912 0 0 0 0 0 0 0 0 ∷ [];
+      can = leaf 1 (floatingPoint 0 (floatLayout [])) ∷ leaf 536870911 (floatingPoint 0 (floatLayout [])) ∷ [];
+      cannot = leaf 0 (floatingPoint 0 (floatLayout [])) ∷ leaf 536870912 (floatingPoint 0 (floatLayout [])) ∷ [];
     }
 
 -- "names valid UTF-8 without NUL"; a name may be empty
@@ -107,22 +107,22 @@ unfoldable pub codeBound : Bound
 codeBound =
     record {
       can =
-          floatingPoint 4 2 0 0 0 0 0 0 0
-          ∷ fixedPoint 4 1 1 0 0
-          ∷ time 4 1 0
-          ∷ bitField 4 1 0 0
-          ∷ string 4 2 1
-          ∷ reference 4 1
+          leaf 4 (floatingPoint 2 (floatLayout []))
+          ∷ leaf 4 (fixedPoint 1 1 0 0)
+          ∷ leaf 4 (time 1 0)
+          ∷ leaf 4 (bitField 1 0 0)
+          ∷ leaf 4 (string 2 1)
+          ∷ leaf 4 (reference 1)
           ∷ [];
       cannot =
-          floatingPoint 4 3 0 0 0 0 0 0 0
-          ∷ fixedPoint 4 2 0 0 0
-          ∷ fixedPoint 4 0 2 0 0
-          ∷ time 4 2 0
-          ∷ bitField 4 2 0 0
-          ∷ string 4 3 0
-          ∷ string 4 0 2
-          ∷ reference 4 2
+          leaf 4 (floatingPoint 3 (floatLayout []))
+          ∷ leaf 4 (fixedPoint 2 0 0 0)
+          ∷ leaf 4 (fixedPoint 0 2 0 0)
+          ∷ leaf 4 (time 2 0)
+          ∷ leaf 4 (bitField 2 0 0)
+          ∷ leaf 4 (string 3 0)
+          ∷ leaf 4 (string 0 2)
+          ∷ leaf 4 (reference 2)
           ∷ [];
     }
 
@@ -147,8 +147,8 @@ variableBound =
 unfoldable pub byteBound : Bound
 byteBound =
     record {
-      can = opaque 1 (replicate 255 7) ∷ array (replicate 255 1) (fixed 1) ∷ [];
-      cannot = opaque 1 (replicate 256 7) ∷ array (replicate 256 1) (fixed 1) ∷ [];
+      can = leaf 1 (opaque (replicate 255 7)) ∷ array (replicate 255 1) (fixed 1) ∷ [];
+      cannot = leaf 1 (opaque (replicate 256 7)) ∷ array (replicate 256 1) (fixed 1) ∷ [];
     }
 
 -- "every other number no greater than its bits there can hold, a fixed type's offset and precision included"
@@ -156,25 +156,25 @@ unfoldable pub numberBound : Bound
 numberBound =
     record {
       can =
-          fixedPoint 1 0 0 65535 65535
-          ∷ bitField 1 0 65535 65535
-          ∷ time 1 0 65535
-          ∷ floatingPoint 1 0 65535 65535 255 255 255 255 4294967295
+          leaf 1 (fixedPoint 0 0 65535 65535)
+          ∷ leaf 1 (bitField 0 65535 65535)
+          ∷ leaf 1 (time 0 65535)
+          ∷ leaf 1 (floatingPoint 0 (floatLayout (65535 ∷ 65535 ∷ 255 ∷ 255 ∷ 255 ∷ 255 ∷ 4294967295 ∷ [])))
           ∷ array (4294967295 ∷ []) (fixed 1)
           ∷ [];
       cannot =
-          fixedPoint 1 0 0 65536 0
-          ∷ fixedPoint 1 0 0 0 65536
-          ∷ bitField 1 0 65536 0
-          ∷ bitField 1 0 0 65536
-          ∷ time 1 0 65536
-          ∷ floatingPoint 1 0 65536 0 0 0 0 0 0
-          ∷ floatingPoint 1 0 0 65536 0 0 0 0 0
-          ∷ floatingPoint 1 0 0 0 256 0 0 0 0
-          ∷ floatingPoint 1 0 0 0 0 256 0 0 0
-          ∷ floatingPoint 1 0 0 0 0 0 256 0 0
-          ∷ floatingPoint 1 0 0 0 0 0 0 256 0
-          ∷ floatingPoint 1 0 0 0 0 0 0 0 4294967296
+          leaf 1 (fixedPoint 0 0 65536 0)
+          ∷ leaf 1 (fixedPoint 0 0 0 65536)
+          ∷ leaf 1 (bitField 0 65536 0)
+          ∷ leaf 1 (bitField 0 0 65536)
+          ∷ leaf 1 (time 0 65536)
+          ∷ leaf 1 (floatingPoint 0 (floatLayout (65536 ∷ [])))
+          ∷ leaf 1 (floatingPoint 0 (floatLayout (0 ∷ 65536 ∷ [])))
+          ∷ leaf 1 (floatingPoint 0 (floatLayout (0 ∷ 0 ∷ 256 ∷ [])))
+          ∷ leaf 1 (floatingPoint 0 (floatLayout (0 ∷ 0 ∷ 0 ∷ 256 ∷ [])))
+          ∷ leaf 1 (floatingPoint 0 (floatLayout (0 ∷ 0 ∷ 0 ∷ 0 ∷ 256 ∷ [])))
+          ∷ leaf 1 (floatingPoint 0 (floatLayout (0 ∷ 0 ∷ 0 ∷ 0 ∷ 0 ∷ 256 ∷ [])))
+          ∷ leaf 1 (floatingPoint 0 (floatLayout (0 ∷ 0 ∷ 0 ∷ 0 ∷ 0 ∷ 0 ∷ 4294967296 ∷ [])))
           ∷ array (4294967296 ∷ []) (fixed 1)
           ∷ [];
     }

@@ -8,18 +8,18 @@ use Rattle.refusal.specs.Refusal.{numberOf, valuesOf}
 use Rattle.format.specs.Bytes.{littleEndian, numberFrom, zeros, padded, allZero, paddingTo8, oneMore, firstNul, totalWidth, packNumbers, unpackNumbers, dimensionBytes, dimensionsFrom}
 use Rattle.format.specs.Bits.{lowBits, highBits, joinBits, bitAt, classAndVersion, fixedFlags, floatFlags, floatOrder, nibbles}
 use Rattle.format.specs.Utf8.{upTo, leads, replacement, begin, broken, going, step, atEnd, mendedFrom, mended, isReady, wellFormedFrom, wellFormed}
-use Rattle.format.specs.Datatype.{Datatype, fixedPoint, opaque, compound, reference, variableLength, array, noMembers, member, memberCount, product, typeSize, classNumber, rowCount, enumNames, enumValues, poolBytes}
+use Rattle.format.specs.Datatype.{floatNumbers, floatLayout, fixedPoint, opaque, reference, leafClass, leafPool, refers, Datatype, leaf, compound, variableLength, array, noMembers, member, memberCount, product, typeSize, classNumber, rowCount, enumNames, enumValues, poolBytes}
 use Rattle.format.specs.Outcome.{Outcome, gives, refuses, whenGiven, unless, needed}
-use Rattle.format.specs.Table.{row, memberRow, enumMemberRow, enumRows, rows, allBelow, andThen, test, wordsAt, nextRow, nextPiece, sameWords, membersAt, enumNamesAt, enumValuesAt, kindOf, typeFrom, typeAt, wholeType, typeOf, tableOf, poolOf}
-use Rattle.format.specs.Message.{header, namePadding, offsetWidth, skippedBytes, reservedBytes, permutationBytes, nameBytes, enumNameBytes, arrayBytes, codeOf, variableFlags, variableCharset, message, nameLength, enumNameLength, messageLength, all, noNul, fit, storableEnum, storableVariable, storable, carried, writingType, writing}
-use Rattle.format.specs.Reading.{Read, then, require, bytes, skip, number, numbers, nameTo, name, takeRow, piece, moved, inner, headerOf, readHeader, classKind, layoutVersion, countOf, readName, readMembers, readNames, readValues, readVariable, readArray, readProperties, sized, readType, readOutcome, readingInto, reading}
+use Rattle.format.specs.Table.{row, compoundRow, enumerationRow, variableLengthRow, arrayRow, memberRow, enumMemberRow, enumRows, columnsOf, leafRow, rows, leafKnown, allBelow, andThen, test, wordsAt, nextRow, nextPiece, sameWords, membersAt, enumNamesAt, enumValuesAt, kindOf, tagAt, leafOf, typeFrom, typeAt, wholeType, typeOf, tableOf, poolOf}
+use Rattle.format.specs.Message.{header, namePadding, offsetWidth, skippedBytes, reservedBytes, permutationBytes, nameBytes, enumNameBytes, arrayBytes, codeOf, variableFlags, variableCharset, leafMessage, message, nameLength, enumNameLength, lengthOfLeaf, messageLength, all, noNul, fit, storableEnum, storableVariable, storableLeaf, storable, carried, writingType, writing}
+use Rattle.format.specs.Reading.{Read, then, require, bytes, skip, number, numbers, nameTo, name, takeRow, piece, moved, inner, headerOf, readHeader, classKind, layoutVersion, countOf, readName, readMembers, readNames, readValues, readVariable, readArray, leafProperties, readProperties, sized, readType, readOutcome, readingInto, reading}
 use Rattle.format.specs.Sizes.{sizing, holdsObjectAddress}
 use Rattle.format.specs.Slots.{isSlot, shifted, entries, slots, holdsOtherReference, holdsHiddenReference, someOutside, unmapped, orElse, zeroClass, firstZero, unlessZero, slotting, findingSlots}
 use Rattle.format.specs.Ownership.{inEntries, owned, outside, heapHeld, agreeFrom, agree, admitting, comparingRecords, comparing}
 
 -- all definitions that a computed case opens
 unfoldable pub computing : Unit {0}
-unfolding littleEndian numberFrom zeros padded allZero paddingTo8 oneMore firstNul totalWidth packNumbers unpackNumbers dimensionBytes dimensionsFrom lowBits highBits joinBits bitAt classAndVersion fixedFlags floatFlags floatOrder nibbles upTo leads replacement begin broken going step atEnd mendedFrom mended isReady wellFormedFrom wellFormed memberCount product typeSize classNumber rowCount enumNames enumValues poolBytes whenGiven unless needed row memberRow enumMemberRow enumRows rows allBelow andThen test wordsAt nextRow nextPiece sameWords membersAt enumNamesAt enumValuesAt kindOf typeFrom typeAt wholeType typeOf tableOf poolOf header namePadding offsetWidth skippedBytes reservedBytes permutationBytes nameBytes enumNameBytes arrayBytes codeOf variableFlags variableCharset message nameLength enumNameLength messageLength all noNul fit storableEnum storableVariable storable carried writingType writing then require bytes skip number numbers nameTo name takeRow piece moved inner headerOf readHeader classKind layoutVersion countOf readName readMembers readNames readValues readVariable readArray readProperties sized readType readOutcome readingInto reading sizing holdsObjectAddress isSlot shifted entries slots holdsOtherReference holdsHiddenReference someOutside unmapped orElse zeroClass firstZero unlessZero slotting findingSlots inEntries owned outside heapHeld agreeFrom agree admitting comparingRecords comparing
+unfolding littleEndian numberFrom zeros padded allZero paddingTo8 oneMore firstNul totalWidth packNumbers unpackNumbers dimensionBytes dimensionsFrom lowBits highBits joinBits bitAt classAndVersion fixedFlags floatFlags floatOrder nibbles upTo leads replacement begin broken going step atEnd mendedFrom mended isReady wellFormedFrom wellFormed memberCount product typeSize classNumber rowCount enumNames enumValues floatNumbers floatLayout leafClass leafPool refers poolBytes whenGiven unless needed row compoundRow enumerationRow variableLengthRow arrayRow memberRow enumMemberRow enumRows columnsOf leafRow rows leafKnown allBelow andThen test wordsAt nextRow nextPiece sameWords membersAt enumNamesAt enumValuesAt kindOf tagAt leafOf typeFrom typeAt wholeType typeOf tableOf poolOf header namePadding offsetWidth skippedBytes reservedBytes permutationBytes nameBytes enumNameBytes arrayBytes codeOf variableFlags variableCharset leafMessage message nameLength enumNameLength lengthOfLeaf messageLength all noNul fit storableEnum storableVariable storableLeaf storable carried writingType writing then require bytes skip number numbers nameTo name takeRow piece moved inner headerOf readHeader classKind layoutVersion countOf readName readMembers readNames readValues readVariable readArray leafProperties readProperties sized readType readOutcome readingInto reading sizing holdsObjectAddress isSlot shifted entries slots holdsOtherReference holdsHiddenReference someOutside unmapped orElse zeroClass firstZero unlessZero slotting findingSlots inEntries owned outside heapHeld agreeFrom agree admitting comparingRecords comparing
 computing = tt
 
 -- what is asked. All but the first are asked of the type that a message gives
@@ -82,7 +82,7 @@ abbrev pub P : List ℕ
 P = 0x36 ∷ 2 ∷ 0 ∷ 0 ∷ 4 ∷ 0 ∷ 0 ∷ 0 ∷ 0x61 ∷ 0 ∷ 0 ∷ (U1 ++ (0x62 ∷ 0 ∷ 2 ∷ U2))
 
 abbrev pub typeP : Datatype
-typeP = compound 4 (member (0x61 ∷ []) 0 (fixedPoint 1 0 0 0 8) (member (0x62 ∷ []) 2 (fixedPoint 2 0 0 0 16) noMembers))
+typeP = compound 4 (member (0x61 ∷ []) 0 (leaf 1 (fixedPoint 0 0 0 8)) (member (0x62 ∷ []) 2 (leaf 2 (fixedPoint 0 0 0 16)) noMembers))
 
 abbrev pub sevenZeros : List ℕ
 sevenZeros = 0 ∷ 0 ∷ 0 ∷ 0 ∷ 0 ∷ 0 ∷ 0 ∷ []
@@ -94,8 +94,8 @@ twoR = 0x3a ∷ (sevenZeros ++ (1 ∷ 2 ∷ 0 ∷ 0 ∷ 0 ∷ R))
 unfoldable pub starred : List Case
 starred =
     record { question = reads 15 []; says = 4 ∷ 8 ∷ 0 ∷ [] }
-    ∷ record { question = reads 15 U1; says = 0 ∷ 12 ∷ setOut (fixedPoint 1 0 0 0 8) }
-    ∷ record { question = reads 15 (0x15 ∷ 3 ∷ 0 ∷ 0 ∷ 5 ∷ 0 ∷ 0 ∷ 0 ∷ 0x61 ∷ 0x62 ∷ 0x63 ∷ []); says = 0 ∷ 16 ∷ setOut (opaque 5 (0x61 ∷ 0x62 ∷ 0x63 ∷ [])) }
+    ∷ record { question = reads 15 U1; says = 0 ∷ 12 ∷ setOut (leaf 1 (fixedPoint 0 0 0 8)) }
+    ∷ record { question = reads 15 (0x15 ∷ 3 ∷ 0 ∷ 0 ∷ 5 ∷ 0 ∷ 0 ∷ 0 ∷ 0x61 ∷ 0x62 ∷ 0x63 ∷ []); says = 0 ∷ 16 ∷ setOut (leaf 5 (opaque (0x61 ∷ 0x62 ∷ 0x63 ∷ []))) }
     ∷ record { question = reads 15 (0x1c ∷ sevenZeros); says = 6 ∷ 12 ∷ [] }
     ∷ record { question = reads 15 (0x06 ∷ sevenZeros); says = 7 ∷ 6 ∷ 0 ∷ [] }
     ∷ record { question = reads 15 (0x13 ∷ 0x23 ∷ 0 ∷ 0 ∷ 1 ∷ 0 ∷ 0 ∷ 0 ∷ []); says = 8 ∷ 3 ∷ [] }
@@ -110,7 +110,7 @@ starred =
     ∷ record { question = compares P (0x01 ∷ 0xff ∷ 0x05 ∷ 0x00 ∷ []) (0x02 ∷ 0x00 ∷ 0x05 ∷ 0x00 ∷ []); says = 0 ∷ 1 ∷ [] }
     ∷ record { question = compares P (0x01 ∷ 0x00 ∷ 0x05 ∷ 0x00 ∷ []) (0x02 ∷ 0x00 ∷ 0x05 ∷ 0x00 ∷ []); says = 0 ∷ 1 ∷ [] }
     ∷ record { question = reads 15 (0x3a ∷ (sevenZeros ++ (1 ∷ 0 ∷ 0 ∷ 0 ∷ 0 ∷ U1))); says = 12 ∷ 10 ∷ [] }
-    ∷ record { question = reads 15 twoR; says = 0 ∷ 21 ∷ setOut (array (2 ∷ []) (reference 8 0)) }
+    ∷ record { question = reads 15 twoR; says = 0 ∷ 21 ∷ setOut (array (2 ∷ []) (leaf 8 (reference 0))) }
     ∷ record { question = sizes twoR; says = 0 ∷ 16 ∷ [] }
     ∷ record { question = finds twoR; says = 0 ∷ 0 ∷ 8 ∷ [] }
     ∷ []
@@ -125,7 +125,7 @@ sequences zero = R
 sequences (suc n) = 0x19 ∷ 0 ∷ 0 ∷ 0 ∷ 16 ∷ 0 ∷ 0 ∷ 0 ∷ sequences n
 
 unfoldable pub sequenceType : ℕ → Datatype
-sequenceType zero = reference 8 0
+sequenceType zero = leaf 8 (reference 0)
 sequenceType (suc n) = variableLength 0 0 0 (sequenceType n)
 
 unfoldable pub others : List Case

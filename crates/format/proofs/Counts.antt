@@ -6,9 +6,9 @@ use mathlib.Core.List.{List, [], _∷_, _++_}
 use native.Mathlib.Omega.{arith}
 use lib.ListN.{length, getD, length-append, length-take}
 use Rattle.format.specs.declared.Header.{Header}
-use Rattle.format.specs.Datatype.{Datatype, enumNames, enumValues, noMembers, depth, memberDepth, poolBytes, memberPool, rowCount, memberRowCount}
-use Rattle.format.specs.Reading.{Answer, Reader, inner, readName, readMembers, readNames, readValues, readVariable, readArray, readProperties, sized, readType}
-use Rattle.format.specs.Table.{Kind, isFixedPoint, isFloatingPoint, isTime, isString, isBitField, isOpaque, isCompound, isReference, isEnumeration, isVariableLength, isArray, isUnknown}
+use Rattle.format.specs.Datatype.{leafPool, Datatype, enumNames, enumValues, noMembers, depth, memberDepth, poolBytes, memberPool, rowCount, memberRowCount}
+use Rattle.format.specs.Reading.{Answer, Reader, inner, readName, readMembers, readNames, readValues, readVariable, readArray, leafProperties, readProperties, sized, readType}
+use Rattle.format.specs.Table.{LeafKind, isFixedPoint, isFloatingPoint, isTime, isString, isBitField, isOpaque, isReference, Kind, isLeaf, isCompound, isEnumeration, isVariableLength, isArray, isUnknown}
 use Rattle.format.proofs.Bytes.{length-dimensions, length-dimensionsFrom}
 use Rattle.format.proofs.Sure.{Sure, met, nothing, sure-then, sure-moved, sure-require, sure-bytes, sure-number, sure-numbers, sure-skip, sure-piece, sure-name, sure-header, sure-row}
 
@@ -93,28 +93,32 @@ count-array k rd i ver v at s r p =
     sure-then (count-inner k rd i v a3 s3 r3 p3) λ t a4 s4 r4 p4 h4.
     met (simp (length-append, length-dimensions, length-dimensionsFrom) (omega (arith, length-take (4 * getD x 0 0) b)))
 
-count-properties : (k : ℕ) (rd : Reader Datatype) → Counts k rd → (h : Header) (c : Kind) (v at : ℕ) (s : List ℕ) (r p : ℕ)
-    → Sure (λ t at′ s′ r′ p′. Below k r p t r′ p′) (readProperties rd h c v at s r p)
-unfolding readProperties rowCount poolBytes depth
-count-properties k rd i h isFixedPoint v at s r p = sure-then (sure-numbers v at s r p _) λ x a1 s1 r1 p1 h1. met (omega arith)
-count-properties k rd i h isFloatingPoint v at s r p = sure-then (sure-numbers v at s r p _) λ x a1 s1 r1 p1 h1. met (omega arith)
-count-properties k rd i h isTime v at s r p = sure-then (sure-numbers v at s r p _) λ x a1 s1 r1 p1 h1. met (omega arith)
-count-properties k rd i h isString v at s r p =
+count-leaf : (k : ℕ) (h : Header) (c : LeafKind) (v at : ℕ) (s : List ℕ) (r p : ℕ) → Sure (λ t at′ s′ r′ p′. Below k r p t r′ p′) (leafProperties h c v at s r p)
+unfolding leafProperties rowCount poolBytes leafPool depth
+count-leaf k h isFixedPoint v at s r p = sure-then (sure-numbers v at s r p _) λ x a1 s1 r1 p1 h1. met (omega arith)
+count-leaf k h isFloatingPoint v at s r p = sure-then (sure-numbers v at s r p _) λ x a1 s1 r1 p1 h1. met (omega arith)
+count-leaf k h isTime v at s r p = sure-then (sure-numbers v at s r p _) λ x a1 s1 r1 p1 h1. met (omega arith)
+count-leaf k h isString v at s r p =
     sure-then (sure-require v at s r p _ _) λ u a1 s1 r1 p1 h1.
     sure-then (sure-require v a1 s1 r1 p1 _ _) λ u a2 s2 r2 p2 h2.
     met (omega arith)
-count-properties k rd i h isBitField v at s r p = sure-then (sure-numbers v at s r p _) λ x a1 s1 r1 p1 h1. met (omega arith)
-count-properties k rd i h isOpaque v at s r p =
+count-leaf k h isBitField v at s r p = sure-then (sure-numbers v at s r p _) λ x a1 s1 r1 p1 h1. met (omega arith)
+count-leaf k h isOpaque v at s r p =
     sure-then (sure-bytes v at s r p _) λ g a1 s1 r1 p1 h1.
     sure-then (sure-piece v a1 s1 r1 p1 g) λ w a2 s2 r2 p2 h2.
     sure-then (sure-skip v a2 s2 r2 p2 _) λ w a3 s3 r3 p3 h3.
     met (omega arith)
+count-leaf k h isReference v at s r p = sure-then (sure-require v at s r p _ _) λ u a1 s1 r1 p1 h1. met (omega arith)
+
+count-properties : (k : ℕ) (rd : Reader Datatype) → Counts k rd → (h : Header) (c : Kind) (v at : ℕ) (s : List ℕ) (r p : ℕ)
+    → Sure (λ t at′ s′ r′ p′. Below k r p t r′ p′) (readProperties rd h c v at s r p)
+unfolding readProperties rowCount poolBytes depth
+count-properties k rd i h (isLeaf c) v at s r p = count-leaf k h c v at s r p
 count-properties k rd i h isCompound v at s r p =
     sure-then (sure-require v at s r p _ _) λ u a1 s1 r1 p1 h1.
     sure-then (sure-require v a1 s1 r1 p1 _ _) λ u a2 s2 r2 p2 h2.
     sure-then (count-members k _ _ _ rd i v a2 s2 r2 p2) λ ms a3 s3 r3 p3 h3.
     met (omega arith)
-count-properties k rd i h isReference v at s r p = sure-then (sure-require v at s r p _ _) λ u a1 s1 r1 p1 h1. met (omega arith)
 count-properties k rd i h isEnumeration v at s r p =
     sure-then (count-inner k rd i v at s r p) λ t a1 s1 r1 p1 h1.
     sure-then (count-names _ _ v a1 s1 r1 p1) λ bs a2 s2 r2 p2 h2.

@@ -10,7 +10,7 @@ use lib.ListN.{length}
 use lib.Dec.{leb}
 use borrow.Author.Tests.{le-leb}
 use Rattle.refusal.specs.declared.Refusal.the-variants.{TooNew}
-use Rattle.format.specs.Datatype.{Datatype, fixedPoint, floatingPoint, time, string, bitField, opaque, compound, reference, enumeration, variableLength, array, Members, noMembers, member, depth, poolBytes, rowCount}
+use Rattle.format.specs.Datatype.{Datatype, leaf, compound, enumeration, variableLength, array, Members, noMembers, member, depth, poolBytes, rowCount}
 use Rattle.format.specs.Message.{message, versions, memberVersions, storable, carried, firstAbove}
 use Rattle.format.specs.Outcome.{gives}
 use Rattle.format.specs.Reading.{Answer, got, refused, readOutcome, readingInto, reading, readsBack, tableAfter, poolAfter}
@@ -66,14 +66,8 @@ module _ (e l : ℕ) (one : 1 ≤ l) (le : e ≤ l) where
     unfolding versions firstAbove
 
     pub none-above : (t : Datatype) → firstAbove l (versions e t) ≡ none
-    none-above (fixedPoint n o g f q) = rw (le-leb 1 l one)
-    none-above (floatingPoint n o f q el es ml ms x) = rw (le-leb 1 l one)
-    none-above (time n o q) = rw (le-leb 1 l one)
-    none-above (string n a c) = rw (le-leb 1 l one)
-    none-above (bitField n o f q) = rw (le-leb 1 l one)
-    none-above (opaque n g) = rw (le-leb 1 l one)
+    none-above (leaf n x) = rw (le-leb 1 l one)
     none-above (compound n ms) = rw (le-leb e l le) (members-below ms)
-    none-above (reference n k) = rw (le-leb 1 l one)
     none-above (enumeration n t ms) = rw (le-leb e l le) (none-above t)
     none-above (variableLength i a c t) = rw (le-leb 1 l one) (none-above t)
     none-above (array ds t) = rw (le-leb e l le) (none-above t)

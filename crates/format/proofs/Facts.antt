@@ -6,7 +6,7 @@ use mathlib.Core.Bool.{true}
 use mathlib.Core.List.{List, [], _∷_}
 use lib.ListN.{length}
 use Rattle.format.specs.Utf8.{wellFormed}
-use Rattle.format.specs.Datatype.{Datatype, fixedPoint, floatingPoint, time, string, bitField, opaque, compound, reference, enumeration, variableLength, array, Members, noMembers, member, EnumMember, typeSize, memberCount}
+use Rattle.format.specs.Datatype.{floatNumbers, Leaf, fixedPoint, floatingPoint, time, string, bitField, opaque, reference, Datatype, leaf, compound, enumeration, variableLength, array, Members, noMembers, member, EnumMember, typeSize, memberCount}
 use Rattle.format.specs.Message.{bitWidths, floatWidths, timeWidths, offsetWidth}
 
 -- each number fits its width
@@ -33,17 +33,20 @@ StorableEnum n (m ∷ ms) = NoNul (m .name) × (wellFormed (m .name) ≡ true) �
 unfoldable pub StorableVariable : (isString padding charset : ℕ) → Type 0
 StorableVariable i a c = ((i ≡ 0) × (a ≡ 0) × (c ≡ 0)) ⊎ ((x : ℕ) × (y : ℕ) × (i ≡ 1) × (a ≡ suc x) × (c ≡ suc y) × (x < 3) × (y < 2))
 
+unfoldable pub StorableLeaf : (size : ℕ) → Leaf → Type 0
+StorableLeaf n (fixedPoint o s f q) = (o < 2) × (s < 2) × Fit bitWidths (f ∷ q ∷ [])
+StorableLeaf n (floatingPoint o y) = (n ≤ 536870911) × (o < 3) × Fit floatWidths (floatNumbers y)
+StorableLeaf n (time o q) = (o < 2) × Fit timeWidths (q ∷ [])
+StorableLeaf n (string a c) = (a < 3) × (c < 2)
+StorableLeaf n (bitField o f q) = (o < 2) × Fit bitWidths (f ∷ q ∷ [])
+StorableLeaf n (opaque g) = length g < 256
+StorableLeaf n (reference k) = k < 2
+
 unfoldable mutual
   -- storable, and carried by an edition
   pub Storable : (edition : ℕ) → Datatype → Type 0
-  Storable e (fixedPoint n o s f q) = (0 < n) × (n < 2 ^ 32) × (o < 2) × (s < 2) × Fit bitWidths (f ∷ q ∷ [])
-  Storable e (floatingPoint n o f q el es ml ms x) = (0 < n) × (n ≤ 536870911) × (o < 3) × Fit floatWidths (f ∷ q ∷ el ∷ es ∷ ml ∷ ms ∷ x ∷ [])
-  Storable e (time n o q) = (0 < n) × (n < 2 ^ 32) × (o < 2) × Fit timeWidths (q ∷ [])
-  Storable e (string n a c) = (0 < n) × (n < 2 ^ 32) × (a < 3) × (c < 2)
-  Storable e (bitField n o f q) = (0 < n) × (n < 2 ^ 32) × (o < 2) × Fit bitWidths (f ∷ q ∷ [])
-  Storable e (opaque n g) = (0 < n) × (n < 2 ^ 32) × (length g < 256)
+  Storable e (leaf n x) = (0 < n) × (n < 2 ^ 32) × StorableLeaf n x
   Storable e (compound n ms) = (0 < n) × (n < 2 ^ 32) × (memberCount ms < 2 ^ 16) × StorableMembers e n ms
-  Storable e (reference n k) = (0 < n) × (n < 2 ^ 32) × (k < 2)
   Storable e (enumeration n t ms) = (0 < n) × (n < 2 ^ 32) × (length ms < 2 ^ 16) × StorableEnum (typeSize t) ms × Storable e t
   Storable e (variableLength i a c t) = StorableVariable i a c × Storable e t
   Storable e (array ds t) = (1 < e) × (length ds < 256) × (0 < typeSize (array ds t)) × AllBelow (2 ^ 32) ds × Storable e t

@@ -6,17 +6,18 @@ use mathlib.Core.List.{List, [], _∷_, _++_}
 use mathlib.Core.Option.{none}
 use native.Mathlib.Omega.{arith}
 use lib.ListN.{length, getD}
+use lib.Dec.{leb, ltb}
 use borrow.Author.Tests.{lt-ltb, leb-true, ltb-true, ne-eqb}
 use Rattle.format.specs.declared.Header.{Header}
 use Rattle.format.specs.Bytes.{AllBytes, dimensionBytes}
-use Rattle.format.specs.Bits.{lowBits, highBits, bitAt, floatOrder}
+use Rattle.format.specs.Bits.{lowBits, highBits, bitAt}
 use Rattle.format.specs.Utf8.{wellFormed}
-use Rattle.format.specs.Datatype.{Datatype, fixedPoint, floatingPoint, time, string, bitField, opaque, compound, reference, enumeration, variableLength, array, Members, noMembers, member, EnumMember, enumNames, enumValues, typeSize, depth, rowCount, poolBytes, memberPool}
+use Rattle.format.specs.Datatype.{Leaf, leafClass, leafPool, Datatype, leaf, compound, enumeration, variableLength, array, Members, noMembers, member, EnumMember, enumNames, enumValues, typeSize, depth, rowCount, poolBytes, memberPool}
 use Rattle.format.specs.Message.{validNames, validMemberNames, validEnumNames, message, storable, carried}
 use Rattle.format.specs.Outcome.{gives}
-use Rattle.format.specs.Reading.{Answer, got, refused, Reader, inner, readName, readMembers, readNames, readValues, readVariable, readArray, readProperties, sized, readType, Read, readOutcome, readingInto, reading}
+use Rattle.format.specs.Reading.{Answer, got, refused, Reader, inner, readName, readMembers, readNames, readValues, readVariable, readArray, leafProperties, readProperties, sized, readType, Read, readOutcome, readingInto, reading}
 use Rattle.format.specs.Slots.{firstZero, memberFirstZero, zeroClass, orElse}
-use Rattle.format.specs.Table.{Kind, isFixedPoint, isFloatingPoint, isTime, isString, isBitField, isOpaque, isCompound, isReference, isEnumeration, isVariableLength, isArray, isUnknown, known, knownMembers, allBelow, WithinLimits, maxRows, maxPool}
+use Rattle.format.specs.Table.{LeafKind, isFixedPoint, isFloatingPoint, isTime, isString, isBitField, isOpaque, isReference, Kind, isLeaf, isCompound, isEnumeration, isVariableLength, isArray, isUnknown, leafKnown, known, knownMembers, allBelow, WithinLimits, maxRows, maxPool}
 use Rattle.format.proofs.Booleans.{and-true}
 use Rattle.format.proofs.Bits.{bit-lt, float-order-lt}
 use Rattle.format.proofs.Bytes.{bytes-append, bytes-dimensions}
@@ -127,37 +128,13 @@ abbrev Gives-inside : Answer Datatype → Type 0
 Gives-inside x = Sure (λ t at′ s′ r′ p′. Inside t × AllBytes s′) x
 
 -- each class, from the codes that were checked and the types inside
-fixed-inside : (n o s f q : ℕ) → o < 3 → s < 2 → Inside (fixedPoint n o s f q)
+leaf-inside : (n : ℕ) (x : Leaf) → leafKnown x ≡ true → AllBytes (leafPool x) → Inside (leaf n x)
 unfolding firstZero validNames known poolBytes typeSize
-fixed-inside n o s f q h k = record { sizes = not-zero 0 n; names = refl; codes = and-true _ _ (lt-ltb o 3 h) (lt-ltb s 2 k); bytes = no-bytes }
-
-float-inside : (n o f q el es ml ms x : ℕ) → o < 3 → Inside (floatingPoint n o f q el es ml ms x)
-unfolding firstZero validNames known poolBytes typeSize
-float-inside n o f q el es ml ms x h = record { sizes = not-zero 1 n; names = refl; codes = lt-ltb o 3 h; bytes = no-bytes }
-
-time-inside : (n o q : ℕ) → o < 3 → Inside (time n o q)
-unfolding firstZero validNames known poolBytes typeSize
-time-inside n o q h = record { sizes = not-zero 2 n; names = refl; codes = lt-ltb o 3 h; bytes = no-bytes }
-
-string-inside : (n a c : ℕ) → a < 3 → c < 2 → Inside (string n a c)
-unfolding firstZero validNames known poolBytes typeSize
-string-inside n a c h k = record { sizes = not-zero 3 n; names = refl; codes = and-true _ _ (lt-ltb a 3 h) (lt-ltb c 2 k); bytes = no-bytes }
-
-bit-inside : (n o f q : ℕ) → o < 3 → Inside (bitField n o f q)
-unfolding firstZero validNames known poolBytes typeSize
-bit-inside n o f q h = record { sizes = not-zero 4 n; names = refl; codes = lt-ltb o 3 h; bytes = no-bytes }
-
-opaque-inside : (n : ℕ) (g : List ℕ) → AllBytes g → Inside (opaque n g)
-unfolding firstZero validNames known poolBytes typeSize
-opaque-inside n g h = record { sizes = not-zero 5 n; names = refl; codes = refl; bytes = h }
+leaf-inside n x h k = record { sizes = not-zero (leafClass x) n; names = refl; codes = h; bytes = k }
 
 compound-inside : (n : ℕ) (ms : Members) → SoundMembers ms → Inside (compound n ms)
 unfolding firstZero validNames known poolBytes typeSize orElse
 compound-inside n ms h = record { sizes = λ k. rw (not-zero 6 n k) (h .sizes); names = h .names; codes = h .codes; bytes = h .bytes }
-
-reference-inside : (n k : ℕ) → k < 2 → Inside (reference n k)
-unfolding firstZero validNames known poolBytes typeSize
-reference-inside n k h = record { sizes = not-zero 7 n; names = refl; codes = lt-ltb k 2 h; bytes = no-bytes }
 
 enumeration-inside : (n : ℕ) (t : Datatype) (ms : List EnumMember) → Sound t → EnumSound ms → Inside (enumeration n t ms)
 unfolding firstZero validNames known poolBytes typeSize orElse
@@ -211,39 +188,39 @@ sound-array rd i ver v at s r p b =
     sure-then (sound-inner rd i v a3 s3 r3 p3 (h3 .2 (read .1))) λ t a4 s4 r4 p4 h4.
     met (array-inside _ t (dimensions-below (getD x 0 0) g (read .0)) (h4 .0), h4 .1)
 
-sound-properties : (rd : Reader Datatype) → Reads-sound rd → (h : Header) (c : Kind) (v at : ℕ) (s : List ℕ) (r p : ℕ) → AllBytes s
-    → Gives-inside (readProperties rd h c v at s r p)
-unfolding readProperties
-sound-properties rd i h isFixedPoint v at s r p b =
+-- a code that was checked is known
+code-below : (x n : ℕ) → leb x n ≡ true → ltb x (suc n) ≡ true
+code-below x n h = lt-ltb x (suc n) (omega (arith, leb-true x n h))
+
+sound-leaf : (h : Header) (c : LeafKind) (v at : ℕ) (s : List ℕ) (r p : ℕ) → AllBytes s → Gives-inside (leafProperties h c v at s r p)
+unfolding leafProperties leafKnown leafPool
+sound-leaf h isFixedPoint v at s r p b =
     sure-then (sure-numbers v at s r p _) λ x a1 s1 r1 p1 h1.
-    met (fixed-inside (h .size) (bitAt 0 (h .f0)) (bitAt 3 (h .f0)) _ _ (omega (arith, bit-lt 0 (h .f0))) (bit-lt 3 (h .f0)), h1 .2 b)
-sound-properties rd i h isFloatingPoint v at s r p b =
-    sure-then (sure-numbers v at s r p _) λ x a1 s1 r1 p1 h1.
-    met (float-inside (h .size) (floatOrder (h .f0)) _ _ _ _ _ _ _ (float-order-lt (h .f0)), h1 .2 b)
-sound-properties rd i h isTime v at s r p b =
-    sure-then (sure-numbers v at s r p _) λ x a1 s1 r1 p1 h1.
-    met (time-inside (h .size) (bitAt 0 (h .f0)) _ (omega (arith, bit-lt 0 (h .f0))), h1 .2 b)
-sound-properties rd i h isString v at s r p b =
+    met (leaf-inside (h .size) _ (and-true _ _ (lt-ltb (bitAt 0 (h .f0)) 3 (omega (arith, bit-lt 0 (h .f0)))) (lt-ltb _ 2 (bit-lt 3 (h .f0)))) no-bytes, h1 .2 b)
+sound-leaf h isFloatingPoint v at s r p b = sure-then (sure-numbers v at s r p _) λ x a1 s1 r1 p1 h1. met (leaf-inside (h .size) _ (lt-ltb _ 3 (float-order-lt (h .f0))) no-bytes, h1 .2 b)
+sound-leaf h isTime v at s r p b = sure-then (sure-numbers v at s r p _) λ x a1 s1 r1 p1 h1. met (leaf-inside (h .size) _ (lt-ltb (bitAt 0 (h .f0)) 3 (omega (arith, bit-lt 0 (h .f0)))) no-bytes, h1 .2 b)
+sound-leaf h isString v at s r p b =
     sure-then (sure-require v at s r p _ _) λ u a1 s1 r1 p1 h1.
     sure-then (sure-require v a1 s1 r1 p1 _ _) λ u a2 s2 r2 p2 h2.
-    met (string-inside (h .size) (lowBits 4 (h .f0)) (highBits 4 (h .f0)) (omega (arith, leb-true (lowBits 4 (h .f0)) 2 (h1 .0))) (omega (arith, leb-true (highBits 4 (h .f0)) 1 (h2 .0))), h2 .3 (h1 .3 b))
-sound-properties rd i h isBitField v at s r p b =
-    sure-then (sure-numbers v at s r p _) λ x a1 s1 r1 p1 h1.
-    met (bit-inside (h .size) (bitAt 0 (h .f0)) _ _ (omega (arith, bit-lt 0 (h .f0))), h1 .2 b)
-sound-properties rd i h isOpaque v at s r p b =
+    met (leaf-inside (h .size) _ (and-true _ _ (code-below (lowBits 4 (h .f0)) 2 (h1 .0)) (code-below (highBits 4 (h .f0)) 1 (h2 .0))) no-bytes, h2 .3 (h1 .3 b))
+sound-leaf h isBitField v at s r p b = sure-then (sure-numbers v at s r p _) λ x a1 s1 r1 p1 h1. met (leaf-inside (h .size) _ (lt-ltb (bitAt 0 (h .f0)) 3 (omega (arith, bit-lt 0 (h .f0)))) no-bytes, h1 .2 b)
+sound-leaf h isOpaque v at s r p b =
     sure-then (sure-bytes v at s r p _) λ g a1 s1 r1 p1 h1.
     sure-then (sure-piece v a1 s1 r1 p1 g) λ w a2 s2 r2 p2 h2.
     sure-then (sure-skip v a2 s2 r2 p2 _) λ w a3 s3 r3 p3 h3.
     let read = h1 .3 b in
-    met (opaque-inside (h .size) g (read .0), h3 .2 (h2 .2 (read .1)))
+    met (leaf-inside (h .size) _ refl (read .0), h3 .2 (h2 .2 (read .1)))
+sound-leaf h isReference v at s r p b = sure-then (sure-require v at s r p _ _) λ u a1 s1 r1 p1 h1. met (leaf-inside (h .size) _ (code-below (lowBits 4 (h .f0)) 1 (h1 .0)) no-bytes, h1 .3 b)
+
+sound-properties : (rd : Reader Datatype) → Reads-sound rd → (h : Header) (c : Kind) (v at : ℕ) (s : List ℕ) (r p : ℕ) → AllBytes s
+    → Gives-inside (readProperties rd h c v at s r p)
+unfolding readProperties
+sound-properties rd i h (isLeaf c) v at s r p b = sound-leaf h c v at s r p b
 sound-properties rd i h isCompound v at s r p b =
     sure-then (sure-require v at s r p _ _) λ u a1 s1 r1 p1 h1.
     sure-then (sure-require v a1 s1 r1 p1 _ _) λ u a2 s2 r2 p2 h2.
     sure-then (sound-members _ _ _ rd i v a2 s2 r2 p2 (h2 .3 (h1 .3 b))) λ ms a3 s3 r3 p3 h3.
     met (compound-inside (h .size) ms (h3 .0), h3 .1)
-sound-properties rd i h isReference v at s r p b =
-    sure-then (sure-require v at s r p _ _) λ u a1 s1 r1 p1 h1.
-    met (reference-inside (h .size) (lowBits 4 (h .f0)) (omega (arith, leb-true (lowBits 4 (h .f0)) 1 (h1 .0))), h1 .3 b)
 sound-properties rd i h isEnumeration v at s r p b =
     sure-then (sound-inner rd i v at s r p b) λ t a1 s1 r1 p1 h1.
     sure-then (sound-names _ _ v a1 s1 r1 p1 (h1 .1)) λ bs a2 s2 r2 p2 h2.

@@ -12,7 +12,7 @@ use lib.Dec.{leb, ltb, eqb}
 use borrow.Author.Tests.{ltb-true, ltb-false, lt-ltb, leb-true, le-leb, eqb-true, eqb-false, eq-eqb}
 use Rattle.refusal.specs.declared.Refusal.{Refusal}
 use Rattle.refusal.specs.declared.Refusal.the-variants.{ZeroSize, OutsideRecord, HeapHeld, WrongLength}
-use Rattle.format.specs.Datatype.{Datatype, fixedPoint, floatingPoint, time, string, bitField, opaque, compound, reference, enumeration, variableLength, array, Members, noMembers, member, typeSize, product, maxSize}
+use Rattle.format.specs.Datatype.{Datatype, leaf, compound, enumeration, variableLength, array, Members, noMembers, member, typeSize, product, maxSize}
 use Rattle.format.specs.Outcome.{Outcome, gives, refuses, whenGiven, unless}
 use Rattle.format.specs.Slots.{firstZero, unlessZero}
 use Rattle.format.specs.Table.{typeOf}
@@ -78,14 +78,8 @@ mutual
   unfolding FieldAt owned typeSize
 
   pub owned-sound : (t : Datatype) (i : ℕ) → owned t i ≡ true → Owned t i
-  owned-sound (fixedPoint n o s f q) i h = whole (fixedPoint n o s f q) i (refl, refl) h
-  owned-sound (floatingPoint n o f q el es ml ms x) i h = whole (floatingPoint n o f q el es ml ms x) i (refl, refl) h
-  owned-sound (time n o q) i h = whole (time n o q) i (refl, refl) h
-  owned-sound (string n a c) i h = whole (string n a c) i (refl, refl) h
-  owned-sound (bitField n o f q) i h = whole (bitField n o f q) i (refl, refl) h
-  owned-sound (opaque n g) i h = whole (opaque n g) i (refl, refl) h
+  owned-sound (leaf n x) i h = whole (leaf n x) i (refl, refl) h
   owned-sound (compound n ms) i h = member-owned-sound n ms i h
-  owned-sound (reference n k) i h = whole (reference n k) i (refl, refl) h
   owned-sound (enumeration n t ms) i h = whole (enumeration n t ms) i (refl, refl) h
   owned-sound (variableLength x a c t) i h = whole (variableLength x a c t) i (refl, refl) h
   owned-sound (array ds t) i h =
@@ -108,14 +102,8 @@ mutual
   unfolding FieldAt owned typeSize
 
   field-owned : (t x : Datatype) (p i : ℕ) → FieldAt t x p → p ≤ i → i < p + typeSize x → owned t i ≡ true
-  field-owned (fixedPoint n o s f q) x p i h l m = within (fixedPoint n o s f q) x p i h l m
-  field-owned (floatingPoint n o f q el es ml ms b) x p i h l m = within (floatingPoint n o f q el es ml ms b) x p i h l m
-  field-owned (time n o q) x p i h l m = within (time n o q) x p i h l m
-  field-owned (string n a c) x p i h l m = within (string n a c) x p i h l m
-  field-owned (bitField n o f q) x p i h l m = within (bitField n o f q) x p i h l m
-  field-owned (opaque n g) x p i h l m = within (opaque n g) x p i h l m
+  field-owned (leaf n y) x p i h l m = within (leaf n y) x p i h l m
   field-owned (compound n ms) x p i h l m = member-field-owned ms x p i h l m
-  field-owned (reference n k) x p i h l m = within (reference n k) x p i h l m
   field-owned (enumeration n t ms) x p i h l m = within (enumeration n t ms) x p i h l m
   field-owned (variableLength y a c t) x p i h l m = within (variableLength y a c t) x p i h l m
   field-owned (array ds t) x p i (k, q, g, e, r) l m =
@@ -146,14 +134,8 @@ mutual
   unfolding outside owned typeSize
 
   pub owned-inside : (t : Datatype) (i : ℕ) → outside t ≡ false → owned t i ≡ true → i < typeSize t
-  owned-inside (fixedPoint n o s f q) i h w = ltb-true i n w
-  owned-inside (floatingPoint n o f q el es ml ms x) i h w = ltb-true i n w
-  owned-inside (time n o q) i h w = ltb-true i n w
-  owned-inside (string n a c) i h w = ltb-true i n w
-  owned-inside (bitField n o f q) i h w = ltb-true i n w
-  owned-inside (opaque n g) i h w = ltb-true i n w
+  owned-inside (leaf n x) i h w = ltb-true i n w
   owned-inside (compound n ms) i h w = member-owned-inside n ms i h w
-  owned-inside (reference n k) i h w = ltb-true i n w
   owned-inside (enumeration n t ms) i h w = ltb-true i n w
   owned-inside (variableLength x a c t) i h w = ltb-true i 16 w
   owned-inside (array ds t) i h w =

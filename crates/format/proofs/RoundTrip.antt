@@ -10,12 +10,12 @@ use lib.Seq.{take-at}
 use borrow.Author.Tests.{le-leb, lt-ltb}
 use Rattle.format.specs.Bytes.{littleEndian, zeros, paddingTo8, packNumbers, totalWidth, dimensionBytes}
 use Rattle.format.specs.Bits.{fixedFlags, floatFlags, nibbles}
-use Rattle.format.specs.Datatype.{Datatype, fixedPoint, floatingPoint, time, string, bitField, opaque, compound, reference, enumeration, variableLength, array, Members, noMembers, member, EnumMember, enumNames, enumValues, typeSize, memberCount, depth, memberDepth, poolBytes, memberPool, rowCount, memberRowCount}
-use Rattle.format.specs.Message.{header, reservedBytes, permutationBytes, bitWidths, floatWidths, timeWidths, arrayBytes, enumNameBytes, namePadding, offsetWidth, skippedBytes, nameBytes, variableFlags, variableCharset, codeOf, message, memberBytes, versions, memberVersions}
-use Rattle.format.specs.Reading.{got, Reader, classKind, layoutVersion, countOf, then, number, name, moved, inner, readMembers, readNames, readValues, readVariable, readArray, readProperties, sized, readType}
+use Rattle.format.specs.Datatype.{floatNumbers, floatLayout, Leaf, fixedPoint, floatingPoint, time, string, bitField, opaque, reference, leafPool, Datatype, leaf, compound, enumeration, variableLength, array, Members, noMembers, member, EnumMember, enumNames, enumValues, typeSize, memberCount, depth, memberDepth, poolBytes, memberPool, rowCount, memberRowCount}
+use Rattle.format.specs.Message.{header, reservedBytes, permutationBytes, bitWidths, floatWidths, timeWidths, arrayBytes, enumNameBytes, namePadding, offsetWidth, skippedBytes, nameBytes, variableFlags, variableCharset, codeOf, leafMessage, message, memberBytes, versions, memberVersions}
+use Rattle.format.specs.Reading.{got, Reader, classKind, layoutVersion, countOf, then, number, name, moved, inner, readMembers, readNames, readValues, readVariable, readArray, leafProperties, readProperties, sized, readType}
 use Rattle.format.proofs.Bits.{order-back, signed-back, float-order-back, bit0-of, low-mod, nibbles-low, nibbles-high}
 use Rattle.format.proofs.Bytes.{length-packed, length-littleEndian, length-zeros, length-dimensions, dimensions-back}
-use Rattle.format.proofs.Facts.{Storable, StorableMembers, StorableEnum, StorableVariable}
+use Rattle.format.proofs.Facts.{StorableLeaf, Storable, StorableMembers, StorableEnum, StorableVariable}
 use Rattle.format.proofs.Steps.{held, then-held, moved-held, held-append, bytes-at, skip-at, number-at, numbers-at, row-at, piece-at, readName-at, got-path, header-at, require-at, length-header}
 
 -- a reader takes the message of t off the bytes, and its rows and pool bytes off what is free
@@ -91,64 +91,39 @@ names-length e m ms = simp (length-append, length-zeros) (omega arith)
 
 pub no-levels : (t : Datatype) → depth t ≤ 0 → ⊥
 unfolding depth
-no-levels (fixedPoint n o g f q) h = omega arith
-no-levels (floatingPoint n o f q el es ml ms x) h = omega arith
-no-levels (time n o q) h = omega arith
-no-levels (string n a c) h = omega arith
-no-levels (bitField n o f q) h = omega arith
-no-levels (opaque n g) h = omega arith
+no-levels (leaf n x) h = omega arith
 no-levels (compound n ms) h = omega arith
-no-levels (reference n k) h = omega arith
 no-levels (enumeration n t ms) h = omega arith
 no-levels (variableLength i a c t) h = omega arith
 no-levels (array ds t) h = omega arith
 
 module _ (l e : ℕ) where
-  reads-fixedPoint : (k n o g f q : ℕ) → Storable e (fixedPoint n o g f q) → Reads l e (readType l (suc k)) (fixedPoint n o g f q)
-  unfolding rowCount poolBytes message versions Storable typeSize totalWidth readProperties then held classKind
-  reads-fixedPoint k n o g f q h v at s r p =
-      framed l k v at s r p 0 1 (fixedFlags o g) 0 n (omega arith) (h .1) (packNumbers bitWidths (f ∷ q ∷ [])) [] 0 (0 + p) (fixedPoint n o g f q) (h .0)
-      (rw (numbers-at _ _ _ _ _ _ _ (h .4), length-packed _ _ (h .4), order-back o g (h .2) (h .3), signed-back o g (h .2) (h .3)) (got-path refl refl (omega arith) (omega arith)))
-
-  reads-floatingPoint : (k n o f q el es ml ms x : ℕ) → Storable e (floatingPoint n o f q el es ml ms x)
-      → Reads l e (readType l (suc k)) (floatingPoint n o f q el es ml ms x)
-  unfolding rowCount poolBytes message versions Storable typeSize totalWidth readProperties then held classKind
-  reads-floatingPoint k n o f q el es ml ms x h v at s r p =
-      framed l k v at s r p 1 1 (floatFlags o) ((n * 8 - 1) % 256) n (omega arith) (omega arith) (packNumbers floatWidths (f ∷ q ∷ el ∷ es ∷ ml ∷ ms ∷ x ∷ [])) [] 0 (0 + p) (floatingPoint n o f q el es ml ms x) (h .0)
-      (rw (numbers-at _ _ _ _ _ _ _ (h .3), length-packed _ _ (h .3), float-order-back o (h .2)) (got-path refl refl (omega arith) (omega arith)))
-
-  reads-time : (k n o q : ℕ) → Storable e (time n o q) → Reads l e (readType l (suc k)) (time n o q)
-  unfolding rowCount poolBytes message versions Storable typeSize totalWidth readProperties then held classKind
-  reads-time k n o q h v at s r p =
-      framed l k v at s r p 2 1 o 0 n (omega arith) (h .1) (packNumbers timeWidths (q ∷ [])) [] 0 (0 + p) (time n o q) (h .0)
-      (rw (numbers-at _ _ _ _ _ _ _ (h .3), bit0-of o (h .2), length-packed _ _ (h .3)) (got-path refl refl (omega arith) (omega arith)))
-
-  reads-string : (k n a c : ℕ) → Storable e (string n a c) → Reads l e (readType l (suc k)) (string n a c)
-  unfolding rowCount poolBytes message versions Storable typeSize totalWidth readProperties then held classKind
-  reads-string k n a c h v at s r p =
+  reads-leaf : (k n : ℕ) (x : Leaf) → 0 < n → n < 2 ^ 32 → StorableLeaf n x → Reads l e (readType l (suc k)) (leaf n x)
+  unfolding rowCount poolBytes leafPool message leafMessage versions StorableLeaf typeSize totalWidth readProperties leafProperties floatLayout floatNumbers then held classKind
+  reads-leaf k n (fixedPoint o g f q) pos small h v at s r p =
+      framed l k v at s r p 0 1 (fixedFlags o g) 0 n (omega arith) small (packNumbers bitWidths (f ∷ q ∷ [])) [] 0 (0 + p) _ pos
+      (rw (numbers-at _ _ _ _ _ _ _ (h .2), length-packed _ _ (h .2), order-back o g (h .0) (h .1), signed-back o g (h .0) (h .1)) (got-path refl refl (omega arith) (omega arith)))
+  reads-leaf k n (floatingPoint o y) pos small h v at s r p =
+      framed l k v at s r p 1 1 (floatFlags o) ((n * 8 - 1) % 256) n (omega arith) small (packNumbers floatWidths (floatNumbers y)) [] 0 (0 + p) _ pos
+      (rw (numbers-at _ _ _ _ _ _ _ (h .2), length-packed _ _ (h .2), float-order-back o (h .1)) (got-path refl refl (omega arith) (omega arith)))
+  reads-leaf k n (time o q) pos small h v at s r p =
+      framed l k v at s r p 2 1 o 0 n (omega arith) small (packNumbers timeWidths (q ∷ [])) [] 0 (0 + p) _ pos
+      (rw (numbers-at _ _ _ _ _ _ _ (h .1), bit0-of o (h .0), length-packed _ _ (h .1)) (got-path refl refl (omega arith) (omega arith)))
+  reads-leaf k n (string a c) pos small h v at s r p =
       rw (← append-nil (header 3 1 (nibbles a c) 0 n))
-      (framed l k v at s r p 3 1 (nibbles a c) 0 n (omega arith) (h .1) [] [] 0 (0 + p) (string n a c) (h .0)
+      (framed l k v at s r p 3 1 (nibbles a c) 0 n (omega arith) small [] [] 0 (0 + p) (leaf n (string a c)) pos
       (rw (nibbles-low a c (omega arith), nibbles-high a c (omega arith), require-at _ _ _ _ _ _ _ (le-leb a 2 (omega arith)), require-at _ _ _ _ _ _ _ (le-leb c 1 (omega arith)))
       (got-path refl (omega arith) (omega arith) (omega arith))))
-
-  reads-bitField : (k n o f q : ℕ) → Storable e (bitField n o f q) → Reads l e (readType l (suc k)) (bitField n o f q)
-  unfolding rowCount poolBytes message versions Storable typeSize totalWidth readProperties then held classKind
-  reads-bitField k n o f q h v at s r p =
-      framed l k v at s r p 4 1 o 0 n (omega arith) (h .1) (packNumbers bitWidths (f ∷ q ∷ [])) [] 0 (0 + p) (bitField n o f q) (h .0)
-      (rw (numbers-at _ _ _ _ _ _ _ (h .3), length-packed _ _ (h .3), bit0-of o (h .2)) (got-path refl refl (omega arith) (omega arith)))
-
-  reads-opaque : (k n : ℕ) (g : List ℕ) → Storable e (opaque n g) → Reads l e (readType l (suc k)) (opaque n g)
-  unfolding rowCount poolBytes message versions Storable typeSize totalWidth readProperties then held classKind
-  reads-opaque k n g h v at s r p =
-      framed l k v at s r p 5 1 (length g) 0 n (omega arith) (h .1) (g ++ zeros (paddingTo8 (length g))) [] 0 (length g + p) (opaque n g) (h .0)
+  reads-leaf k n (bitField o f q) pos small h v at s r p =
+      framed l k v at s r p 4 1 o 0 n (omega arith) small (packNumbers bitWidths (f ∷ q ∷ [])) [] 0 (0 + p) _ pos
+      (rw (numbers-at _ _ _ _ _ _ _ (h .1), length-packed _ _ (h .1), bit0-of o (h .0)) (got-path refl refl (omega arith) (omega arith)))
+  reads-leaf k n (opaque g) pos small h v at s r p =
+      framed l k v at s r p 5 1 (length g) 0 n (omega arith) small (g ++ zeros (paddingTo8 (length g))) [] 0 (length g + p) _ pos
       (rw (append-assoc, bytes-at _ _ _ _ _ _ g refl, piece-at, skip-at _ _ _ _ _ _ (zeros (paddingTo8 (length g))) (length-zeros _), length-append, length-zeros)
       (got-path refl (omega arith) (omega arith) refl))
-
-  reads-reference : (k n x : ℕ) → Storable e (reference n x) → Reads l e (readType l (suc k)) (reference n x)
-  unfolding rowCount poolBytes message versions Storable typeSize totalWidth readProperties then held classKind
-  reads-reference k n x h v at s r p =
+  reads-leaf k n (reference x) pos small h v at s r p =
       rw (← append-nil (header 7 1 x 0 n))
-      (framed l k v at s r p 7 1 x 0 n (omega arith) (h .1) [] [] 0 (0 + p) (reference n x) (h .0)
+      (framed l k v at s r p 7 1 x 0 n (omega arith) small [] [] 0 (0 + p) (leaf n (reference x)) pos
       (rw (low-mod 4 x, mod-eq-of-lt {n = x} {m = 16} (omega arith), require-at _ _ _ _ _ _ _ (le-leb x 1 (omega arith)))
       (got-path refl (omega arith) (omega arith) (omega arith))))
 
@@ -298,14 +273,8 @@ module _ (l e : ℕ) where
   pub reads : 0 < e → e ≤ 3 → (k : ℕ) (t : Datatype) → depth t ≤ k → Storable e t → Reads l e (readType l k) t
   unfolding depth Storable
   reads lo hi zero t d h = absurd (no-levels t d)
-  reads lo hi (suc k) (fixedPoint n o g f q) d h = reads-fixedPoint k n o g f q h
-  reads lo hi (suc k) (floatingPoint n o f q el es ml ms x) d h = reads-floatingPoint k n o f q el es ml ms x h
-  reads lo hi (suc k) (time n o q) d h = reads-time k n o q h
-  reads lo hi (suc k) (string n a c) d h = reads-string k n a c h
-  reads lo hi (suc k) (bitField n o f q) d h = reads-bitField k n o f q h
-  reads lo hi (suc k) (opaque n g) d h = reads-opaque k n g h
+  reads lo hi (suc k) (leaf n x) d h = reads-leaf k n x (h .0) (h .1) (h .2)
   reads lo hi (suc k) (compound n ms) d h = reads-compound k n ms lo hi h (reads lo hi k) (omega arith)
-  reads lo hi (suc k) (reference n x) d h = reads-reference k n x h
   reads lo hi (suc k) (enumeration n t ms) d h = reads-enumeration k n t ms h (reads lo hi k t (omega arith) (h .4))
   reads lo hi (suc k) (variableLength i a c t) d h = reads-variableLength k i a c t (h .0) (reads lo hi k t (omega arith) (h .1))
   reads lo hi (suc k) (array ds t) d h = reads-array k ds t hi h (reads lo hi k t (omega arith) (h .4))

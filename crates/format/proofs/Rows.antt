@@ -9,43 +9,55 @@ use lib.Seq.{getD-take, getD-drop, drop-drop}
 use lib.Dec.{eqb}
 use borrow.Author.Tests.{eqb-true, eq-eqb}
 use Rattle.format.specs.Bytes.{dimensionBytes}
-use Rattle.format.specs.Datatype.{Datatype, fixedPoint, floatingPoint, time, string, bitField, opaque, compound, reference, enumeration, variableLength, array, Members, noMembers, member, EnumMember, memberCount, rowCount, memberRowCount, poolBytes, enumNames}
-use Rattle.format.specs.Table.{row, memberRow, enumMemberRow, enumRows, rows, memberRows, wordsAt, sameWords, column}
+use Rattle.format.specs.Datatype.{leafClass, Leaf, fixedPoint, floatingPoint, time, string, bitField, opaque, reference, Datatype, leaf, compound, enumeration, variableLength, array, Members, noMembers, member, EnumMember, memberCount, rowCount, memberRowCount, poolBytes, enumNames}
+use Rattle.format.specs.Table.{row, leafRow, compoundRow, enumerationRow, variableLengthRow, arrayRow, memberRow, enumMemberRow, enumRows, rows, memberRows, wordsAt, sameWords, column}
 use Rattle.format.proofs.Booleans.{and-both}
-use Rattle.format.proofs.Bytes.{length-padded}
 
-pub length-row : (k s p l c : ℕ) (rest : List ℕ) → length rest ≤ 11 → length (row k s p l c rest) ≡ 16
+pub length-row : (k : ℕ) (xs : List (ℕ × ℕ)) → length (row k xs) ≡ 16
 unfolding row
-length-row k s p l c rest h = let e = length-padded 11 rest h in omega arith
+length-row k xs = refl
+
+pub length-compoundRow : (n k : ℕ) → length (compoundRow n k) ≡ 16
+unfolding compoundRow
+length-compoundRow n k = length-row _ _
 
 pub length-memberRow : (p o n : ℕ) → length (memberRow p o n) ≡ 16
 unfolding memberRow
-length-memberRow p o n = length-row 12 o p n 0 [] (omega arith)
+length-memberRow p o n = length-row _ _
 
 pub length-enumMemberRow : (p n v : ℕ) → length (enumMemberRow p n v) ≡ 16
 unfolding enumMemberRow
-length-enumMemberRow p n v = length-row 13 0 p n v [] (omega arith)
+length-enumMemberRow p n v = length-row _ _
 
 pub length-enumRows : (p : ℕ) (ms : List EnumMember) → length (enumRows p ms) ≡ 16 * length ms
 unfolding enumRows
 length-enumRows p [] = refl
 length-enumRows p (m ∷ ms) = rw (length-append, length-enumMemberRow) (omega (arith, length-enumRows (p + length (m .name)) ms))
 
+pub length-leafRow : (p n : ℕ) (x : Leaf) → length (leafRow p n x) ≡ 16
+unfolding leafRow
+length-leafRow p n x = length-row _ _
+
+-- the classes of leaves
+pub leafClass-low : (x : Leaf) → leafClass x ≤ 7
+unfolding leafClass
+leafClass-low (fixedPoint o s f q) = omega arith
+leafClass-low (floatingPoint o y) = omega arith
+leafClass-low (time o q) = omega arith
+leafClass-low (string a c) = omega arith
+leafClass-low (bitField o f q) = omega arith
+leafClass-low (opaque g) = omega arith
+leafClass-low (reference k) = omega arith
+
 mutual
-  unfolding rows rowCount
+  unfolding rows rowCount compoundRow enumerationRow variableLengthRow arrayRow
 
   pub length-rows : (t : Datatype) (p : ℕ) → length (rows p t) ≡ 16 * rowCount t
-  length-rows (fixedPoint n o s f q) p = length-row 1 n 0 0 0 (o ∷ s ∷ f ∷ q ∷ []) (omega arith)
-  length-rows (floatingPoint n o f q el es ml ms x) p = length-row 2 n 0 0 0 (o ∷ 0 ∷ f ∷ q ∷ el ∷ es ∷ ml ∷ ms ∷ x ∷ []) (omega arith)
-  length-rows (time n o q) p = length-row 3 n 0 0 0 (o ∷ 0 ∷ 0 ∷ q ∷ []) (omega arith)
-  length-rows (string n a c) p = length-row 4 n 0 0 0 (a ∷ c ∷ []) (omega arith)
-  length-rows (bitField n o f q) p = length-row 5 n 0 0 0 (o ∷ 0 ∷ f ∷ q ∷ []) (omega arith)
-  length-rows (opaque n g) p = length-row 6 n p (length g) 0 [] (omega arith)
-  length-rows (compound n ms) p = rw (length-append, length-row 7 n 0 0 (memberCount ms) [] (omega arith)) (omega (arith, length-memberRows ms p))
-  length-rows (reference n k) p = length-row 8 n 0 0 0 (k ∷ []) (omega arith)
-  length-rows (enumeration n t ms) p = rw (length-append, length-row 9 n 0 0 (length ms) [] (omega arith), length-append, length-rows t p, length-enumRows) (omega arith)
-  length-rows (variableLength i a c t) p = rw (length-append, length-row 10 0 0 0 0 (i ∷ a ∷ c ∷ []) (omega arith)) (omega (arith, length-rows t p))
-  length-rows (array ds t) p = rw (length-append, length-row 11 0 p (length ds) 0 [] (omega arith)) (omega (arith, length-rows t (p + length (dimensionBytes ds))))
+  length-rows (leaf n x) p = length-leafRow p n x
+  length-rows (compound n ms) p = rw (length-append, length-row) (omega (arith, length-memberRows ms p))
+  length-rows (enumeration n t ms) p = rw (length-append, length-row, length-append, length-rows t p, length-enumRows) (omega arith)
+  length-rows (variableLength i a c t) p = rw (length-append, length-row) (omega (arith, length-rows t p))
+  length-rows (array ds t) p = rw (length-append, length-row) (omega (arith, length-rows t (p + length (dimensionBytes ds))))
 
   pub length-memberRows : (ms : Members) (p : ℕ) → length (memberRows p ms) ≡ 16 * memberRowCount ms
   length-memberRows noMembers p = refl

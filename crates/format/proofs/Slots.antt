@@ -2,7 +2,7 @@
 use Prim.Native.Nat.{ℕ, zero, suc, _+_, _*_, _/_, _<_, _≤_, min, max}
 use mathlib.Core.Path.{_≡_, refl, sym, ap, _∙_}
 use mathlib.Core.Logic.{_⊎_, inl, inr, ⊎-elim}
-use mathlib.Core.Bool.{Bool, true, false, cond, not, _||_, or-true}
+use mathlib.Core.Bool.{Bool, true, false, cond, not, _&&_, _||_, or-true}
 use mathlib.Core.List.{List, [], _∷_, _++_, List·Memᴰ, List·Memᴰ·head, List·Memᴰ·tail, List·Memᴰ·not-nil, List·Memᴰ·cases-cons}
 use mathlib.Core.Option.{Option, none, some}
 use native.Mathlib.Nat.{add-mul, suc-mul, zero-mul, mul-zero, div-mul-le-self}
@@ -12,7 +12,7 @@ use lib.Seq.{getD-append-add}
 use lib.Dec.{ltb}
 use borrow.Author.Tests.{ltb-true, ltb-false, lt-ltb, le-ltb}
 use Rattle.format.specs.Bytes.{numberFrom}
-use Rattle.format.specs.Datatype.{Datatype, fixedPoint, floatingPoint, time, string, bitField, opaque, compound, reference, enumeration, variableLength, array, Members, noMembers, member, typeSize, product}
+use Rattle.format.specs.Datatype.{Leaf, fixedPoint, floatingPoint, time, string, bitField, opaque, reference, refers, Datatype, leaf, compound, enumeration, variableLength, array, Members, noMembers, member, typeSize, product}
 use Rattle.format.specs.Sizes.{holdsObjectAddress, memberHoldsObjectAddress}
 use Rattle.format.specs.Slots.{isSlot, shifted, entries, slots, memberSlots, slotCount, memberSlotCount, lastEnd, movedEnd, slotEnd, memberSlotEnd, holdsOtherReference, memberHoldsOtherReference, holdsHiddenReference, memberHoldsHiddenReference, someOutside, unmapped, orElse, zeroClass, firstZero, memberFirstZero, recordSize, recordCount, valuesAt, referencePlaces}
 use Rattle.format.proofs.Booleans.{or-either, or-neither, or-second, same-test}
@@ -37,14 +37,8 @@ mutual
   unfolding slots slotCount
 
   pub length-slots : (t : Datatype) → length (slots t) ≡ slotCount t
-  length-slots (fixedPoint n o s f q) = refl
-  length-slots (floatingPoint n o f q el es ml ms x) = refl
-  length-slots (time n o q) = refl
-  length-slots (string n a c) = refl
-  length-slots (bitField n o f q) = refl
-  length-slots (opaque n g) = refl
+  length-slots (leaf n x) = one-or-none (refers (isSlot n) x)
   length-slots (compound n ms) = length-member-slots ms
-  length-slots (reference n k) = one-or-none (isSlot n k)
   length-slots (enumeration n t ms) = refl
   length-slots (variableLength i a c t) = refl
   length-slots (array ds t) = length-entries (typeSize t) (slots t) 0 (product ds) ∙ rw (length-slots t)
@@ -130,14 +124,8 @@ mutual
   unfolding slots slotEnd endOf
 
   pub slot-end : (t : Datatype) → slotEnd t ≡ endOf (slots t)
-  slot-end (fixedPoint n o s f q) = refl
-  slot-end (floatingPoint n o f q el es ml ms x) = refl
-  slot-end (time n o q) = refl
-  slot-end (string n a c) = refl
-  slot-end (bitField n o f q) = refl
-  slot-end (opaque n g) = refl
+  slot-end (leaf n x) = one-end (refers (isSlot n) x)
   slot-end (compound n ms) = member-slot-end ms
-  slot-end (reference n k) = one-end (isSlot n k)
   slot-end (enumeration n t ms) = refl
   slot-end (variableLength i a c t) = refl
   slot-end (array ds t) = rw (slot-end t) (sym (entries-end (typeSize t) (slots t) (product ds)))
@@ -266,14 +254,8 @@ or-else-none (some c) y h = (h, cc)
 
 pub first-zero-size : (t : Datatype) → firstZero t ≡ none → 0 < typeSize t
 unfolding firstZero typeSize
-first-zero-size (fixedPoint n o s f q) h = some-size _ n h
-first-zero-size (floatingPoint n o f q el es ml ms x) h = some-size _ n h
-first-zero-size (time n o q) h = some-size _ n h
-first-zero-size (string n a c) h = some-size _ n h
-first-zero-size (bitField n o f q) h = some-size _ n h
-first-zero-size (opaque n g) h = some-size _ n h
+first-zero-size (leaf n x) h = some-size _ n h
 first-zero-size (compound n ms) h = some-size _ n (or-else-none _ _ h .0)
-first-zero-size (reference n k) h = some-size _ n h
 first-zero-size (enumeration n t ms) h = some-size _ n (or-else-none _ _ h .0)
 first-zero-size (variableLength i a c t) h = omega arith
 first-zero-size (array ds t) h = some-size _ _ (or-else-none _ _ h .0)
@@ -287,20 +269,35 @@ slot-or-other : (b : Bool) → not b ≡ false → _≡_ {A = ℕ} (cond b 1 0) 
 slot-or-other true h e = let z : _≡_ {A = ℕ} 0 1 = sym e in absurd (omega arith)
 slot-or-other false h e = h
 
+-- only a reference refers
+pub refers-within : (f : ℕ → Bool) (v : Leaf) → refers f v ≡ (refers (λ k. true) v && refers f v)
+unfolding refers
+refers-within f (fixedPoint o s g q) = refl
+refers-within f (floatingPoint o y) = refl
+refers-within f (time o q) = refl
+refers-within f (string a c) = refl
+refers-within f (bitField o g q) = refl
+refers-within f (opaque g) = refl
+refers-within f (reference k) = refl
+
+slot-or-none : (n : ℕ) (v : Leaf) → refers (λ k. not (isSlot n k)) v ≡ false → _≡_ {A = ℕ} (cond (refers (isSlot n) v) 1 0) 0 → refers (λ k. true) v ≡ false
+unfolding refers
+slot-or-none n (fixedPoint o s f q) h e = refl
+slot-or-none n (floatingPoint o y) h e = refl
+slot-or-none n (time o q) h e = refl
+slot-or-none n (string a c) h e = refl
+slot-or-none n (bitField o f q) h e = refl
+slot-or-none n (opaque g) h e = refl
+slot-or-none n (reference k) h e = slot-or-other (isSlot n k) h e
+
 -- a type that neither of the first two grounds meets, with no slot and no size 0 in it, holds no reference
 mutual
   unfolding holdsOtherReference holdsHiddenReference holdsObjectAddress slotCount firstZero typeSize
 
   pub no-slot-no-reference : (t : Datatype) → firstZero t ≡ none → holdsOtherReference t ≡ false → holdsHiddenReference t ≡ false → slotCount t ≡ 0
       → holdsObjectAddress t ≡ false
-  no-slot-no-reference (fixedPoint n o s f q) z x y c = refl
-  no-slot-no-reference (floatingPoint n o f q el es ml ms b) z x y c = refl
-  no-slot-no-reference (time n o q) z x y c = refl
-  no-slot-no-reference (string n a d) z x y c = refl
-  no-slot-no-reference (bitField n o f q) z x y c = refl
-  no-slot-no-reference (opaque n g) z x y c = refl
+  no-slot-no-reference (leaf n v) z x y c = slot-or-none n v x c
   no-slot-no-reference (compound n ms) z x y c = no-member-slot ms (or-else-none _ _ z .1) x y c
-  no-slot-no-reference (reference n k) z x y c = slot-or-other (isSlot n k) x c
   no-slot-no-reference (enumeration n t ms) z x y c = y
   no-slot-no-reference (variableLength i a d t) z x y c = y
   no-slot-no-reference (array ds t) z x y c =

@@ -7,11 +7,11 @@ use mathlib.Core.List.{List, [], _∷_}
 use borrow.Author.Tests.{ltb-true, leb-true, eqb-true}
 use lib.Dec.{ltb, leb, eqb}
 use native.Mathlib.Omega.{arith}
-use Rattle.format.specs.Datatype.{Datatype, fixedPoint, floatingPoint, time, string, bitField, opaque, compound, reference, enumeration, variableLength, array, Members, noMembers, member, EnumMember}
-use Rattle.format.specs.Message.{all, noNul, fit, storableEnum, storableVariable, storable, storableMembers, carried, carriedMembers, offsetWidth}
+use Rattle.format.specs.Datatype.{Leaf, fixedPoint, floatingPoint, time, string, bitField, opaque, reference, Datatype, leaf, compound, enumeration, variableLength, array, Members, noMembers, member, EnumMember}
+use Rattle.format.specs.Message.{all, noNul, fit, storableEnum, storableVariable, storableLeaf, storable, storableMembers, carried, carriedMembers, offsetWidth}
 use Rattle.format.specs.Table.{allBelow}
 use Rattle.format.proofs.Booleans.{and-both, or-either}
-use Rattle.format.proofs.Facts.{Fit, NoNul, AllBelow, Storable, StorableMembers, StorableEnum, StorableVariable}
+use Rattle.format.proofs.Facts.{Fit, NoNul, AllBelow, StorableLeaf, Storable, StorableMembers, StorableEnum, StorableVariable}
 
 unfoldable pub Facts : List Bool → Type 0
 Facts [] = Unit {0}
@@ -87,21 +87,25 @@ offset-fact e n o = go (ltb e 3) (leb n 255) (leb n 65535)
     go true false false h = h
     go false b c h = h
 
+leaf-fact : (n : ℕ) (x : Leaf) → storableLeaf n x ≡ true → StorableLeaf n x
+unfolding storableLeaf StorableLeaf Facts
+leaf-fact n (fixedPoint o s f q) h = let x = all-facts _ h in search facts
+leaf-fact n (floatingPoint o y) h = let x = all-facts _ h in search facts
+leaf-fact n (time o q) h = let x = all-facts _ h in search facts
+leaf-fact n (string a c) h = let x = all-facts _ h in search facts
+leaf-fact n (bitField o f q) h = let x = all-facts _ h in search facts
+leaf-fact n (opaque g) h = ltb-true _ _ h
+leaf-fact n (reference k) h = ltb-true _ _ h
+
 mutual
   unfolding storable Storable Facts carried
 
   pub storable-fact : (e : ℕ) (t : Datatype) → storable t ≡ true → carried e t ≡ true → Storable e t
-  storable-fact e (fixedPoint n o s f q) h k = let x = all-facts _ h in search facts
-  storable-fact e (floatingPoint n o f q el es ml ms b) h k = let x = all-facts _ h in search facts
-  storable-fact e (time n o q) h k = let x = all-facts _ h in search facts
-  storable-fact e (string n a c) h k = let x = all-facts _ h in search facts
-  storable-fact e (bitField n o f q) h k = let x = all-facts _ h in search facts
-  storable-fact e (opaque n g) h k = let x = all-facts _ h in search facts
+  storable-fact e (leaf n x) h k = let f = all-facts _ h in (ltb-true 0 n (f .0), ltb-true n (2 ^ 32) (f .1 .0), leaf-fact n x (f .1 .1 .0))
   storable-fact e (compound n ms) h k =
       let x = all-facts _ h in
       let y : storableMembers n ms ≡ true → StorableMembers e n ms = λ q. storable-members e n ms q k in
       search (facts, y)
-  storable-fact e (reference n m) h k = let x = all-facts _ h in search facts
   storable-fact e (enumeration n t ms) h k =
       let x = all-facts _ h in
       let y : storable t ≡ true → Storable e t = λ q. storable-fact e t q k in

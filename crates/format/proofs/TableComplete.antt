@@ -10,12 +10,12 @@ use lib.ListN.{length, drop, length-append, length-drop}
 use lib.Seq.{drop-drop, take-at, drop-at}
 use lib.Dec.{ltb}
 use borrow.Author.Tests.{le-leb}
-use Rattle.format.specs.Bytes.{zeros, padded, dimensionBytes, dimensionsFrom}
-use Rattle.format.specs.Datatype.{Datatype, fixedPoint, floatingPoint, time, string, bitField, opaque, compound, reference, enumeration, variableLength, array, Members, noMembers, member, EnumMember, memberCount, depth, memberDepth, rowCount, memberRowCount, poolBytes, memberPool, enumNames, enumValues}
-use Rattle.format.specs.Table.{row, memberRow, enumMemberRow, enumRows, rows, memberRows, allBelow, known, knownMembers, found, Walk, andThen, test, wordsAt, nextRow, nextPiece, membersAt, enumNamesAt, enumValuesAt, kindOf, typeFrom, typeAt}
+use Rattle.format.specs.Bytes.{dimensionBytes, dimensionsFrom}
+use Rattle.format.specs.Datatype.{Leaf, fixedPoint, floatingPoint, time, string, bitField, opaque, reference, leafClass, leafPool, Datatype, leaf, compound, enumeration, variableLength, array, Members, noMembers, member, EnumMember, memberCount, depth, memberDepth, rowCount, memberRowCount, poolBytes, memberPool, enumNames, enumValues}
+use Rattle.format.specs.Table.{row, column, columnsOf, leafRow, compoundRow, enumerationRow, variableLengthRow, arrayRow, memberRow, enumMemberRow, enumRows, LeafKind, isFixedPoint, isFloatingPoint, isTime, isString, isBitField, isOpaque, isReference, isLeaf, tagAt, leafOf, rows, memberRows, allBelow, known, knownMembers, found, Walk, andThen, test, wordsAt, nextRow, nextPiece, membersAt, enumNamesAt, enumValuesAt, kindOf, typeFrom, typeAt}
 use Rattle.format.proofs.Booleans.{and-both, and-true}
 use Rattle.format.proofs.Zeros.{length-dimensionBytes, dimensionsFrom-dimensionBytes}
-use Rattle.format.proofs.Rows.{length-memberRow, length-enumMemberRow, length-enumRows, length-rows, sameWords-refl, heads}
+use Rattle.format.proofs.Rows.{length-leafRow, length-memberRow, length-enumMemberRow, length-enumRows, length-rows, sameWords-refl, heads}
 
 -- x is the table from row r on, and y the pool from place p on
 pub record From (table pool : List ℕ) (r p : ℕ) (x y : List ℕ) : Type 0 where
@@ -25,17 +25,36 @@ pub record From (table pool : List ℕ) (r p : ℕ) (x y : List ℕ) : Type 0 wh
 
 pub depth-positive : (t : Datatype) → 1 ≤ depth t
 unfolding depth
-depth-positive (fixedPoint n o s f q) = omega arith
-depth-positive (floatingPoint n o f q el es ml ms x) = omega arith
-depth-positive (time n o q) = omega arith
-depth-positive (string n a c) = omega arith
-depth-positive (bitField n o f q) = omega arith
-depth-positive (opaque n g) = omega arith
+depth-positive (leaf n x) = omega arith
 depth-positive (compound n ms) = omega arith
-depth-positive (reference n k) = omega arith
 depth-positive (enumeration n t ms) = omega arith
 depth-positive (variableLength i a c t) = omega arith
 depth-positive (array ds t) = omega arith
+
+-- a leaf is what its row says
+leafKind : Leaf → LeafKind
+leafKind (fixedPoint o s f q) = isFixedPoint
+leafKind (floatingPoint o y) = isFloatingPoint
+leafKind (time o q) = isTime
+leafKind (string a c) = isString
+leafKind (bitField o f q) = isBitField
+leafKind (opaque g) = isOpaque
+leafKind (reference k) = isReference
+
+record LeafBack (w : List ℕ) (n : ℕ) (x : Leaf) : Type 0 where
+  kind : kindOf (column w 0) ≡ isLeaf (leafKind x)
+  size : column w 1 ≡ n
+  is : leafOf (column w) (leafPool x) (leafKind x) ≡ x
+
+leaf-back : (p n : ℕ) (x : Leaf) → LeafBack (leafRow p n x) n x
+unfolding leafRow columnsOf leafClass row kindOf leafPool leafOf leafKind
+leaf-back p n (fixedPoint o s f q) = record { kind = refl; size = refl; is = refl }
+leaf-back p n (floatingPoint o y) = record { kind = refl; size = refl; is = refl }
+leaf-back p n (time o q) = record { kind = refl; size = refl; is = refl }
+leaf-back p n (string a c) = record { kind = refl; size = refl; is = refl }
+leaf-back p n (bitField o f q) = record { kind = refl; size = refl; is = refl }
+leaf-back p n (opaque g) = record { kind = refl; size = refl; is = refl }
+leaf-back p n (reference k) = record { kind = refl; size = refl; is = refl }
 
 pub test-at : (c : Bool) (r p : ℕ) → c ≡ true → test c r p ≡ found tt r p
 unfolding test
@@ -67,6 +86,17 @@ module _ (table pool : List ℕ) where
   piece-at r p g y n h l =
       let b = from-bytes r p g h in
       rw (le-leb (p + n) (length pool) (omega (arith, b .inside)), h .bytes, take-at g y n l)
+
+  tag-at : (r p q n : ℕ) (v : Leaf) (y : List ℕ) {x : List ℕ} → From table pool r p x (leafPool v ++ y)
+      → tagAt pool (column (leafRow q n v) 3) (leafKind v) r p ≡ found (leafPool v) r (p + length (leafPool v))
+  unfolding tagAt leafKind leafPool leafRow row columnsOf
+  tag-at r p q n (fixedPoint o s f g) y h = rw (add-zero p)
+  tag-at r p q n (floatingPoint o z) y h = rw (add-zero p)
+  tag-at r p q n (time o g) y h = rw (add-zero p)
+  tag-at r p q n (string a c) y h = rw (add-zero p)
+  tag-at r p q n (bitField o f g) y h = rw (add-zero p)
+  tag-at r p q n (opaque g) y h = piece-at r p g y (length g) h refl
+  tag-at r p q n (reference i) y h = rw (add-zero p)
 
   -- the walk finds t wherever its rows and pool bytes stand
   abbrev pub Finds : Walk Datatype → Datatype → Type 0
@@ -133,36 +163,29 @@ module _ (table pool : List ℕ) where
 
   -- what is set out there, the walk finds
   pub typeAt-complete : (k : ℕ) (t : Datatype) → depth t ≤ k → known t ≡ true → Finds (typeAt k table pool) t
-  unfolding typeAt typeFrom kindOf andThen rows poolBytes known rowCount depth row padded zeros
+  unfolding typeAt typeFrom kindOf andThen rows poolBytes known rowCount depth row compoundRow enumerationRow variableLengthRow arrayRow
   typeAt-complete zero t d c r p x y f = absurd (omega (arith, depth-positive t))
-  typeAt-complete (suc k) (fixedPoint n o s f q) d c r p x y h =
-      let w = row 1 n 0 0 0 (o ∷ s ∷ f ∷ q ∷ []) in
-      rw (row-at r p w x h refl, test-at _ _ _ (sameWords-refl w), test-at _ _ _ c, add-one r, add-zero p)
-  typeAt-complete (suc k) (floatingPoint n o f q el es ml ms z) d c r p x y h =
-      let w = row 2 n 0 0 0 (o ∷ 0 ∷ f ∷ q ∷ el ∷ es ∷ ml ∷ ms ∷ z ∷ []) in
-      rw (row-at r p w x h refl, test-at _ _ _ (sameWords-refl w), test-at _ _ _ c, add-one r, add-zero p)
-  typeAt-complete (suc k) (time n o q) d c r p x y h =
-      let w = row 3 n 0 0 0 (o ∷ 0 ∷ 0 ∷ q ∷ []) in
-      rw (row-at r p w x h refl, test-at _ _ _ (sameWords-refl w), test-at _ _ _ c, add-one r, add-zero p)
-  typeAt-complete (suc k) (string n a s) d c r p x y h =
-      let w = row 4 n 0 0 0 (a ∷ s ∷ []) in
-      rw (row-at r p w x h refl, test-at _ _ _ (sameWords-refl w), test-at _ _ _ c, add-one r, add-zero p)
-  typeAt-complete (suc k) (bitField n o f q) d c r p x y h =
-      let w = row 5 n 0 0 0 (o ∷ 0 ∷ f ∷ q ∷ []) in
-      rw (row-at r p w x h refl, test-at _ _ _ (sameWords-refl w), test-at _ _ _ c, add-one r, add-zero p)
-  typeAt-complete (suc k) (opaque n g) d c r p x y h =
-      let w = row 6 n p (length g) 0 [] in
-      rw (row-at r p w x h refl, test-at _ _ _ (sameWords-refl w), piece-at (suc r) p g y (length g) (from-row r p w h refl) refl, add-one r)
+  typeAt-complete (suc k) (leaf n x) d c r p v y h =
+      let w = leafRow p n x in
+      let l = length-leafRow p n x in
+      let b = leaf-back p n x in
+      rw (
+        row-at r p w v h l,
+        b .kind,
+        tag-at (suc r) p p n x y (from-row r p w h l),
+        b .size,
+        b .is,
+        test-at _ _ _ (sameWords-refl w),
+        test-at _ _ _ c,
+        add-one r,
+      )
   typeAt-complete (suc k) (compound n ms) d c r p x y h =
-      let w = row 7 n 0 0 (memberCount ms) [] in
+      let w = compoundRow n (memberCount ms) in
       let g : From table pool r p (w ++ (memberRows p ms ++ x)) (memberPool ms ++ y) = simp append-assoc at h in
       let e : suc r + memberRowCount ms ≡ r + suc (memberRowCount ms) = omega arith in
       rw (row-at r p w _ g refl, test-at _ _ _ (sameWords-refl w), finds-members k (typeAt k table pool) (typeAt-complete k) ms (omega arith) c (suc r) p x y (from-row r p w g refl), e)
-  typeAt-complete (suc k) (reference n i) d c r p x y h =
-      let w = row 8 n 0 0 0 (i ∷ []) in
-      rw (row-at r p w x h refl, test-at _ _ _ (sameWords-refl w), test-at _ _ _ c, add-one r, add-zero p)
   typeAt-complete (suc k) (enumeration n t ms) d c r p x y h =
-      let w = row 9 n 0 0 (length ms) [] in
+      let w = enumerationRow n (length ms) in
       let q = p + length (poolBytes t) in
       let g : From table pool r p (w ++ (rows p t ++ (enumRows q ms ++ x))) (poolBytes t ++ (enumNames ms ++ (enumValues ms ++ y))) = simp append-assoc at h in
       let f1 = from-row r p w g refl in
@@ -181,7 +204,7 @@ module _ (table pool : List ℕ) where
       )
       (ap (λ (i : ℕ). found (enumeration n t ms) (r + suc (rowCount t + length ms)) i) (omega arith))
   typeAt-complete (suc k) (variableLength i a s t) d c r p x y h =
-      let w = row 10 0 0 0 0 (i ∷ a ∷ s ∷ []) in
+      let w = variableLengthRow i a s in
       let g : From table pool r p (w ++ (rows p t ++ x)) (poolBytes t ++ y) = simp append-assoc at h in
       let c1 = and-both (ltb i 2) (ltb a 4 && (ltb s 3 && known t)) c in
       let c2 = and-both (ltb a 4) (ltb s 3 && known t) (c1 .1) in
@@ -195,7 +218,7 @@ module _ (table pool : List ℕ) where
         e,
       )
   typeAt-complete (suc k) (array ds t) d c r p x y h =
-      let w = row 11 0 p (length ds) 0 [] in
+      let w = arrayRow p (length ds) in
       let b = dimensionBytes ds in
       let g : From table pool r p (w ++ (rows (p + length b) t ++ x)) (b ++ (poolBytes t ++ y)) = simp append-assoc at h in
       let cs = and-both (allBelow 4294967296 ds) (known t) c in

@@ -9,8 +9,8 @@ use lib.Seq.{drop-drop}
 use lib.Dec.{leb, ltb}
 use borrow.Author.Tests.{leb-true}
 use Rattle.format.specs.Bytes.{AllBytes}
-use Rattle.format.specs.Datatype.{Datatype, opaque, compound, enumeration, variableLength, array, Members, noMembers, member, EnumMember, memberCount, depth, memberDepth, rowCount, memberRowCount, poolBytes, memberPool, enumNames, enumValues}
-use Rattle.format.specs.Table.{enumRows, rows, memberRows, known, knownMembers, Found, found, bad, Walk, andThen, test, wordsAt, nextRow, nextPiece, column, membersAt, enumNamesAt, enumValuesAt, Kind, isFixedPoint, isFloatingPoint, isTime, isString, isBitField, isOpaque, isCompound, isReference, isEnumeration, isVariableLength, isArray, isUnknown, kindOf, typeFrom, typeAt}
+use Rattle.format.specs.Datatype.{leafPool, Datatype, leaf, compound, enumeration, variableLength, array, Members, noMembers, member, EnumMember, memberCount, depth, memberDepth, rowCount, memberRowCount, poolBytes, memberPool, enumNames, enumValues}
+use Rattle.format.specs.Table.{tagAt, leafOf, enumRows, rows, memberRows, known, knownMembers, Found, found, bad, Walk, andThen, test, wordsAt, nextRow, nextPiece, column, membersAt, enumNamesAt, enumValuesAt, LeafKind, isFixedPoint, isFloatingPoint, isTime, isString, isBitField, isOpaque, isReference, Kind, isLeaf, isCompound, isEnumeration, isVariableLength, isArray, isUnknown, kindOf, typeFrom, typeAt}
 use Rattle.format.proofs.Booleans.{and-both, and-true}
 use Rattle.format.proofs.Bytes.{bytes-take, bytes-drop, length-dimensionsFrom}
 use Rattle.format.proofs.Zeros.{dimensions-of}
@@ -26,6 +26,10 @@ pub sure-then : {A B : Type 0} {Q : A → ℕ → ℕ → Type 0} {R : B → ℕ
 unfolding andThen
 sure-then (holds h) f = f _ _ _ h
 sure-then fails f = fails
+
+sure-then-same : {A : Type 0} {Q R : A → ℕ → ℕ → Type 0} {x : Found A} → Sure Q x → ((a : A) (r p : ℕ) → Q a r p → R a r p) → Sure R x
+sure-then-same (holds h) f = holds (f _ _ _ h)
+sure-then-same fails f = fails
 
 sure-cond : {A : Type 0} {Q : A → ℕ → ℕ → Type 0} {x : Found A} (c : Bool) → (c ≡ true → Sure Q x) → Sure Q (cond c x bad)
 sure-cond true h = h refl
@@ -88,6 +92,21 @@ module _ (table pool : List ℕ) where
       }
       )
 
+  -- the tag of a leaf of each kind
+  no-tag : (r p : ℕ) → Sure (λ g r′ p′. ([] ≡ g) × (drop p pool ≡ g ++ drop p′ pool) × (r′ ≡ r) × (p′ ≡ p + length g)) (found [] r p)
+  no-tag r p = holds {a = []} {r = r} {p = p} (refl, refl, refl, omega arith)
+
+  sure-tag : (w : ℕ → ℕ) (n r p : ℕ) (c : LeafKind)
+      → Sure (λ g r′ p′. (leafPool (leafOf w g c) ≡ g) × (drop p pool ≡ g ++ drop p′ pool) × (r′ ≡ r) × (p′ ≡ p + length g)) (tagAt pool n c r p)
+  unfolding tagAt leafPool leafOf
+  sure-tag w n r p isFixedPoint = no-tag r p
+  sure-tag w n r p isFloatingPoint = no-tag r p
+  sure-tag w n r p isTime = no-tag r p
+  sure-tag w n r p isString = no-tag r p
+  sure-tag w n r p isBitField = no-tag r p
+  sure-tag w n r p isOpaque = sure-then-same (sure-piece n r p) λ g r1 p1 h. (refl, h .bytes, h .row-behind, omega arith)
+  sure-tag w n r p isReference = no-tag r p
+
   abbrev pub Stands : ℕ → Walk Datatype → Type 0
   Stands k rd = (r p : ℕ) → Sure (TypeStands table pool k r p) (rd r p)
 
@@ -147,50 +166,17 @@ module _ (table pool : List ℕ) where
       }
       )
 
-  -- a row with no pool bytes
-  plain : {k r p r′ p′ : ℕ} {t : Datatype} → wordsAt table r ≡ rows p t → r′ ≡ suc r → p′ ≡ p → poolBytes t ≡ [] → rowCount t ≡ 1 → depth t ≡ 1 → known t ≡ true
-      → Sure (TypeStands table pool (suc k) r p) (found t r′ p′)
-  plain {k} {r} {p} {r′} {p′} {t} w e f b n d c =
-      holds {a = t} {r = r′} {p = p′} (
-      record {
-        words = rw (← w, e) (words-then table r);
-        bytes = rw (b, f);
-        row-behind = omega arith;
-        place-behind = rw b (omega arith);
-        codes = c;
-        deep = omega arith;
-      }
-      )
-
   module _ (bytes : AllBytes pool) (k : ℕ) (rd : Walk Datatype) (inner : Stands k rd) where
     sure-from : (r p : ℕ) (c : Kind) → Sure (TypeStands table pool (suc k) r p) (typeFrom rd table pool (wordsAt table r) c (suc r) p)
     unfolding typeFrom andThen rows poolBytes known rowCount depth
-    sure-from r p isFixedPoint =
-        sure-then (sure-test _ _ _) λ u r1 p1 h1.
-        sure-then (sure-test _ r1 p1) λ u2 r2 p2 h2.
-        plain (sameWords-true _ _ (h1 .0)) (omega arith) (omega arith) refl refl refl (h2 .0)
-    sure-from r p isFloatingPoint =
-        sure-then (sure-test _ _ _) λ u r1 p1 h1.
-        sure-then (sure-test _ r1 p1) λ u2 r2 p2 h2.
-        plain (sameWords-true _ _ (h1 .0)) (omega arith) (omega arith) refl refl refl (h2 .0)
-    sure-from r p isTime =
-        sure-then (sure-test _ _ _) λ u r1 p1 h1.
-        sure-then (sure-test _ r1 p1) λ u2 r2 p2 h2.
-        plain (sameWords-true _ _ (h1 .0)) (omega arith) (omega arith) refl refl refl (h2 .0)
-    sure-from r p isString =
-        sure-then (sure-test _ _ _) λ u r1 p1 h1.
-        sure-then (sure-test _ r1 p1) λ u2 r2 p2 h2.
-        plain (sameWords-true _ _ (h1 .0)) (omega arith) (omega arith) refl refl refl (h2 .0)
-    sure-from r p isBitField =
-        sure-then (sure-test _ _ _) λ u r1 p1 h1.
-        sure-then (sure-test _ r1 p1) λ u2 r2 p2 h2.
-        plain (sameWords-true _ _ (h1 .0)) (omega arith) (omega arith) refl refl refl (h2 .0)
-    sure-from r p isOpaque =
-        sure-then (sure-test _ _ _) λ u r1 p1 h1.
-        sure-then (sure-piece _ r1 p1) λ g r2 p2 h2.
-        let w = sameWords-true _ _ (h1 .0) in
-        holds {a = opaque _ g} {r = r2} {p = p2} (
-        record { words = cc (words-then table r); bytes = cc; row-behind = omega arith; place-behind = omega arith; codes = refl; deep = omega arith }
+    sure-from r p (isLeaf c) =
+        sure-then (sure-tag (column (wordsAt table r)) _ (suc r) p c) λ g r1 p1 h1.
+        sure-then (sure-test _ r1 p1) λ u r2 p2 h2.
+        sure-then (sure-test _ r2 p2) λ u3 r3 p3 h3.
+        let w = sameWords-true _ _ (h2 .0) in
+        let n : length (leafPool (leafOf (column (wordsAt table r)) g c)) ≡ length g = ap length (h1 .0) in
+        holds {a = leaf _ _} {r = r3} {p = p3} (
+        record { words = cc (words-then table r); bytes = cc; row-behind = omega arith; place-behind = omega arith; codes = h3 .0; deep = omega arith }
         )
     sure-from r p isCompound =
         sure-then (sure-test _ _ _) λ u r1 p1 h1.
@@ -206,10 +192,6 @@ module _ (table pool : List ℕ) where
           deep = omega arith;
         }
         )
-    sure-from r p isReference =
-        sure-then (sure-test _ _ _) λ u r1 p1 h1.
-        sure-then (sure-test _ r1 p1) λ u2 r2 p2 h2.
-        plain (sameWords-true _ _ (h1 .0)) (omega arith) (omega arith) refl refl refl (h2 .0)
     sure-from r p isEnumeration =
         sure-then (sure-test _ _ _) λ u r1 p1 h1.
         sure-then (inner r1 p1) λ t r2 p2 h2.

@@ -1,17 +1,18 @@
 -- One step of the walk at each kind of row, its words by their index in the table.
 use Prim.Native.Nat.{ℕ, zero, suc, _+_, _*_, _<_, _≤_}
 use mathlib.Core.Path.{_≡_, refl, ap, sym, _∙_}
-use mathlib.Core.Bool.{Bool, true, false, cond, _&&_}
+use mathlib.Core.Bool.{Bool, true, false, cond, _&&_, and-false}
 use mathlib.Core.List.{List, [], _∷_, _++_}
 use native.Mathlib.Omega.{arith}
 use native.Mathlib.Nat.{add-zero}
 use lib.ListN.{length, take, drop, getD, List·getD-eq-default}
 use lib.Seq.{drop-cons}
 use lib.Dec.{leb, ltb, eqb}
-use borrow.Author.Tests.{ltb-true}
-use Rattle.format.specs.Bytes.{zeros, padded, allZero, dimensionsFrom}
-use Rattle.format.specs.Datatype.{Datatype, fixedPoint, floatingPoint, time, string, bitField, opaque, compound, reference, enumeration, variableLength, array, member}
-use Rattle.format.specs.Table.{row, memberRow, enumMemberRow, Found, found, bad, Walk, andThen, test, wordsAt, nextRow, nextPiece, sameWords, column, membersAt, enumNamesAt, enumValuesAt, isUnknown, kindOf, typeFrom, typeAt}
+use borrow.Author.Tests.{ltb-true, leb-true}
+use Rattle.format.specs.Bytes.{zeros, allZero, dimensionsFrom}
+use Rattle.format.specs.Datatype.{opaque, leafClass, leafPool, Datatype, leaf, compound, enumeration, variableLength, array, member}
+use Rattle.format.specs.Table.{columnsOf, leafRow, compoundRow, enumerationRow, variableLengthRow, arrayRow, memberRow, enumMemberRow, leafKnown, LeafKind, isFixedPoint, isFloatingPoint, isTime, isString, isBitField, isOpaque, isReference, isLeaf, tagAt, leafOf, Found, found, bad, Walk, andThen, test, wordsAt, nextRow, nextPiece, sameWords, column, membersAt, enumNamesAt, enumValuesAt, isUnknown, kindOf, typeFrom, typeAt}
+use Rattle.format.proofs.Lists.{length-part}
 use Rattle.format.proofs.Rows.{sameWords-true, length-wordsAt, column-at}
 
 -- word c of row r
@@ -37,16 +38,24 @@ module _ (table : List ℕ) (r : ℕ) where
   col : (c : ℕ) → ltb c 16 ≡ true → column (wordsAt table r) c ≡ wordAt table r c
   col c h = column-at table r c (ltb-true c 16 h)
 
+  -- a leaf by the words of its row in the table
+  pub leaf-words : (g : List ℕ) (c : LeafKind) → leafOf (column (wordsAt table r)) g c ≡ leafOf (wordAt table r) g c
+  unfolding leafOf
+  leaf-words g isFixedPoint = rw (col 5 refl, col 6 refl, col 7 refl, col 8 refl)
+  leaf-words g isFloatingPoint = rw (col 5 refl, col 7 refl, col 8 refl, col 9 refl, col 10 refl, col 11 refl, col 12 refl, col 13 refl)
+  leaf-words g isTime = rw (col 5 refl, col 8 refl)
+  leaf-words g isString = rw (col 5 refl, col 6 refl)
+  leaf-words g isBitField = rw (col 5 refl, col 7 refl, col 8 refl)
+  leaf-words g isOpaque = refl
+  leaf-words g isReference = rw (col 5 refl)
+
   pub words-listed : r * 16 + 16 ≤ length table → wordsAt table r ≡ getD table (r * 16) 0 ∷ listAt table (r * 16) 1 15
   unfolding wordsAt
   words-listed h = rw add-zero at (take-listAt table (r * 16) 0 16 (omega arith))
 
   -- the test of a row, word by word
-  pub rowIs-words : r * 16 + 16 ≤ length table → (k s q l c : ℕ) (rest : List ℕ)
-      → rowIs table r (row k s q l c rest)
-      ≡ (eqb (getD table (r * 16) 0) k && (eqb (wordAt table r 1) s && (eqb (wordAt table r 2) q && (eqb (wordAt table r 3) l && (eqb (wordAt table r 4) c && sameWords (listAt table (r * 16) 5 11) (padded 11 rest))))))
-  unfolding sameWords row
-  rowIs-words h k s q l c rest = rw (words-listed h)
+  pub rowIs-words : r * 16 + 16 ≤ length table → (v : List ℕ) → rowIs table r v ≡ sameWords (getD table (r * 16) 0 ∷ listAt table (r * 16) 1 15) v
+  rowIs-words h v = rw (words-listed h)
 
   rowIs-false : (v : List ℕ) → (rowIs table r v ≡ true → ⊥) → rowIs table r v ≡ false
   rowIs-false v n = go (rowIs table r v) refl
@@ -97,6 +106,11 @@ unfolding andThen
 then-assoc (found a r p) f g = refl
 then-assoc bad f g = refl
 
+then-same : {A B : Type 0} {f g : A → Walk B} (x : Found A) → ((a : A) (r p : ℕ) → f a r p ≡ g a r p) → andThen x f ≡ andThen x g
+unfolding andThen
+then-same (found a r p) h = h a r p
+then-same bad h = refl
+
 pub then-test : {B : Type 0} (c : Bool) (f : Unit {0} → Walk B) (r p : ℕ) → andThen (test c r p) f ≡ cond c (f tt r p) bad
 unfolding andThen test
 then-test true f r p = refl
@@ -111,7 +125,7 @@ then-piece pool n f r p = go (leb (p + n) (length pool))
     go true = unfold andThen in refl
     go false = unfold andThen in refl
 
-cond-both : {A : Type 0} (a b : Bool) (x : Found A) → cond a (cond b x bad) bad ≡ cond (a && b) x bad
+pub cond-both : {A : Type 0} (a b : Bool) (x : Found A) → cond a (cond b x bad) bad ≡ cond (a && b) x bad
 cond-both true b x = refl
 cond-both false b x = refl
 
@@ -137,79 +151,37 @@ module _ (table pool : List ℕ) (k r p : ℕ) where
   unfolding typeFrom
   typeAt-unknown e = typeAt-step ∙ rw e
 
-  pub typeAt-fixedPoint : getD table (r * 16) 0 ≡ 1
+  -- a leaf's, by its tag
+  pub typeAt-leaf : (c : LeafKind) → kindOf (getD table (r * 16) 0) ≡ isLeaf c
       → typeAt (suc k) table pool r p
-      ≡ cond (rowIs table r (row 1 (wordAt table r 1) 0 0 0 (wordAt table r 5 ∷ wordAt table r 6 ∷ wordAt table r 7 ∷ wordAt table r 8 ∷ [])) && (ltb (wordAt table r 5) 3 && ltb (wordAt table r 6) 2))
-      (found (fixedPoint (wordAt table r 1) (wordAt table r 5) (wordAt table r 6) (wordAt table r 7) (wordAt table r 8)) (suc r) p) bad
-  unfolding typeFrom kindOf
-  typeAt-fixedPoint e = step-of 1 e ∙ rw (then-test, then-test, cond-both, col table r 1 refl, col table r 5 refl, col table r 6 refl, col table r 7 refl, col table r 8 refl)
-
-  pub typeAt-floatingPoint : getD table (r * 16) 0 ≡ 2
-      → typeAt (suc k) table pool r p
-      ≡ cond (rowIs table r (row 2 (wordAt table r 1) 0 0 0 (wordAt table r 5 ∷ 0 ∷ wordAt table r 7 ∷ wordAt table r 8 ∷ wordAt table r 9 ∷ wordAt table r 10 ∷ wordAt table r 11 ∷ wordAt table r 12 ∷ wordAt table r 13 ∷ [])) && ltb (wordAt table r 5) 3)
-      (found (floatingPoint (wordAt table r 1) (wordAt table r 5) (wordAt table r 7) (wordAt table r 8) (wordAt table r 9) (wordAt table r 10) (wordAt table r 11) (wordAt table r 12) (wordAt table r 13)) (suc r) p) bad
-  unfolding typeFrom kindOf
-  typeAt-floatingPoint e = step-of 2 e ∙ rw (then-test, then-test, cond-both, col table r 1 refl, col table r 5 refl, col table r 7 refl, col table r 8 refl, col table r 9 refl, col table r 10 refl, col table r 11 refl, col table r 12 refl, col table r 13 refl)
-
-  pub typeAt-time : getD table (r * 16) 0 ≡ 3
-      → typeAt (suc k) table pool r p
-      ≡ cond (rowIs table r (row 3 (wordAt table r 1) 0 0 0 (wordAt table r 5 ∷ 0 ∷ 0 ∷ wordAt table r 8 ∷ [])) && ltb (wordAt table r 5) 3)
-      (found (time (wordAt table r 1) (wordAt table r 5) (wordAt table r 8)) (suc r) p) bad
-  unfolding typeFrom kindOf
-  typeAt-time e = step-of 3 e ∙ rw (then-test, then-test, cond-both, col table r 1 refl, col table r 5 refl, col table r 8 refl)
-
-  pub typeAt-string : getD table (r * 16) 0 ≡ 4
-      → typeAt (suc k) table pool r p
-      ≡ cond (rowIs table r (row 4 (wordAt table r 1) 0 0 0 (wordAt table r 5 ∷ wordAt table r 6 ∷ [])) && (ltb (wordAt table r 5) 3 && ltb (wordAt table r 6) 2))
-      (found (string (wordAt table r 1) (wordAt table r 5) (wordAt table r 6)) (suc r) p) bad
-  unfolding typeFrom kindOf
-  typeAt-string e = step-of 4 e ∙ rw (then-test, then-test, cond-both, col table r 1 refl, col table r 5 refl, col table r 6 refl)
-
-  pub typeAt-bitField : getD table (r * 16) 0 ≡ 5
-      → typeAt (suc k) table pool r p
-      ≡ cond (rowIs table r (row 5 (wordAt table r 1) 0 0 0 (wordAt table r 5 ∷ 0 ∷ wordAt table r 7 ∷ wordAt table r 8 ∷ [])) && ltb (wordAt table r 5) 3)
-      (found (bitField (wordAt table r 1) (wordAt table r 5) (wordAt table r 7) (wordAt table r 8)) (suc r) p) bad
-  unfolding typeFrom kindOf
-  typeAt-bitField e = step-of 5 e ∙ rw (then-test, then-test, cond-both, col table r 1 refl, col table r 5 refl, col table r 7 refl, col table r 8 refl)
-
-  pub typeAt-opaque : getD table (r * 16) 0 ≡ 6
-      → typeAt (suc k) table pool r p
-      ≡ cond (rowIs table r (row 6 (wordAt table r 1) p (wordAt table r 3) 0 []) && leb (p + wordAt table r 3) (length pool))
-      (found (opaque (wordAt table r 1) (take (wordAt table r 3) (drop p pool))) (suc r) (p + wordAt table r 3)) bad
-  unfolding typeFrom kindOf
-  typeAt-opaque e = step-of 6 e ∙ rw (then-found, then-test, then-piece, cond-both, col table r 1 refl, col table r 3 refl)
+      ≡ andThen (tagAt pool (wordAt table r 3) c (suc r) p) (λ g r′ p′. cond (rowIs table r (leafRow p (wordAt table r 1) (leafOf (wordAt table r) g c)) && leafKnown (leafOf (wordAt table r) g c)) (found (leaf (wordAt table r 1) (leafOf (wordAt table r) g c)) r′ p′) bad)
+  unfolding typeFrom
+  typeAt-leaf c e = typeAt-step ∙ rw (e, then-found, col table r 3 refl) (then-same _ λ g r′ p′. rw (then-test, then-test, cond-both, leaf-words, col table r 1 refl))
 
   pub typeAt-compound : getD table (r * 16) 0 ≡ 7
       → typeAt (suc k) table pool r p
-      ≡ cond (rowIs table r (row 7 (wordAt table r 1) 0 0 (wordAt table r 4) []))
+      ≡ cond (rowIs table r (compoundRow (wordAt table r 1) (wordAt table r 4)))
       (andThen (membersAt (typeAt k table pool) table pool (wordAt table r 4) (suc r) p) (λ ms r′ p′. found (compound (wordAt table r 1) ms) r′ p′)) bad
   unfolding typeFrom kindOf
   typeAt-compound e = step-of 7 e ∙ rw (then-test) (simp (col table r 1 refl, col table r 4 refl))
 
-  pub typeAt-reference : getD table (r * 16) 0 ≡ 8
-      → typeAt (suc k) table pool r p
-      ≡ cond (rowIs table r (row 8 (wordAt table r 1) 0 0 0 (wordAt table r 5 ∷ [])) && ltb (wordAt table r 5) 2)
-      (found (reference (wordAt table r 1) (wordAt table r 5)) (suc r) p) bad
-  unfolding typeFrom kindOf
-  typeAt-reference e = step-of 8 e ∙ rw (then-test, then-test, cond-both, col table r 1 refl, col table r 5 refl)
-
   pub typeAt-enumeration : getD table (r * 16) 0 ≡ 9
       → typeAt (suc k) table pool r p
-      ≡ cond (rowIs table r (row 9 (wordAt table r 1) 0 0 (wordAt table r 4) []))
+      ≡ cond (rowIs table r (enumerationRow (wordAt table r 1) (wordAt table r 4)))
       (andThen (typeAt k table pool (suc r) p) (λ t r₁ p₁. andThen (enumNamesAt table pool (wordAt table r 4) r₁ p₁) (λ ns r₂ p₂. andThen (enumValuesAt pool ns r₂ p₂) (λ ms r₃ p₃. found (enumeration (wordAt table r 1) t ms) r₃ p₃)))) bad
   unfolding typeFrom kindOf
   typeAt-enumeration e = step-of 9 e ∙ rw (then-test) (simp (col table r 1 refl, col table r 4 refl))
 
   pub typeAt-variableLength : getD table (r * 16) 0 ≡ 10
       → typeAt (suc k) table pool r p
-      ≡ cond (rowIs table r (row 10 0 0 0 0 (wordAt table r 5 ∷ wordAt table r 6 ∷ wordAt table r 7 ∷ [])) && (ltb (wordAt table r 5) 2 && (ltb (wordAt table r 6) 4 && ltb (wordAt table r 7) 3)))
+      ≡ cond (rowIs table r (variableLengthRow (wordAt table r 5) (wordAt table r 6) (wordAt table r 7)) && (ltb (wordAt table r 5) 2 && (ltb (wordAt table r 6) 4 && ltb (wordAt table r 7) 3)))
       (andThen (typeAt k table pool (suc r) p) (λ t r′ p′. found (variableLength (wordAt table r 5) (wordAt table r 6) (wordAt table r 7) t) r′ p′)) bad
   unfolding typeFrom kindOf
   typeAt-variableLength e = step-of 10 e ∙ rw (then-test, then-test, cond-both) (simp (col table r 5 refl, col table r 6 refl, col table r 7 refl))
 
   pub typeAt-array : getD table (r * 16) 0 ≡ 11
       → typeAt (suc k) table pool r p
-      ≡ cond (rowIs table r (row 11 0 p (wordAt table r 3) 0 []) && leb (p + wordAt table r 3 * 4) (length pool))
+      ≡ cond (rowIs table r (arrayRow p (wordAt table r 3)) && leb (p + wordAt table r 3 * 4) (length pool))
       (andThen (typeAt k table pool (suc r) (p + wordAt table r 3 * 4)) (λ t r′ p′. found (array (dimensionsFrom (wordAt table r 3) (take (wordAt table r 3 * 4) (drop p pool))) t) r′ p′)) bad
   unfolding typeFrom kindOf
   typeAt-array e = step-of 11 e ∙ rw (then-found, then-test, then-piece, cond-both) (simp (col table r 3 refl))

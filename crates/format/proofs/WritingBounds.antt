@@ -3,7 +3,7 @@ use Prim.Native.Nat.{ℕ, _*_}
 use mathlib.Core.Path.{_≡_, refl}
 use mathlib.Core.List.{List, [], _∷_}
 use lib.ListN.{length}
-use Rattle.format.specs.Datatype.{Datatype, fixedPoint, floatingPoint, time, string, bitField, opaque, compound, reference, enumeration, variableLength, array, noMembers, member, rowCount, poolBytes}
+use Rattle.format.specs.Datatype.{floatLayout, fixedPoint, floatingPoint, time, string, bitField, opaque, reference, Datatype, leaf, compound, enumeration, variableLength, array, noMembers, member, rowCount, poolBytes}
 use Rattle.format.specs.Message.{messageLength, writing}
 use Rattle.format.specs.Outcome.{Outcome, gives, whenGiven}
 use Rattle.format.specs.Reading.{Read, reading}
@@ -16,14 +16,14 @@ use Rattle.format.proofs.Bounds.{fixed, valid, only}
 -- one of each class but the array
 unfoldable pub everyClass : List Datatype
 everyClass =
-    fixedPoint 4 1 1 3 20
-    ∷ floatingPoint 8 2 0 64 52 11 0 52 1023
-    ∷ time 4 1 32
-    ∷ string 5 2 1
-    ∷ bitField 2 1 1 15
-    ∷ opaque 5 (0x61 ∷ 0x62 ∷ 0x63 ∷ [])
+    leaf 4 (fixedPoint 1 1 3 20)
+    ∷ leaf 8 (floatingPoint 2 (floatLayout (0 ∷ 64 ∷ 52 ∷ 11 ∷ 0 ∷ 52 ∷ 1023 ∷ [])))
+    ∷ leaf 4 (time 1 32)
+    ∷ leaf 5 (string 2 1)
+    ∷ leaf 2 (bitField 1 1 15)
+    ∷ leaf 5 (opaque (0x61 ∷ 0x62 ∷ 0x63 ∷ []))
     ∷ compound 300 (member valid 0 (only 4 [] 3 (fixed 1)) (member (0x62 ∷ []) 299 (fixed 1) noMembers))
-    ∷ reference 8 1
+    ∷ leaf 8 (reference 1)
     ∷ enumeration 2 (fixed 2) (record { name = valid; value = 1 ∷ 0 ∷ [] } ∷ record { name = []; value = 0 ∷ 1 ∷ [] } ∷ [])
     ∷ variableLength 0 0 0 (fixed 1)
     ∷ variableLength 1 2 2 (fixed 1)
@@ -32,7 +32,7 @@ everyClass =
 -- arrays, at the outermost level and inside each class that holds types
 unfoldable pub arrays : List Datatype
 arrays =
-    array (2 ∷ 3 ∷ []) (reference 8 0)
+    array (2 ∷ 3 ∷ []) (leaf 8 (reference 0))
     ∷ array [] (fixed 1)
     ∷ only 4 valid 0 (array (4 ∷ []) (fixed 1))
     ∷ enumeration 1 (array (1 ∷ []) (fixed 1)) []
@@ -96,7 +96,7 @@ writingBounds =
     ∷ record { edition = 1; room = 0; type = array (0 ∷ []) (fixed 1); says = 14 ∷ [] }
     ∷ record { edition = 1; room = 0; type = array [] (fixed 1); says = 15 ∷ [] }
     ∷ record { edition = 2; room = 23; type = array [] (fixed 1); says = 21 ∷ 24 ∷ [] }
-    ∷ record { edition = 3; room = 8; type = string 1 0 0; says = 0 ∷ 0x13 ∷ 0 ∷ 0 ∷ 0 ∷ 1 ∷ 0 ∷ 0 ∷ 0 ∷ [] }
+    ∷ record { edition = 3; room = 8; type = leaf 1 (string 0 0); says = 0 ∷ 0x13 ∷ 0 ∷ 0 ∷ 0 ∷ 1 ∷ 0 ∷ 0 ∷ 0 ∷ [] }
     ∷ inFirst arrays
 
 pub writing-bounds : writingAnswers writingBounds ≡ writingSays writingBounds

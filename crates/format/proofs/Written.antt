@@ -11,13 +11,13 @@ use borrow.Author.Tests.{le-leb, lt-leb}
 use Rattle.refusal.specs.declared.Refusal.the-variants.{BadTable, NoSuchEdition, Unstorable, NotInEdition, NoRoom}
 use Rattle.format.specs.Bytes.{littleEndian, AllBytes, zeros, packNumbers, dimensionBytes}
 use Rattle.format.specs.Bits.{fixedFlags, floatFlags, nibbles}
-use Rattle.format.specs.Datatype.{Datatype, fixedPoint, floatingPoint, time, string, bitField, opaque, compound, reference, enumeration, variableLength, array, Members, noMembers, member, EnumMember, enumNames, typeSize, memberCount, poolBytes, memberPool}
-use Rattle.format.specs.Message.{header, reservedBytes, bitWidths, floatWidths, timeWidths, arrayBytes, enumNameBytes, enumNameLength, nameLength, offsetWidth, skippedBytes, nameBytes, variableFlags, variableCharset, codeOf, message, memberBytes, messageLength, membersLength, storable, carried, writingType, writing}
+use Rattle.format.specs.Datatype.{floatNumbers, Leaf, fixedPoint, floatingPoint, time, string, bitField, opaque, reference, leafPool, Datatype, leaf, compound, enumeration, variableLength, array, Members, noMembers, member, EnumMember, enumNames, typeSize, memberCount, poolBytes, memberPool}
+use Rattle.format.specs.Message.{header, reservedBytes, bitWidths, floatWidths, timeWidths, arrayBytes, enumNameBytes, enumNameLength, nameLength, offsetWidth, skippedBytes, nameBytes, variableFlags, variableCharset, codeOf, leafMessage, message, memberBytes, lengthOfLeaf, messageLength, membersLength, storable, carried, writingType, writing}
 use Rattle.format.specs.Outcome.{gives, refuses, whenGiven, unless, needed}
 use Rattle.format.specs.Table.{typeOf}
 use Rattle.format.proofs.Bits.{class-version-lt, nibbles-lt, fixed-flags-lt, float-flags-lt}
 use Rattle.format.proofs.Bytes.{length-littleEndian, length-zeros, length-dimensions, bytes-littleEndian, bytes-zeros, bytes-append, bytes-left, bytes-right, bytes-packed, bytes-dimensions}
-use Rattle.format.proofs.Facts.{Storable, StorableMembers, StorableVariable}
+use Rattle.format.proofs.Facts.{StorableLeaf, Storable, StorableMembers, StorableVariable}
 use Rattle.format.proofs.Steps.{length-header}
 use Rattle.format.proofs.Storable.{storable-fact}
 
@@ -34,19 +34,23 @@ length-names e (m ∷ ms) = rw (length-append, length-name e (m .name), length-n
 
 ruleset lengths = (length-append, length-header, length-littleEndian, length-zeros, length-dimensions, length-name, length-names)
 
+length-leaf : (n : ℕ) (x : Leaf) → length (leafMessage n x) ≡ lengthOfLeaf x
+unfolding leafMessage lengthOfLeaf packNumbers floatNumbers
+length-leaf n (fixedPoint o s f q) = simp lengths
+length-leaf n (floatingPoint o y) = simp lengths
+length-leaf n (time o q) = simp lengths
+length-leaf n (string a c) = simp lengths
+length-leaf n (bitField o f q) = simp lengths
+length-leaf n (opaque g) = simp lengths
+length-leaf n (reference k) = simp lengths
+
 mutual
-  unfolding message messageLength packNumbers arrayBytes
+  unfolding message messageLength arrayBytes
 
   -- the length that is measured is that of the bytes written
   pub length-message : (e : ℕ) (t : Datatype) → length (message e t) ≡ messageLength e t
-  length-message e (fixedPoint n o s f q) = simp lengths
-  length-message e (floatingPoint n o f q el es ml ms x) = simp lengths
-  length-message e (time n o q) = simp lengths
-  length-message e (string n a c) = simp lengths
-  length-message e (bitField n o f q) = simp lengths
-  length-message e (opaque n g) = simp lengths
+  length-message e (leaf n x) = length-leaf n x
   length-message e (compound n ms) = simp (lengths, length-members e n ms)
-  length-message e (reference n k) = simp lengths
   length-message e (enumeration n t ms) = simp (lengths, length-message e t)
   length-message e (variableLength i a c t) = simp (lengths, length-message e t)
   length-message e (array ds t) = simp (lengths, length-message e t)
@@ -87,22 +91,26 @@ variable-bytes i a c (inr h) = rw (h .2, h .3, h .4) (nibbles-lt 1 (h .0) (omega
 framed : (c v f0 f1 size : ℕ) (s : List ℕ) → c < 16 → v < 16 → f0 < 256 → f1 < 256 → AllBytes s → AllBytes (header c v f0 f1 size ++ s)
 framed c v f0 f1 size s hc hv h0 h1 h = bytes-append (header c v f0 f1 size) s (bytes-header c v f0 f1 size hc hv h0 h1) h
 
+bytes-leaf : (n : ℕ) (x : Leaf) → StorableLeaf n x → AllBytes (leafPool x) → AllBytes (leafMessage n x)
+unfolding leafMessage StorableLeaf leafPool
+bytes-leaf n (fixedPoint o s f q) h b =
+    framed 0 1 (fixedFlags o s) 0 n _ (omega arith) (omega arith) (omega (arith, fixed-flags-lt o s (h .0) (h .1))) (omega arith) (bytes-packed bitWidths _)
+bytes-leaf n (floatingPoint o y) h b =
+    framed 1 1 (floatFlags o) ((n * 8 - 1) % 256) n _ (omega arith) (omega arith) (float-flags-lt o) (omega arith) (bytes-packed floatWidths _)
+bytes-leaf n (time o q) h b = framed 2 1 o 0 n _ (omega arith) (omega arith) (omega (arith, h .0)) (omega arith) (bytes-packed timeWidths _)
+bytes-leaf n (string a c) h b = bytes-header 3 1 (nibbles a c) 0 n (omega arith) (omega arith) (nibbles-lt a c (omega (arith, h .0)) (omega (arith, h .1))) (omega arith)
+bytes-leaf n (bitField o f q) h b = framed 4 1 o 0 n _ (omega arith) (omega arith) (omega (arith, h .0)) (omega arith) (bytes-packed bitWidths _)
+bytes-leaf n (opaque g) h b = framed 5 1 (length g) 0 n _ (omega arith) (omega arith) h (omega arith) (bytes-append g _ b (bytes-zeros _))
+bytes-leaf n (reference k) h b = bytes-header 7 1 k 0 n (omega arith) (omega arith) (omega (arith, h)) (omega arith)
+
 mutual
   unfolding message Storable poolBytes
 
   -- in any version that a header can bear
   pub bytes-message : (e : ℕ) (t : Datatype) → e < 16 → Storable e t → AllBytes (poolBytes t) → AllBytes (message e t)
-  bytes-message e (fixedPoint n o s f q) small h b =
-      framed 0 1 (fixedFlags o s) 0 n _ (omega arith) (omega arith) (omega (arith, fixed-flags-lt o s (h .2) (h .3))) (omega arith) (bytes-packed bitWidths _)
-  bytes-message e (floatingPoint n o f q el es ml ms x) small h b =
-      framed 1 1 (floatFlags o) ((n * 8 - 1) % 256) n _ (omega arith) (omega arith) (float-flags-lt o) (omega arith) (bytes-packed floatWidths _)
-  bytes-message e (time n o q) small h b = framed 2 1 o 0 n _ (omega arith) (omega arith) (omega (arith, h .2)) (omega arith) (bytes-packed timeWidths _)
-  bytes-message e (string n a c) small h b = bytes-header 3 1 (nibbles a c) 0 n (omega arith) (omega arith) (nibbles-lt a c (omega (arith, h .2)) (omega (arith, h .3))) (omega arith)
-  bytes-message e (bitField n o f q) small h b = framed 4 1 o 0 n _ (omega arith) (omega arith) (omega (arith, h .2)) (omega arith) (bytes-packed bitWidths _)
-  bytes-message e (opaque n g) small h b = framed 5 1 (length g) 0 n _ (omega arith) (omega arith) (h .2) (omega arith) (bytes-append g _ b (bytes-zeros _))
+  bytes-message e (leaf n x) small h b = bytes-leaf n x (h .2) b
   bytes-message e (compound n ms) small h b =
       framed 6 e (memberCount ms % 256) (memberCount ms / 256) n _ (omega arith) small (omega arith) (omega (arith, h .2)) (bytes-members e n ms small (h .3) b)
-  bytes-message e (reference n k) small h b = bytes-header 7 1 k 0 n (omega arith) (omega arith) (omega (arith, h .2)) (omega arith)
   bytes-message e (enumeration n t ms) small h b =
       let r = bytes-right (poolBytes t) _ b in
       framed 8 e (length ms % 256) (length ms / 256) n _ (omega arith) small (omega arith) (omega (arith, h .2))

@@ -2,8 +2,9 @@
 -- Codes are those of a row: order 0 little-endian, 1 big-endian, 2 VAX; signed, padding, charset and kind as document 01 has them;
 -- a variable-length type's padding and charset are 0 where absent, else the code + 1.
 use Prim.Native.Nat.{ℕ, suc, _+_, _*_, min, max}
+use mathlib.Core.Bool.{Bool, false}
 use mathlib.Core.List.{List, [], _∷_, _++_}
-use lib.ListN.{length}
+use lib.ListN.{length, getD}
 use Rattle.format.specs.Bytes.{dimensionBytes}
 
 -- a member of an enumeration
@@ -11,16 +12,39 @@ pub record EnumMember : Type 0 where
   pub name : List ℕ
   pub value : List ℕ
 
+-- where a float has its bits, and the exponent's bias
+pub record FloatLayout : Type 0 where
+  pub offset : ℕ
+  pub precision : ℕ
+  pub exponentLocation : ℕ
+  pub exponentSize : ℕ
+  pub mantissaLocation : ℕ
+  pub mantissaSize : ℕ
+  pub bias : ℕ
+
+-- its numbers, in the order of a message and of a row
+unfoldable pub floatNumbers : FloatLayout → List ℕ
+floatNumbers y = y .offset ∷ y .precision ∷ y .exponentLocation ∷ y .exponentSize ∷ y .mantissaLocation ∷ y .mantissaSize ∷ y .bias ∷ []
+
+-- a layout from numbers in that order
+unfoldable pub floatLayout : List ℕ → FloatLayout
+floatLayout x =
+    record { offset = getD x 0 0; precision = getD x 1 0; exponentLocation = getD x 2 0; exponentSize = getD x 3 0; mantissaLocation = getD x 4 0; mantissaSize = getD x 5 0; bias = getD x 6 0 }
+
+-- a type that holds no other, without its size
+pub data Leaf : Type 0 where
+  fixedPoint : (order signed offset precision : ℕ) → Leaf
+  floatingPoint : (order : ℕ) (layout : FloatLayout) → Leaf
+  time : (order precision : ℕ) → Leaf
+  string : (padding charset : ℕ) → Leaf
+  bitField : (order offset precision : ℕ) → Leaf
+  opaque : (tag : List ℕ) → Leaf
+  reference : (kind : ℕ) → Leaf
+
 mutual
   pub data Datatype : Type 0 where
-    fixedPoint : (size order signed offset precision : ℕ) → Datatype
-    floatingPoint : (size order offset precision exponentLocation exponentSize mantissaLocation mantissaSize bias : ℕ) → Datatype
-    time : (size order precision : ℕ) → Datatype
-    string : (size padding charset : ℕ) → Datatype
-    bitField : (size order offset precision : ℕ) → Datatype
-    opaque : (size : ℕ) (tag : List ℕ) → Datatype
+    leaf : (size : ℕ) → Leaf → Datatype
     compound : (size : ℕ) (members : Members) → Datatype
-    reference : (size kind : ℕ) → Datatype
     enumeration : (size : ℕ) (base : Datatype) (members : List EnumMember) → Datatype
     variableLength : (isString padding charset : ℕ) (base : Datatype) → Datatype
     array : (dimensions : List ℕ) (base : Datatype) → Datatype
@@ -44,28 +68,25 @@ maxSize = 4294967295
 
 -- "Variable length is 16"
 unfoldable pub typeSize : Datatype → ℕ
-typeSize (fixedPoint n o s f q) = n
-typeSize (floatingPoint n o f q el es ml ms x) = n
-typeSize (time n o q) = n
-typeSize (string n a c) = n
-typeSize (bitField n o f q) = n
-typeSize (opaque n g) = n
+typeSize (leaf n x) = n
 typeSize (compound n ms) = n
-typeSize (reference n k) = n
 typeSize (enumeration n t ms) = n
 typeSize (variableLength i a c t) = 16
 typeSize (array ds t) = min (typeSize t * product ds) maxSize
 
+unfoldable pub leafClass : Leaf → ℕ
+leafClass (fixedPoint o s f q) = 0
+leafClass (floatingPoint o y) = 1
+leafClass (time o q) = 2
+leafClass (string a c) = 3
+leafClass (bitField o f q) = 4
+leafClass (opaque g) = 5
+leafClass (reference k) = 7
+
 -- the class, "the table's": a class 11 message gives a compound
 unfoldable pub classNumber : Datatype → ℕ
-classNumber (fixedPoint n o s f q) = 0
-classNumber (floatingPoint n o f q el es ml ms x) = 1
-classNumber (time n o q) = 2
-classNumber (string n a c) = 3
-classNumber (bitField n o f q) = 4
-classNumber (opaque n g) = 5
+classNumber (leaf n x) = leafClass x
 classNumber (compound n ms) = 6
-classNumber (reference n k) = 7
 classNumber (enumeration n t ms) = 8
 classNumber (variableLength i a c t) = 9
 classNumber (array ds t) = 10
@@ -73,14 +94,8 @@ classNumber (array ds t) = 10
 unfoldable mutual
   -- the levels of a type, its own counted ("outermost 1")
   pub depth : Datatype → ℕ
-  depth (fixedPoint n o s f q) = 1
-  depth (floatingPoint n o f q el es ml ms x) = 1
-  depth (time n o q) = 1
-  depth (string n a c) = 1
-  depth (bitField n o f q) = 1
-  depth (opaque n g) = 1
+  depth (leaf n x) = 1
   depth (compound n ms) = suc (memberDepth ms)
-  depth (reference n k) = 1
   depth (enumeration n t ms) = suc (depth t)
   depth (variableLength i a c t) = suc (depth t)
   depth (array ds t) = suc (depth t)
@@ -92,14 +107,8 @@ unfoldable mutual
 unfoldable mutual
   -- "one per type and per member"
   pub rowCount : Datatype → ℕ
-  rowCount (fixedPoint n o s f q) = 1
-  rowCount (floatingPoint n o f q el es ml ms x) = 1
-  rowCount (time n o q) = 1
-  rowCount (string n a c) = 1
-  rowCount (bitField n o f q) = 1
-  rowCount (opaque n g) = 1
+  rowCount (leaf n x) = 1
   rowCount (compound n ms) = suc (memberRowCount ms)
-  rowCount (reference n k) = 1
   rowCount (enumeration n t ms) = suc (rowCount t + length ms)
   rowCount (variableLength i a c t) = suc (rowCount t)
   rowCount (array ds t) = suc (rowCount t)
@@ -116,17 +125,20 @@ unfoldable pub enumValues : List EnumMember → List ℕ
 enumValues [] = []
 enumValues (m ∷ ms) = m .value ++ enumValues ms
 
+unfoldable pub leafPool : Leaf → List ℕ
+leafPool (fixedPoint o s f q) = []
+leafPool (floatingPoint o y) = []
+leafPool (time o q) = []
+leafPool (string a c) = []
+leafPool (bitField o f q) = []
+leafPool (opaque g) = g
+leafPool (reference k) = []
+
 unfoldable mutual
   -- the pool bytes: "names, tags, values and dimensions, packed in message order, an enumeration's names before its values"
   pub poolBytes : Datatype → List ℕ
-  poolBytes (fixedPoint n o s f q) = []
-  poolBytes (floatingPoint n o f q el es ml ms x) = []
-  poolBytes (time n o q) = []
-  poolBytes (string n a c) = []
-  poolBytes (bitField n o f q) = []
-  poolBytes (opaque n g) = g
+  poolBytes (leaf n x) = leafPool x
   poolBytes (compound n ms) = memberPool ms
-  poolBytes (reference n k) = []
   poolBytes (enumeration n t ms) = poolBytes t ++ (enumNames ms ++ enumValues ms)
   poolBytes (variableLength i a c t) = poolBytes t
   poolBytes (array ds t) = dimensionBytes ds ++ poolBytes t
@@ -134,3 +146,13 @@ unfoldable mutual
   pub memberPool : Members → List ℕ
   memberPool noMembers = []
   memberPool (member b o t ms) = b ++ (poolBytes t ++ memberPool ms)
+
+-- a reference whose kind passes a test
+unfoldable pub refers : (ℕ → Bool) → Leaf → Bool
+refers test (fixedPoint o s f q) = false
+refers test (floatingPoint o y) = false
+refers test (time o q) = false
+refers test (string a c) = false
+refers test (bitField o f q) = false
+refers test (opaque g) = false
+refers test (reference k) = test k

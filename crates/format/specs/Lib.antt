@@ -3,6 +3,7 @@ pub mod Bits
 pub mod Utf8
 pub mod Outcome
 pub mod Datatype
+pub mod Columns
 pub mod Table
 pub mod Message
 pub mod Reading

@@ -9,7 +9,7 @@ use Rattle.refusal.specs.declared.Refusal.the-variants.{NoSuchEdition, Unstorab
 use Rattle.format.specs.Bytes.{littleEndian, zeros, paddingTo8, packNumbers, dimensionBytes}
 use Rattle.format.specs.Bits.{classAndVersion, fixedFlags, floatFlags, nibbles}
 use Rattle.format.specs.Utf8.{wellFormed}
-use Rattle.format.specs.Datatype.{Datatype, fixedPoint, floatingPoint, time, string, bitField, opaque, compound, reference, enumeration, variableLength, array, Members, noMembers, member, EnumMember, memberCount, typeSize, enumValues}
+use Rattle.format.specs.Datatype.{Leaf, floatNumbers, fixedPoint, floatingPoint, time, string, bitField, opaque, reference, Datatype, leaf, compound, enumeration, variableLength, array, Members, noMembers, member, EnumMember, memberCount, typeSize, enumValues}
 use Rattle.format.specs.Outcome.{Outcome, gives, whenGiven, unless, needed}
 use Rattle.format.specs.Table.{allBelow, typeOf}
 
@@ -73,18 +73,22 @@ unfoldable pub variableCharset : (isString charset : ℕ) → ℕ
 variableCharset zero c = 0
 variableCharset (suc i) c = codeOf c
 
+-- a leaf's, in version 1
+unfoldable pub leafMessage : (size : ℕ) → Leaf → List ℕ
+leafMessage n (fixedPoint o s f q) = header 0 1 (fixedFlags o s) 0 n ++ packNumbers bitWidths (f ∷ q ∷ [])
+leafMessage n (floatingPoint o y) = header 1 1 (floatFlags o) ((n * 8 - 1) % 256) n ++ packNumbers floatWidths (floatNumbers y)
+leafMessage n (time o q) = header 2 1 o 0 n ++ packNumbers timeWidths (q ∷ [])
+leafMessage n (string a c) = header 3 1 (nibbles a c) 0 n
+leafMessage n (bitField o f q) = header 4 1 o 0 n ++ packNumbers bitWidths (f ∷ q ∷ [])
+leafMessage n (opaque g) = header 5 1 (length g) 0 n ++ (g ++ zeros (paddingTo8 (length g)))
+leafMessage n (reference k) = header 7 1 k 0 n
+
 unfoldable mutual
   -- "Edition 3 equals `serialize`: classes 6, 8, 10 in version 3, all others 1. Edition 2 writes 6, 8, 10 in version 2; edition 1 writes
   -- version 1 throughout. Padding, reserved, permutation and skipped bytes are zero."
   pub message : (edition : ℕ) → Datatype → List ℕ
-  message e (fixedPoint n o s f q) = header 0 1 (fixedFlags o s) 0 n ++ packNumbers bitWidths (f ∷ q ∷ [])
-  message e (floatingPoint n o f q el es ml ms x) = header 1 1 (floatFlags o) ((n * 8 - 1) % 256) n ++ packNumbers floatWidths (f ∷ q ∷ el ∷ es ∷ ml ∷ ms ∷ x ∷ [])
-  message e (time n o q) = header 2 1 o 0 n ++ packNumbers timeWidths (q ∷ [])
-  message e (string n a c) = header 3 1 (nibbles a c) 0 n
-  message e (bitField n o f q) = header 4 1 o 0 n ++ packNumbers bitWidths (f ∷ q ∷ [])
-  message e (opaque n g) = header 5 1 (length g) 0 n ++ (g ++ zeros (paddingTo8 (length g)))
+  message e (leaf n x) = leafMessage n x
   message e (compound n ms) = header 6 e (memberCount ms % 256) (memberCount ms / 256) n ++ memberBytes e n ms
-  message e (reference n k) = header 7 1 k 0 n
   message e (enumeration n t ms) = header 8 e (length ms % 256) (length ms / 256) n ++ (message e t ++ (enumNameBytes e ms ++ enumValues ms))
   message e (variableLength i a c t) = header 9 1 (variableFlags i a) (variableCharset i c) 16 ++ message e t
   message e (array ds t) = header 10 e 0 0 (typeSize (array ds t)) ++ (arrayBytes e ds ++ message e t)
@@ -103,17 +107,20 @@ unfoldable pub enumNameLength : (version : ℕ) → List EnumMember → ℕ
 enumNameLength v [] = 0
 enumNameLength v (m ∷ ms) = nameLength v (m .name) + enumNameLength v ms
 
+unfoldable pub lengthOfLeaf : Leaf → ℕ
+lengthOfLeaf (fixedPoint o s f q) = 12
+lengthOfLeaf (floatingPoint o y) = 20
+lengthOfLeaf (time o q) = 10
+lengthOfLeaf (string a c) = 8
+lengthOfLeaf (bitField o f q) = 12
+lengthOfLeaf (opaque g) = 8 + (length g + paddingTo8 (length g))
+lengthOfLeaf (reference k) = 8
+
 unfoldable mutual
   -- the length of the message, without its bytes
   pub messageLength : (edition : ℕ) → Datatype → ℕ
-  messageLength e (fixedPoint n o s f q) = 12
-  messageLength e (floatingPoint n o f q el es ml ms x) = 20
-  messageLength e (time n o q) = 10
-  messageLength e (string n a c) = 8
-  messageLength e (bitField n o f q) = 12
-  messageLength e (opaque n g) = 8 + (length g + paddingTo8 (length g))
+  messageLength e (leaf n x) = lengthOfLeaf x
   messageLength e (compound n ms) = 8 + membersLength e n ms
-  messageLength e (reference n k) = 8
   messageLength e (enumeration n t ms) = 8 + (messageLength e t + (enumNameLength e ms + length (enumValues ms)))
   messageLength e (variableLength i a c t) = 8 + messageLength e t
   messageLength e (array ds t) = 8 + (1 + reservedBytes e + (4 * length ds + permutationBytes e (length ds)) + messageLength e t)
@@ -125,14 +132,8 @@ unfoldable mutual
 unfoldable mutual
   -- "Its headers are its own and those of every message inside it": their versions, in message order
   pub versions : (edition : ℕ) → Datatype → List ℕ
-  versions e (fixedPoint n o s f q) = 1 ∷ []
-  versions e (floatingPoint n o f q el es ml ms x) = 1 ∷ []
-  versions e (time n o q) = 1 ∷ []
-  versions e (string n a c) = 1 ∷ []
-  versions e (bitField n o f q) = 1 ∷ []
-  versions e (opaque n g) = 1 ∷ []
+  versions e (leaf n x) = 1 ∷ []
   versions e (compound n ms) = e ∷ memberVersions e ms
-  versions e (reference n k) = 1 ∷ []
   versions e (enumeration n t ms) = e ∷ versions e t
   versions e (variableLength i a c t) = 1 ∷ versions e t
   versions e (array ds t) = e ∷ versions e t
@@ -171,17 +172,21 @@ storableEnum n (m ∷ ms) = all (noNul (m .name) ∷ wellFormed (m .name) ∷ eq
 unfoldable pub storableVariable : (isString padding charset : ℕ) → Bool
 storableVariable i a c = (eqb i 0 && (eqb a 0 && eqb c 0)) || (eqb i 1 && ((ltb 0 a && ltb a 4) && (ltb 0 c && ltb c 3)))
 
+-- a leaf's codes and numbers; "float size at most 536,870,911", "VAX only in floats"
+unfoldable pub storableLeaf : (size : ℕ) → Leaf → Bool
+storableLeaf n (fixedPoint o s f q) = all (ltb o 2 ∷ ltb s 2 ∷ fit bitWidths (f ∷ q ∷ []) ∷ [])
+storableLeaf n (floatingPoint o y) = all (leb n 536870911 ∷ ltb o 3 ∷ fit floatWidths (floatNumbers y) ∷ [])
+storableLeaf n (time o q) = all (ltb o 2 ∷ fit timeWidths (q ∷ []) ∷ [])
+storableLeaf n (string a c) = all (ltb a 3 ∷ ltb c 2 ∷ [])
+storableLeaf n (bitField o f q) = all (ltb o 2 ∷ fit bitWidths (f ∷ q ∷ []) ∷ [])
+storableLeaf n (opaque g) = ltb (length g) 256
+storableLeaf n (reference k) = ltb k 2
+
 unfoldable mutual
   -- "Storable". "each offset at most 255, 65,535 or 4,294,967,295 by the width above": the width of edition 3, in every edition
   pub storable : Datatype → Bool
-  storable (fixedPoint n o s f q) = all (ltb 0 n ∷ ltb n (2 ^ 32) ∷ ltb o 2 ∷ ltb s 2 ∷ fit bitWidths (f ∷ q ∷ []) ∷ [])
-  storable (floatingPoint n o f q el es ml ms x) = all (ltb 0 n ∷ leb n 536870911 ∷ ltb o 3 ∷ fit floatWidths (f ∷ q ∷ el ∷ es ∷ ml ∷ ms ∷ x ∷ []) ∷ [])
-  storable (time n o q) = all (ltb 0 n ∷ ltb n (2 ^ 32) ∷ ltb o 2 ∷ fit timeWidths (q ∷ []) ∷ [])
-  storable (string n a c) = all (ltb 0 n ∷ ltb n (2 ^ 32) ∷ ltb a 3 ∷ ltb c 2 ∷ [])
-  storable (bitField n o f q) = all (ltb 0 n ∷ ltb n (2 ^ 32) ∷ ltb o 2 ∷ fit bitWidths (f ∷ q ∷ []) ∷ [])
-  storable (opaque n g) = all (ltb 0 n ∷ ltb n (2 ^ 32) ∷ ltb (length g) 256 ∷ [])
+  storable (leaf n x) = all (ltb 0 n ∷ ltb n (2 ^ 32) ∷ storableLeaf n x ∷ [])
   storable (compound n ms) = all (ltb 0 n ∷ ltb n (2 ^ 32) ∷ ltb (memberCount ms) (2 ^ 16) ∷ storableMembers n ms ∷ [])
-  storable (reference n k) = all (ltb 0 n ∷ ltb n (2 ^ 32) ∷ ltb k 2 ∷ [])
   storable (enumeration n t ms) = all (ltb 0 n ∷ ltb n (2 ^ 32) ∷ ltb (length ms) (2 ^ 16) ∷ storableEnum (typeSize t) ms ∷ storable t ∷ [])
   storable (variableLength i a c t) = all (storableVariable i a c ∷ storable t ∷ [])
   storable (array ds t) = all (ltb (length ds) 256 ∷ ltb 0 (typeSize (array ds t)) ∷ allBelow (2 ^ 32) ds ∷ storable t ∷ [])
@@ -194,14 +199,8 @@ unfoldable mutual
 unfoldable mutual
   -- "an edition can carry it unless 15 meets it": "edition 1 carries no array"
   pub carried : (edition : ℕ) → Datatype → Bool
-  carried e (fixedPoint n o s f q) = true
-  carried e (floatingPoint n o f q el es ml ms x) = true
-  carried e (time n o q) = true
-  carried e (string n a c) = true
-  carried e (bitField n o f q) = true
-  carried e (opaque n g) = true
+  carried e (leaf n x) = true
   carried e (compound n ms) = carriedMembers e ms
-  carried e (reference n k) = true
   carried e (enumeration n t ms) = carried e t
   carried e (variableLength i a c t) = carried e t
   carried e (array ds t) = ltb 1 e && carried e t
@@ -218,14 +217,8 @@ validEnumNames (m ∷ ms) = wellFormed (m .name) && validEnumNames ms
 unfoldable mutual
   -- every name in a type is valid UTF-8
   pub validNames : Datatype → Bool
-  validNames (fixedPoint n o s f q) = true
-  validNames (floatingPoint n o f q el es ml ms x) = true
-  validNames (time n o q) = true
-  validNames (string n a c) = true
-  validNames (bitField n o f q) = true
-  validNames (opaque n g) = true
+  validNames (leaf n x) = true
   validNames (compound n ms) = validMemberNames ms
-  validNames (reference n k) = true
   validNames (enumeration n t ms) = validEnumNames ms && validNames t
   validNames (variableLength i a c t) = validNames t
   validNames (array ds t) = validNames t

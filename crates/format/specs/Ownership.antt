@@ -7,7 +7,7 @@ use mathlib.Core.List.{List}
 use lib.ListN.{length, getD}
 use lib.Dec.{leb, ltb, eqb}
 use Rattle.refusal.specs.declared.Refusal.the-variants.{OutsideRecord, HeapHeld, WrongLength}
-use Rattle.format.specs.Datatype.{Datatype, fixedPoint, floatingPoint, time, string, bitField, opaque, compound, reference, enumeration, variableLength, array, Members, noMembers, member, typeSize, product, maxSize}
+use Rattle.format.specs.Datatype.{refers, Datatype, leaf, compound, enumeration, variableLength, array, Members, noMembers, member, typeSize, product, maxSize}
 use Rattle.format.specs.Outcome.{Outcome, gives, whenGiven, unless}
 use Rattle.format.specs.Slots.{firstZero, unlessZero}
 use Rattle.format.specs.Table.{typeOf}
@@ -16,14 +16,8 @@ unfoldable mutual
   -- "A field is a type other than a compound or an array, reached through these only: the outermost type itself, a member's or an
   -- entry's." The field lies at a place of the record; entry k of an array at k base sizes.
   pub FieldAt : Datatype → (field : Datatype) (place : ℕ) → Type 0
-  FieldAt (fixedPoint n o s f q) x p = (x ≡ fixedPoint n o s f q) × (p ≡ 0)
-  FieldAt (floatingPoint n o f q el es ml ms b) x p = (x ≡ floatingPoint n o f q el es ml ms b) × (p ≡ 0)
-  FieldAt (time n o q) x p = (x ≡ time n o q) × (p ≡ 0)
-  FieldAt (string n a c) x p = (x ≡ string n a c) × (p ≡ 0)
-  FieldAt (bitField n o f q) x p = (x ≡ bitField n o f q) × (p ≡ 0)
-  FieldAt (opaque n g) x p = (x ≡ opaque n g) × (p ≡ 0)
+  FieldAt (leaf n y) x p = (x ≡ leaf n y) × (p ≡ 0)
   FieldAt (compound n ms) x p = MemberFieldAt ms x p
-  FieldAt (reference n k) x p = (x ≡ reference n k) × (p ≡ 0)
   FieldAt (enumeration n t ms) x p = (x ≡ enumeration n t ms) × (p ≡ 0)
   FieldAt (variableLength i a c t) x p = (x ≡ variableLength i a c t) × (p ≡ 0)
   FieldAt (array ds t) x p = (k : ℕ) × (q : ℕ) × (k < product ds) × (p ≡ k * typeSize t + q) × FieldAt t x q
@@ -48,14 +42,8 @@ inEntries f stride (suc n) i = (leb (n * stride) i && f (i - n * stride)) || inE
 unfoldable mutual
   -- the same as a test: "A compound owns its members' bytes at their offsets, overlaps united; an array owns its base's at each stride"
   pub owned : Datatype → ℕ → Bool
-  owned (fixedPoint n o s f q) i = ltb i n
-  owned (floatingPoint n o f q el es ml ms x) i = ltb i n
-  owned (time n o q) i = ltb i n
-  owned (string n a c) i = ltb i n
-  owned (bitField n o f q) i = ltb i n
-  owned (opaque n g) i = ltb i n
+  owned (leaf n x) i = ltb i n
   owned (compound n ms) i = memberOwned ms i
-  owned (reference n k) i = ltb i n
   owned (enumeration n t ms) i = ltb i n
   owned (variableLength x a c t) i = ltb i 16
   owned (array ds t) i = inEntries (owned t) (typeSize t) (product ds) i
@@ -67,14 +55,8 @@ unfoldable mutual
 unfoldable mutual
   -- refusal 16: "a member ends past its compound, or an array's true size passes 4,294,967,295", in any row
   pub outside : Datatype → Bool
-  outside (fixedPoint n o s f q) = false
-  outside (floatingPoint n o f q el es ml ms x) = false
-  outside (time n o q) = false
-  outside (string n a c) = false
-  outside (bitField n o f q) = false
-  outside (opaque n g) = false
+  outside (leaf n x) = false
   outside (compound n ms) = memberOutside n ms
-  outside (reference n k) = false
   outside (enumeration n t ms) = outside t
   outside (variableLength i a c t) = outside t
   outside (array ds t) = ltb maxSize (typeSize t * product ds) || outside t
@@ -86,14 +68,8 @@ unfoldable mutual
 unfoldable mutual
   -- refusal 17: "holding, at any level, a variable-length type or region reference"
   pub heapHeld : Datatype → Bool
-  heapHeld (fixedPoint n o s f q) = false
-  heapHeld (floatingPoint n o f q el es ml ms x) = false
-  heapHeld (time n o q) = false
-  heapHeld (string n a c) = false
-  heapHeld (bitField n o f q) = false
-  heapHeld (opaque n g) = false
+  heapHeld (leaf n x) = refers (λ k. eqb k 1) x
   heapHeld (compound n ms) = memberHeapHeld ms
-  heapHeld (reference n k) = eqb k 1
   heapHeld (enumeration n t ms) = heapHeld t
   heapHeld (variableLength i a c t) = true
   heapHeld (array ds t) = heapHeld t

@@ -11,9 +11,9 @@ use Rattle.format.specs.declared.Header.{Header}
 use Rattle.format.specs.Bytes.{numberFrom, paddingTo8, firstNul, totalWidth, unpackNumbers, dimensionsFrom, padded}
 use Rattle.format.specs.Bits.{lowBits, highBits, bitAt, floatOrder}
 use Rattle.format.specs.Utf8.{mended}
-use Rattle.format.specs.Datatype.{Datatype, fixedPoint, floatingPoint, time, string, bitField, opaque, compound, reference, enumeration, variableLength, array, Members, noMembers, member, EnumMember, typeSize}
+use Rattle.format.specs.Datatype.{floatLayout, fixedPoint, floatingPoint, time, string, bitField, opaque, reference, Datatype, leaf, compound, enumeration, variableLength, array, Members, noMembers, member, EnumMember, typeSize}
 use Rattle.format.specs.Message.{namePadding, offsetWidth, skippedBytes, reservedBytes, permutationBytes, bitWidths, floatWidths, timeWidths}
-use Rattle.format.specs.Table.{Kind, isFixedPoint, isFloatingPoint, isTime, isString, isBitField, isOpaque, isCompound, isReference, isEnumeration, isVariableLength, isArray, isUnknown, maxLevels, maxRows, maxPool, tableOf, poolOf}
+use Rattle.format.specs.Table.{LeafKind, isFixedPoint, isFloatingPoint, isTime, isString, isBitField, isOpaque, isReference, Kind, isLeaf, isCompound, isEnumeration, isVariableLength, isArray, isUnknown, maxLevels, maxRows, maxPool, tableOf, poolOf}
 use Rattle.format.specs.Outcome.{Outcome, gives, refuses}
 
 -- what was read, with the place in the innermost message, the bytes from there on, and the rows and pool bytes still free
@@ -107,14 +107,14 @@ readHeader l = do
 unfoldable pub classKind : ℕ → Kind
 classKind c =
     getD
-    (isFixedPoint
-    ∷ isFloatingPoint
-    ∷ isTime
-    ∷ isString
-    ∷ isBitField
-    ∷ isOpaque
+    (isLeaf isFixedPoint
+    ∷ isLeaf isFloatingPoint
+    ∷ isLeaf isTime
+    ∷ isLeaf isString
+    ∷ isLeaf isBitField
+    ∷ isLeaf isOpaque
     ∷ isCompound
-    ∷ isReference
+    ∷ isLeaf isReference
     ∷ isEnumeration
     ∷ isVariableLength
     ∷ isArray
@@ -188,37 +188,41 @@ readArray rd v = do
   t ← inner rd
   give (array (dimensionsFrom (getD x 0 0) b) t)
 
--- the properties of a class, over the reader of the messages inside; codes are checked before anything behind the header
-unfoldable pub readProperties : Reader Datatype → Header → Kind → Reader Datatype
-readProperties rd h isFixedPoint = do
+-- the properties of a leaf; codes are checked before anything behind the header
+unfoldable pub leafProperties : Header → LeafKind → Reader Datatype
+leafProperties h isFixedPoint = do
   x ← numbers bitWidths
-  give (fixedPoint (h .size) (bitAt 0 (h .f0)) (bitAt 3 (h .f0)) (getD x 0 0) (getD x 1 0))
-readProperties rd h isFloatingPoint = do
+  give (leaf (h .size) (fixedPoint (bitAt 0 (h .f0)) (bitAt 3 (h .f0)) (getD x 0 0) (getD x 1 0)))
+leafProperties h isFloatingPoint = do
   x ← numbers floatWidths
-  give (floatingPoint (h .size) (floatOrder (h .f0)) (getD x 0 0) (getD x 1 0) (getD x 2 0) (getD x 3 0) (getD x 4 0) (getD x 5 0) (getD x 6 0))
-readProperties rd h isTime = do
+  give (leaf (h .size) (floatingPoint (floatOrder (h .f0)) (floatLayout x)))
+leafProperties h isTime = do
   x ← numbers timeWidths
-  give (time (h .size) (bitAt 0 (h .f0)) (getD x 0 0))
-readProperties rd h isString = do
+  give (leaf (h .size) (time (bitAt 0 (h .f0)) (getD x 0 0)))
+leafProperties h isString = do
   require (leb (lowBits 4 (h .f0)) 2) (BadPadding (lowBits 4 (h .f0)))
   require (leb (highBits 4 (h .f0)) 1) (BadCharset (highBits 4 (h .f0)))
-  give (string (h .size) (lowBits 4 (h .f0)) (highBits 4 (h .f0)))
-readProperties rd h isBitField = do
+  give (leaf (h .size) (string (lowBits 4 (h .f0)) (highBits 4 (h .f0))))
+leafProperties h isBitField = do
   x ← numbers bitWidths
-  give (bitField (h .size) (bitAt 0 (h .f0)) (getD x 0 0) (getD x 1 0))
-readProperties rd h isOpaque = do
+  give (leaf (h .size) (bitField (bitAt 0 (h .f0)) (getD x 0 0) (getD x 1 0)))
+leafProperties h isOpaque = do
   g ← bytes (h .f0)
   piece g
   skip (paddingTo8 (h .f0))
-  give (opaque (h .size) g)
+  give (leaf (h .size) (opaque g))
+leafProperties h isReference = do
+  require (leb (lowBits 4 (h .f0)) 1) (BadReferenceKind (lowBits 4 (h .f0)))
+  give (leaf (h .size) (reference (lowBits 4 (h .f0))))
+
+-- the properties of a class, over the reader of the messages inside
+unfoldable pub readProperties : Reader Datatype → Header → Kind → Reader Datatype
+readProperties rd h (isLeaf k) = leafProperties h k
 readProperties rd h isCompound = do
   require (ltb 0 (layoutVersion h)) (BadVersion (h .class) (layoutVersion h))
   require (leb (layoutVersion h) 4) (BadVersion (h .class) (layoutVersion h))
   ms ← readMembers rd (layoutVersion h) (h .size) (countOf h)
   give (compound (h .size) ms)
-readProperties rd h isReference = do
-  require (leb (lowBits 4 (h .f0)) 1) (BadReferenceKind (lowBits 4 (h .f0)))
-  give (reference (h .size) (lowBits 4 (h .f0)))
 readProperties rd h isEnumeration = do
   t ← inner rd
   bs ← readNames (h .version) (countOf h)

@@ -5,7 +5,7 @@ use mathlib.Core.List.{List}
 use lib.Dec.{leb, ltb}
 use Rattle.refusal.specs.declared.Refusal.the-variants.{ZeroSize}
 use Rattle.format.specs.Bits.{lowBits}
-use Rattle.format.specs.Datatype.{Datatype, fixedPoint, floatingPoint, time, string, bitField, opaque, compound, reference, enumeration, variableLength, array, Members, noMembers, member, typeSize, classNumber}
+use Rattle.format.specs.Datatype.{refers, Datatype, leaf, compound, enumeration, variableLength, array, Members, noMembers, member, typeSize, classNumber}
 use Rattle.format.specs.Outcome.{Outcome, gives, whenGiven, unless}
 use Rattle.format.specs.Table.{typeOf}
 
@@ -24,14 +24,8 @@ classMayHoldObjectAddress b = leb 6 (lowBits 4 b) && leb (lowBits 4 b) 10
 unfoldable mutual
   -- a reference, at any level
   pub holdsObjectAddress : Datatype → Bool
-  holdsObjectAddress (fixedPoint n o s f q) = false
-  holdsObjectAddress (floatingPoint n o f q el es ml ms x) = false
-  holdsObjectAddress (time n o q) = false
-  holdsObjectAddress (string n a c) = false
-  holdsObjectAddress (bitField n o f q) = false
-  holdsObjectAddress (opaque n g) = false
+  holdsObjectAddress (leaf n x) = refers (λ k. true) x
   holdsObjectAddress (compound n ms) = memberHoldsObjectAddress ms
-  holdsObjectAddress (reference n k) = true
   holdsObjectAddress (enumeration n t ms) = holdsObjectAddress t
   holdsObjectAddress (variableLength i a c t) = holdsObjectAddress t
   holdsObjectAddress (array ds t) = holdsObjectAddress t
@@ -43,14 +37,8 @@ unfoldable mutual
 unfoldable mutual
   -- a reference or a variable-length type, at any level
   pub holdsFileAddress : Datatype → Bool
-  holdsFileAddress (fixedPoint n o s f q) = false
-  holdsFileAddress (floatingPoint n o f q el es ml ms x) = false
-  holdsFileAddress (time n o q) = false
-  holdsFileAddress (string n a c) = false
-  holdsFileAddress (bitField n o f q) = false
-  holdsFileAddress (opaque n g) = false
+  holdsFileAddress (leaf n x) = refers (λ k. true) x
   holdsFileAddress (compound n ms) = memberHoldsFileAddress ms
-  holdsFileAddress (reference n k) = true
   holdsFileAddress (enumeration n t ms) = holdsFileAddress t
   holdsFileAddress (variableLength i a c t) = true
   holdsFileAddress (array ds t) = holdsFileAddress t

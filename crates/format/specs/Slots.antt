@@ -7,7 +7,7 @@ use lib.ListN.{length, take, drop}
 use lib.Dec.{leb, ltb, eqb}
 use Rattle.refusal.specs.declared.Refusal.the-variants.{ZeroSize, Unmapped, SlotOutside, NoRoom}
 use Rattle.format.specs.Bytes.{numberFrom}
-use Rattle.format.specs.Datatype.{Datatype, fixedPoint, floatingPoint, time, string, bitField, opaque, compound, reference, enumeration, variableLength, array, Members, noMembers, member, typeSize, product}
+use Rattle.format.specs.Datatype.{leafClass, refers, Datatype, leaf, compound, enumeration, variableLength, array, Members, noMembers, member, typeSize, product}
 use Rattle.format.specs.Outcome.{Outcome, gives, refuses, whenGiven, unless, needed}
 use Rattle.format.specs.Sizes.{holdsObjectAddress}
 use Rattle.format.specs.Table.{typeOf}
@@ -29,14 +29,8 @@ entries stride ss k (suc n) = shifted (k * stride) ss ++ entries stride ss (suc 
 unfoldable mutual
   -- "Slots of a type are the offsets of its 8-byte object references reached through compounds and arrays only, in walking order"
   pub slots : Datatype → List ℕ
-  slots (fixedPoint n o s f q) = []
-  slots (floatingPoint n o f q el es ml ms x) = []
-  slots (time n o q) = []
-  slots (string n a c) = []
-  slots (bitField n o f q) = []
-  slots (opaque n g) = []
+  slots (leaf n x) = cond (refers (isSlot n) x) (0 ∷ []) []
   slots (compound n ms) = memberSlots ms
-  slots (reference n k) = cond (isSlot n k) (0 ∷ []) []
   slots (enumeration n t ms) = []
   slots (variableLength i a c t) = []
   slots (array ds t) = entries (typeSize t) (slots t) 0 (product ds)
@@ -48,14 +42,8 @@ unfoldable mutual
 unfoldable mutual
   -- how many slots there are, without listing them
   pub slotCount : Datatype → ℕ
-  slotCount (fixedPoint n o s f q) = 0
-  slotCount (floatingPoint n o f q el es ml ms x) = 0
-  slotCount (time n o q) = 0
-  slotCount (string n a c) = 0
-  slotCount (bitField n o f q) = 0
-  slotCount (opaque n g) = 0
+  slotCount (leaf n x) = cond (refers (isSlot n) x) 1 0
   slotCount (compound n ms) = memberSlotCount ms
-  slotCount (reference n k) = cond (isSlot n k) 1 0
   slotCount (enumeration n t ms) = 0
   slotCount (variableLength i a c t) = 0
   slotCount (array ds t) = product ds * slotCount t
@@ -78,14 +66,8 @@ movedEnd o (suc end) = o + suc end
 unfoldable mutual
   -- the greatest slot + 8, without listing them; 0 where there is none
   pub slotEnd : Datatype → ℕ
-  slotEnd (fixedPoint n o s f q) = 0
-  slotEnd (floatingPoint n o f q el es ml ms x) = 0
-  slotEnd (time n o q) = 0
-  slotEnd (string n a c) = 0
-  slotEnd (bitField n o f q) = 0
-  slotEnd (opaque n g) = 0
+  slotEnd (leaf n x) = cond (refers (isSlot n) x) 8 0
   slotEnd (compound n ms) = memberSlotEnd ms
-  slotEnd (reference n k) = cond (isSlot n k) 8 0
   slotEnd (enumeration n t ms) = 0
   slotEnd (variableLength i a c t) = 0
   slotEnd (array ds t) = lastEnd (typeSize t) (slotEnd t) (product ds)
@@ -97,14 +79,8 @@ unfoldable mutual
 unfoldable mutual
   -- refusal 19, first ground: "the type holds a reference that isn't an 8-byte object reference"
   pub holdsOtherReference : Datatype → Bool
-  holdsOtherReference (fixedPoint n o s f q) = false
-  holdsOtherReference (floatingPoint n o f q el es ml ms x) = false
-  holdsOtherReference (time n o q) = false
-  holdsOtherReference (string n a c) = false
-  holdsOtherReference (bitField n o f q) = false
-  holdsOtherReference (opaque n g) = false
+  holdsOtherReference (leaf n x) = refers (λ k. not (isSlot n k)) x
   holdsOtherReference (compound n ms) = memberHoldsOtherReference ms
-  holdsOtherReference (reference n k) = not (isSlot n k)
   holdsOtherReference (enumeration n t ms) = holdsOtherReference t
   holdsOtherReference (variableLength i a c t) = holdsOtherReference t
   holdsOtherReference (array ds t) = holdsOtherReference t
@@ -116,14 +92,8 @@ unfoldable mutual
 unfoldable mutual
   -- second ground: it "holds one below an enumeration or variable length"
   pub holdsHiddenReference : Datatype → Bool
-  holdsHiddenReference (fixedPoint n o s f q) = false
-  holdsHiddenReference (floatingPoint n o f q el es ml ms x) = false
-  holdsHiddenReference (time n o q) = false
-  holdsHiddenReference (string n a c) = false
-  holdsHiddenReference (bitField n o f q) = false
-  holdsHiddenReference (opaque n g) = false
+  holdsHiddenReference (leaf n x) = false
   holdsHiddenReference (compound n ms) = memberHoldsHiddenReference ms
-  holdsHiddenReference (reference n k) = false
   holdsHiddenReference (enumeration n t ms) = holdsObjectAddress t
   holdsHiddenReference (variableLength i a c t) = holdsObjectAddress t
   holdsHiddenReference (array ds t) = holdsHiddenReference t
@@ -153,14 +123,8 @@ zeroClass c n = cond (eqb n 0) (some c) none
 unfoldable mutual
   -- refusal 12: the class of "the first such row" of size 0, in the table's order
   pub firstZero : Datatype → Option ℕ
-  firstZero (fixedPoint n o s f q) = zeroClass 0 n
-  firstZero (floatingPoint n o f q el es ml ms x) = zeroClass 1 n
-  firstZero (time n o q) = zeroClass 2 n
-  firstZero (string n a c) = zeroClass 3 n
-  firstZero (bitField n o f q) = zeroClass 4 n
-  firstZero (opaque n g) = zeroClass 5 n
+  firstZero (leaf n x) = zeroClass (leafClass x) n
   firstZero (compound n ms) = orElse (zeroClass 6 n) (memberFirstZero ms)
-  firstZero (reference n k) = zeroClass 7 n
   firstZero (enumeration n t ms) = orElse (zeroClass 8 n) (firstZero t)
   firstZero (variableLength i a c t) = firstZero t
   firstZero (array ds t) = orElse (zeroClass 10 (typeSize (array ds t))) (firstZero t)

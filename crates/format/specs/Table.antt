@@ -7,19 +7,65 @@ use lib.ListN.{length, take, drop, getD}
 use lib.Dec.{leb, ltb, eqb}
 use Rattle.refusal.specs.declared.Refusal.the-variants.{BadTable}
 use Rattle.format.specs.Bytes.{padded, allZero, dimensionBytes, dimensionsFrom}
-use Rattle.format.specs.Datatype.{Datatype, fixedPoint, floatingPoint, time, string, bitField, opaque, compound, reference, enumeration, variableLength, array, Members, noMembers, member, EnumMember, memberCount, depth, rowCount, poolBytes}
+use Rattle.format.specs.Columns.{kindColumn, sizeColumn, memberOffsetColumn, placeColumn, lengthColumn, countColumn, valueLengthColumn, orderColumn, paddingColumn, referenceColumn, isStringColumn, signedColumn, charsetColumn, variablePaddingColumn, offsetColumn, variableCharsetColumn, precisionColumn, exponentLocationColumn, exponentSizeColumn, mantissaLocationColumn, mantissaSizeColumn, biasColumn}
+use Rattle.format.specs.Datatype.{Leaf, leafClass, fixedPoint, floatingPoint, time, string, bitField, opaque, reference, Datatype, leaf, compound, enumeration, variableLength, array, Members, noMembers, member, EnumMember, memberCount, depth, rowCount, poolBytes}
 use Rattle.format.specs.Outcome.{Outcome, gives, refuses}
 
--- the words of a row: kind, size, place, length, count, and the columns from 5 on, zeros behind
-unfoldable pub row : (kind size place length count : ℕ) (rest : List ℕ) → List ℕ
-row k s p l c rest = k ∷ s ∷ p ∷ l ∷ c ∷ padded 11 rest
+-- the value of a column, by the columns that are named
+abbrev pub valueIn : List (ℕ × ℕ) → (column : ℕ) → ℕ
+valueIn [] c = 0
+valueIn (x ∷ xs) c = cond (eqb (x .0) c) (x .1) (valueIn xs c)
 
--- the row of a compound's member, and of an enumeration's, its name at a place in the pool
+-- n columns from c on
+abbrev pub wordsFrom : List (ℕ × ℕ) → (c n : ℕ) → List ℕ
+wordsFrom xs c zero = []
+wordsFrom xs c (suc n) = valueIn xs c ∷ wordsFrom xs (suc c) n
+
+-- the 16 words of a row: its kind, the columns that are named, and "zeros .. in whatever a row of its class doesn't use"
+unfoldable pub row : (kind : ℕ) (columns : List (ℕ × ℕ)) → List ℕ
+row k xs = wordsFrom ((kindColumn, k) ∷ xs) 0 16
+
+-- the columns of a leaf beside its kind and size; its tag begins at a place of the pool
+unfoldable pub columnsOf : (place : ℕ) → Leaf → List (ℕ × ℕ)
+columnsOf p (fixedPoint order signed offset precision) =
+    (orderColumn, order) ∷ (signedColumn, signed) ∷ (offsetColumn, offset) ∷ (precisionColumn, precision) ∷ []
+columnsOf p (floatingPoint order y) =
+    (orderColumn, order)
+    ∷ (offsetColumn, y .offset)
+    ∷ (precisionColumn, y .precision)
+    ∷ (exponentLocationColumn, y .exponentLocation)
+    ∷ (exponentSizeColumn, y .exponentSize)
+    ∷ (mantissaLocationColumn, y .mantissaLocation)
+    ∷ (mantissaSizeColumn, y .mantissaSize)
+    ∷ (biasColumn, y .bias)
+    ∷ []
+columnsOf p (time order precision) = (orderColumn, order) ∷ (precisionColumn, precision) ∷ []
+columnsOf p (string padding charset) = (paddingColumn, padding) ∷ (charsetColumn, charset) ∷ []
+columnsOf p (bitField order offset precision) = (orderColumn, order) ∷ (offsetColumn, offset) ∷ (precisionColumn, precision) ∷ []
+columnsOf p (opaque tag) = (placeColumn, p) ∷ (lengthColumn, length tag) ∷ []
+columnsOf p (reference kind) = (referenceColumn, kind) ∷ []
+
+-- the row of each kind: class + 1 for a type, 12 and 13 for the members of a compound and of an enumeration
+unfoldable pub leafRow : (place size : ℕ) → Leaf → List ℕ
+leafRow p n x = row (suc (leafClass x)) ((sizeColumn, n) ∷ columnsOf p x)
+
+unfoldable pub compoundRow : (size count : ℕ) → List ℕ
+compoundRow n k = row 7 ((sizeColumn, n) ∷ (countColumn, k) ∷ [])
+
+unfoldable pub enumerationRow : (size count : ℕ) → List ℕ
+enumerationRow n k = row 9 ((sizeColumn, n) ∷ (countColumn, k) ∷ [])
+
+unfoldable pub variableLengthRow : (isString padding charset : ℕ) → List ℕ
+variableLengthRow i a c = row 10 ((isStringColumn, i) ∷ (variablePaddingColumn, a) ∷ (variableCharsetColumn, c) ∷ [])
+
+unfoldable pub arrayRow : (place rank : ℕ) → List ℕ
+arrayRow p k = row 11 ((placeColumn, p) ∷ (lengthColumn, k) ∷ [])
+
 unfoldable pub memberRow : (place offset nameLength : ℕ) → List ℕ
-memberRow p o n = row 12 o p n 0 []
+memberRow p o n = row 12 ((memberOffsetColumn, o) ∷ (placeColumn, p) ∷ (lengthColumn, n) ∷ [])
 
 unfoldable pub enumMemberRow : (place nameLength valueLength : ℕ) → List ℕ
-enumMemberRow p n v = row 13 0 p n v []
+enumMemberRow p n v = row 13 ((placeColumn, p) ∷ (lengthColumn, n) ∷ (valueLengthColumn, v) ∷ [])
 
 unfoldable pub enumRows : (place : ℕ) → List EnumMember → List ℕ
 enumRows p [] = []
@@ -28,17 +74,11 @@ enumRows p (m ∷ ms) = enumMemberRow p (length (m .name)) (length (m .value)) +
 unfoldable mutual
   -- a type's words; its pool bytes begin at a place
   pub rows : (place : ℕ) → Datatype → List ℕ
-  rows p (fixedPoint n o s f q) = row 1 n 0 0 0 (o ∷ s ∷ f ∷ q ∷ [])
-  rows p (floatingPoint n o f q el es ml ms x) = row 2 n 0 0 0 (o ∷ 0 ∷ f ∷ q ∷ el ∷ es ∷ ml ∷ ms ∷ x ∷ [])
-  rows p (time n o q) = row 3 n 0 0 0 (o ∷ 0 ∷ 0 ∷ q ∷ [])
-  rows p (string n a c) = row 4 n 0 0 0 (a ∷ c ∷ [])
-  rows p (bitField n o f q) = row 5 n 0 0 0 (o ∷ 0 ∷ f ∷ q ∷ [])
-  rows p (opaque n g) = row 6 n p (length g) 0 []
-  rows p (compound n ms) = row 7 n 0 0 (memberCount ms) [] ++ memberRows p ms
-  rows p (reference n k) = row 8 n 0 0 0 (k ∷ [])
-  rows p (enumeration n t ms) = row 9 n 0 0 (length ms) [] ++ (rows p t ++ enumRows (p + length (poolBytes t)) ms)
-  rows p (variableLength i a c t) = row 10 0 0 0 0 (i ∷ a ∷ c ∷ []) ++ rows p t
-  rows p (array ds t) = row 11 0 p (length ds) 0 [] ++ rows (p + length (dimensionBytes ds)) t
+  rows p (leaf n x) = leafRow p n x
+  rows p (compound n ms) = compoundRow n (memberCount ms) ++ memberRows p ms
+  rows p (enumeration n t ms) = enumerationRow n (length ms) ++ (rows p t ++ enumRows (p + length (poolBytes t)) ms)
+  rows p (variableLength i a c t) = variableLengthRow i a c ++ rows p t
+  rows p (array ds t) = arrayRow p (length ds) ++ rows (p + length (dimensionBytes ds)) t
 
   pub memberRows : (place : ℕ) → Members → List ℕ
   memberRows p noMembers = []
@@ -49,17 +89,21 @@ unfoldable pub allBelow : ℕ → List ℕ → Bool
 allBelow k [] = true
 allBelow k (d ∷ ds) = ltb d k && allBelow k ds
 
+-- its "known codes"
+unfoldable pub leafKnown : Leaf → Bool
+leafKnown (fixedPoint o s f q) = ltb o 3 && ltb s 2
+leafKnown (floatingPoint o y) = ltb o 3
+leafKnown (time o q) = ltb o 3
+leafKnown (string a c) = ltb a 3 && ltb c 2
+leafKnown (bitField o f q) = ltb o 3
+leafKnown (opaque g) = true
+leafKnown (reference k) = ltb k 2
+
 unfoldable mutual
   -- "known codes", and dimensions of 32 bits
   pub known : Datatype → Bool
-  known (fixedPoint n o s f q) = ltb o 3 && ltb s 2
-  known (floatingPoint n o f q el es ml ms x) = ltb o 3
-  known (time n o q) = ltb o 3
-  known (string n a c) = ltb a 3 && ltb c 2
-  known (bitField n o f q) = ltb o 3
-  known (opaque n g) = true
+  known (leaf n x) = leafKnown x
   known (compound n ms) = knownMembers ms
-  known (reference n k) = ltb k 2
   known (enumeration n t ms) = known t
   known (variableLength i a c t) = ltb i 2 && (ltb a 4 && (ltb c 3 && known t))
   known (array ds t) = allBelow 4294967296 ds && known t
@@ -149,11 +193,11 @@ membersAt rd table pool zero = give noMembers
 membersAt rd table pool (suc n) = do
   w ← nextRow table
   p ← placeHere
-  test (sameWords w (memberRow p (column w 1) (column w 3)))
-  b ← nextPiece pool (column w 3)
+  test (sameWords w (memberRow p (column w memberOffsetColumn) (column w lengthColumn)))
+  b ← nextPiece pool (column w lengthColumn)
   t ← rd
   ms ← membersAt rd table pool n
-  give (member b (column w 1) t ms)
+  give (member b (column w memberOffsetColumn) t ms)
 
 -- the names of so many members of an enumeration, each with the length of its value
 unfoldable pub enumNamesAt : (table pool : List ℕ) → ℕ → Walk (List (List ℕ × ℕ))
@@ -161,10 +205,10 @@ enumNamesAt table pool zero = give []
 enumNamesAt table pool (suc n) = do
   w ← nextRow table
   p ← placeHere
-  test (sameWords w (enumMemberRow p (column w 3) (column w 4)))
-  b ← nextPiece pool (column w 3)
+  test (sameWords w (enumMemberRow p (column w lengthColumn) (column w valueLengthColumn)))
+  b ← nextPiece pool (column w lengthColumn)
   ns ← enumNamesAt table pool n
-  give ((b, column w 4) ∷ ns)
+  give ((b, column w valueLengthColumn) ∷ ns)
 
 -- and their values, behind all names
 unfoldable pub enumValuesAt : (pool : List ℕ) → List (List ℕ × ℕ) → Walk (List EnumMember)
@@ -174,23 +218,27 @@ enumValuesAt pool (x ∷ ns) = do
   ms ← enumValuesAt pool ns
   give (record { name = x .0; value = v } ∷ ms)
 
--- the kinds of a type's row
+-- the kinds of a leaf's row, and of a type's
+pub data LeafKind : Type 0 where
+  isFixedPoint isFloatingPoint isTime isString isBitField isOpaque isReference : LeafKind
+
 pub data Kind : Type 0 where
-  isFixedPoint isFloatingPoint isTime isString isBitField isOpaque isCompound isReference isEnumeration isVariableLength isArray isUnknown : Kind
+  isLeaf : LeafKind → Kind
+  isCompound isEnumeration isVariableLength isArray isUnknown : Kind
 
 -- "kind: class + 1 (1 to 11) for a type"
 unfoldable pub kindOf : ℕ → Kind
 kindOf k =
     getD
     (isUnknown
-    ∷ isFixedPoint
-    ∷ isFloatingPoint
-    ∷ isTime
-    ∷ isString
-    ∷ isBitField
-    ∷ isOpaque
+    ∷ isLeaf isFixedPoint
+    ∷ isLeaf isFloatingPoint
+    ∷ isLeaf isTime
+    ∷ isLeaf isString
+    ∷ isLeaf isBitField
+    ∷ isLeaf isOpaque
     ∷ isCompound
-    ∷ isReference
+    ∷ isLeaf isReference
     ∷ isEnumeration
     ∷ isVariableLength
     ∷ isArray
@@ -198,58 +246,65 @@ kindOf k =
     k
     isUnknown
 
+-- the pool bytes of a leaf: only an opaque has a tag, of so many bytes
+unfoldable pub tagAt : (pool : List ℕ) (length : ℕ) → LeafKind → Walk (List ℕ)
+tagAt pool n isFixedPoint = give []
+tagAt pool n isFloatingPoint = give []
+tagAt pool n isTime = give []
+tagAt pool n isString = give []
+tagAt pool n isBitField = give []
+tagAt pool n isOpaque = nextPiece pool n
+tagAt pool n isReference = give []
+
+-- the leaf of a kind, by the words of its row and its tag
+unfoldable pub leafOf : (word : ℕ → ℕ) (tag : List ℕ) → LeafKind → Leaf
+leafOf w g isFixedPoint = fixedPoint (w orderColumn) (w signedColumn) (w offsetColumn) (w precisionColumn)
+leafOf w g isFloatingPoint =
+    floatingPoint (w orderColumn)
+    (record {
+      offset = w offsetColumn;
+      precision = w precisionColumn;
+      exponentLocation = w exponentLocationColumn;
+      exponentSize = w exponentSizeColumn;
+      mantissaLocation = w mantissaLocationColumn;
+      mantissaSize = w mantissaSizeColumn;
+      bias = w biasColumn;
+    })
+leafOf w g isTime = time (w orderColumn) (w precisionColumn)
+leafOf w g isString = string (w paddingColumn) (w charsetColumn)
+leafOf w g isBitField = bitField (w orderColumn) (w offsetColumn) (w precisionColumn)
+leafOf w g isOpaque = opaque g
+leafOf w g isReference = reference (w referenceColumn)
+
 -- a type whose row has these words, over the walk to the types inside
 unfoldable pub typeFrom : Walk Datatype → (table pool w : List ℕ) → Kind → Walk Datatype
-typeFrom rd table pool w isFixedPoint = do
-  test (sameWords w (row 1 (column w 1) 0 0 0 (column w 5 ∷ column w 6 ∷ column w 7 ∷ column w 8 ∷ [])))
-  test (ltb (column w 5) 3 && ltb (column w 6) 2)
-  give (fixedPoint (column w 1) (column w 5) (column w 6) (column w 7) (column w 8))
-typeFrom rd table pool w isFloatingPoint = do
-  test (sameWords w (row 2 (column w 1) 0 0 0 (column w 5 ∷ 0 ∷ column w 7 ∷ column w 8 ∷ column w 9 ∷ column w 10 ∷ column w 11 ∷ column w 12 ∷ column w 13 ∷ [])))
-  test (ltb (column w 5) 3)
-  give (floatingPoint (column w 1) (column w 5) (column w 7) (column w 8) (column w 9) (column w 10) (column w 11) (column w 12) (column w 13))
-typeFrom rd table pool w isTime = do
-  test (sameWords w (row 3 (column w 1) 0 0 0 (column w 5 ∷ 0 ∷ 0 ∷ column w 8 ∷ [])))
-  test (ltb (column w 5) 3)
-  give (time (column w 1) (column w 5) (column w 8))
-typeFrom rd table pool w isString = do
-  test (sameWords w (row 4 (column w 1) 0 0 0 (column w 5 ∷ column w 6 ∷ [])))
-  test (ltb (column w 5) 3 && ltb (column w 6) 2)
-  give (string (column w 1) (column w 5) (column w 6))
-typeFrom rd table pool w isBitField = do
-  test (sameWords w (row 5 (column w 1) 0 0 0 (column w 5 ∷ 0 ∷ column w 7 ∷ column w 8 ∷ [])))
-  test (ltb (column w 5) 3)
-  give (bitField (column w 1) (column w 5) (column w 7) (column w 8))
-typeFrom rd table pool w isOpaque = do
+typeFrom rd table pool w (isLeaf k) = do
   p ← placeHere
-  test (sameWords w (row 6 (column w 1) p (column w 3) 0 []))
-  g ← nextPiece pool (column w 3)
-  give (opaque (column w 1) g)
+  g ← tagAt pool (column w lengthColumn) k
+  test (sameWords w (leafRow p (column w sizeColumn) (leafOf (column w) g k)))
+  test (leafKnown (leafOf (column w) g k))
+  give (leaf (column w sizeColumn) (leafOf (column w) g k))
 typeFrom rd table pool w isCompound = do
-  test (sameWords w (row 7 (column w 1) 0 0 (column w 4) []))
-  ms ← membersAt rd table pool (column w 4)
-  give (compound (column w 1) ms)
-typeFrom rd table pool w isReference = do
-  test (sameWords w (row 8 (column w 1) 0 0 0 (column w 5 ∷ [])))
-  test (ltb (column w 5) 2)
-  give (reference (column w 1) (column w 5))
+  test (sameWords w (compoundRow (column w sizeColumn) (column w countColumn)))
+  ms ← membersAt rd table pool (column w countColumn)
+  give (compound (column w sizeColumn) ms)
 typeFrom rd table pool w isEnumeration = do
-  test (sameWords w (row 9 (column w 1) 0 0 (column w 4) []))
+  test (sameWords w (enumerationRow (column w sizeColumn) (column w countColumn)))
   t ← rd
-  ns ← enumNamesAt table pool (column w 4)
+  ns ← enumNamesAt table pool (column w countColumn)
   ms ← enumValuesAt pool ns
-  give (enumeration (column w 1) t ms)
+  give (enumeration (column w sizeColumn) t ms)
 typeFrom rd table pool w isVariableLength = do
-  test (sameWords w (row 10 0 0 0 0 (column w 5 ∷ column w 6 ∷ column w 7 ∷ [])))
-  test (ltb (column w 5) 2 && (ltb (column w 6) 4 && ltb (column w 7) 3))
+  test (sameWords w (variableLengthRow (column w isStringColumn) (column w variablePaddingColumn) (column w variableCharsetColumn)))
+  test (ltb (column w isStringColumn) 2 && (ltb (column w variablePaddingColumn) 4 && ltb (column w variableCharsetColumn) 3))
   t ← rd
-  give (variableLength (column w 5) (column w 6) (column w 7) t)
+  give (variableLength (column w isStringColumn) (column w variablePaddingColumn) (column w variableCharsetColumn) t)
 typeFrom rd table pool w isArray = do
   p ← placeHere
-  test (sameWords w (row 11 0 p (column w 3) 0 []))
-  b ← nextPiece pool (column w 3 * 4)
+  test (sameWords w (arrayRow p (column w lengthColumn)))
+  b ← nextPiece pool (column w lengthColumn * 4)
   t ← rd
-  give (array (dimensionsFrom (column w 3) b) t)
+  give (array (dimensionsFrom (column w lengthColumn) b) t)
 typeFrom rd table pool w isUnknown = λ r p. bad
 
 -- the type at a row, with so many levels left
@@ -257,7 +312,7 @@ unfoldable pub typeAt : (levels : ℕ) (table pool : List ℕ) → Walk Datatype
 typeAt zero table pool = λ r p. bad
 typeAt (suc k) table pool = do
   w ← nextRow table
-  typeFrom (typeAt k table pool) table pool w (kindOf (column w 0))
+  typeFrom (typeAt k table pool) table pool w (kindOf (column w kindColumn))
 
 -- "zeros after it", within the limits of rows and pool bytes
 unfoldable pub wholeType : (table pool : List ℕ) → Found Datatype → Outcome Datatype

@@ -2,7 +2,7 @@
 use mathlib.Core.Path.{_≡_, refl}
 use mathlib.Core.List.{[], _∷_}
 use Rattle.refusal.specs.declared.Refusal.the-variants.{Short}
-use Rattle.format.specs.Datatype.{typeSize, classNumber}
+use Rattle.format.specs.Datatype.{typeSize, classNumber, leafClass}
 use Rattle.format.proofs.Cases.{typeP}
 use Rattle.listing.specs.Text.{decimalIn, decimal, spaced, hexDigit, hexadecimal, nameText, line, innerLines, memberLines, lines, heading, fieldsText, refusalText}
 
@@ -14,7 +14,7 @@ pub fields-of-P :
     ∷ 50 ∷ 32 ∷ 48 ∷ 32 ∷ 48 ∷ 32 ∷ 49 ∷ 32 ∷ 54 ∷ 49 ∷ 10
     ∷ 50 ∷ 32 ∷ 48 ∷ 32 ∷ 50 ∷ 32 ∷ 50 ∷ 32 ∷ 54 ∷ 50 ∷ 10
     ∷ []
-unfolding decimalIn decimal spaced hexDigit hexadecimal nameText line innerLines memberLines lines heading fieldsText typeSize classNumber
+unfolding decimalIn decimal spaced hexDigit hexadecimal nameText line innerLines memberLines lines heading fieldsText typeSize classNumber leafClass
 fields-of-P = refl
 
 -- refused 4 8 0

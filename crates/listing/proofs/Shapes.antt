@@ -134,20 +134,7 @@ LeafShown c n l x t = (c ≡ classNumber t) × ((i : ℕ) → innerLines i t ≡
 module _ (table pool : List ℕ) (r p : ℕ) where
   leaf-shown : {c n l x : ℕ} → entryAt table pool r p ≡ Leaf c n l x → LeafShown c n l x (leafType table pool r p c)
   unfolding LeafShown classNumber innerLines
-  leaf-shown e =
-      leaf-law table pool r p LeafShown (
-      record {
-        of-fixedPoint = (refl, λ i. refl);
-        of-floatingPoint = (refl, λ i. refl);
-        of-time = (refl, λ i. refl);
-        of-string = (refl, λ i. refl);
-        of-bitField = (refl, λ i. refl);
-        of-opaque = λ b. (refl, λ i. refl);
-        of-reference = (refl, λ i. refl);
-      }
-      )
-      refl
-      e
+  leaf-shown e = let h = leaf-law table pool r p refl e in rw (h .is) (sym (h .class), λ i. refl)
 
 -- the members, or the base, that are found inside a type, and their lines
 pub record MembersInside (rd : Walk Datatype) (table pool : List ℕ) (k r p l : ℕ) (t : Datatype) : Type 0 where

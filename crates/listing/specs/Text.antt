@@ -8,7 +8,7 @@ use lib.Dec.{leb, ltb}
 use Rattle.refusal.specs.Refusal.{numberOf, valuesOf}
 use Rattle.refusal.specs.declared.Refusal.{Refusal}
 use Rattle.refusal.specs.declared.Refusal.the-variants.{NoRoom}
-use Rattle.format.specs.Datatype.{Datatype, fixedPoint, floatingPoint, time, string, bitField, opaque, compound, reference, enumeration, variableLength, array, Members, noMembers, member, typeSize, classNumber}
+use Rattle.format.specs.Datatype.{Datatype, leaf, compound, enumeration, variableLength, array, Members, noMembers, member, typeSize, classNumber}
 use Rattle.format.specs.Outcome.{Outcome, gives, whenGiven, unless, needed}
 use Rattle.format.specs.Table.{typeOf}
 
@@ -48,14 +48,8 @@ line l o b t = (decimal l ++ spaced (classNumber t ∷ o ∷ typeSize t ∷ []))
 unfoldable mutual
   -- the lines of the types inside a type of a level; "offset is the member's, else 0"
   pub innerLines : (level : ℕ) → Datatype → List ℕ
-  innerLines l (fixedPoint n o s f q) = []
-  innerLines l (floatingPoint n o f q el es ml ms x) = []
-  innerLines l (time n o q) = []
-  innerLines l (string n a c) = []
-  innerLines l (bitField n o f q) = []
-  innerLines l (opaque n g) = []
+  innerLines l (leaf n x) = []
   innerLines l (compound n ms) = memberLines (suc l) ms
-  innerLines l (reference n k) = []
   innerLines l (enumeration n t ms) = line (suc l) 0 none t ++ innerLines (suc l) t
   innerLines l (variableLength i a c t) = line (suc l) 0 none t ++ innerLines (suc l) t
   innerLines l (array ds t) = line (suc l) 0 none t ++ innerLines (suc l) t

@@ -7,8 +7,8 @@ use native.Mathlib.Omega.{arith}
 use lib.ListN.{length, length-append}
 use lib.Dec.{leb, ltb}
 use Rattle.format.specs.Bytes.{paddingTo8, dimensionBytes}
-use Rattle.format.specs.Datatype.{Datatype, fixedPoint, floatingPoint, time, string, bitField, opaque, compound, reference, enumeration, variableLength, array, Members, noMembers, member, EnumMember, rowCount, memberRowCount, enumNames, enumValues, poolBytes, memberPool}
-use Rattle.format.specs.Message.{namePadding, offsetWidth, skippedBytes, reservedBytes, permutationBytes, nameLength, enumNameLength, messageLength, membersLength}
+use Rattle.format.specs.Datatype.{Leaf, fixedPoint, floatingPoint, time, string, bitField, opaque, reference, leafPool, Datatype, leaf, compound, enumeration, variableLength, array, Members, noMembers, member, EnumMember, rowCount, memberRowCount, enumNames, enumValues, poolBytes, memberPool}
+use Rattle.format.specs.Message.{lengthOfLeaf, namePadding, offsetWidth, skippedBytes, reservedBytes, permutationBytes, nameLength, enumNameLength, messageLength, membersLength}
 use Rattle.format.specs.Table.{WithinLimits}
 use Rattle.format.proofs.Bytes.{length-dimensions}
 use Rattle.measure.specs.Measure.{mostLength}
@@ -48,18 +48,22 @@ module _ (e : ℕ) where
   names-below [] = omega arith
   names-below (m ∷ ms) = omega (arith, names-below ms, name-below (m .name), length-append (m .name) (enumNames ms))
 
+leaf-below : (x : Leaf) → lengthOfLeaf x ≤ 40 + 2 * length (leafPool x)
+unfolding lengthOfLeaf leafPool
+leaf-below (fixedPoint o s f q) = omega arith
+leaf-below (floatingPoint o y) = omega arith
+leaf-below (time o q) = omega arith
+leaf-below (string a c) = omega arith
+leaf-below (bitField o f q) = omega arith
+leaf-below (opaque g) = omega (arith, padding-below (length g))
+leaf-below (reference k) = omega arith
+
 mutual
   unfolding messageLength rowCount poolBytes
 
   pub message-below : (e : ℕ) (t : Datatype) → messageLength e t ≤ 40 * rowCount t + 2 * length (poolBytes t)
-  message-below e (fixedPoint n o s f q) = omega arith
-  message-below e (floatingPoint n o f q el es ml ms x) = omega arith
-  message-below e (time n o q) = omega arith
-  message-below e (string n a c) = omega arith
-  message-below e (bitField n o f q) = omega arith
-  message-below e (opaque n g) = omega (arith, padding-below (length g))
+  message-below e (leaf n x) = omega (arith, leaf-below x)
   message-below e (compound n ms) = omega (arith, members-below e n ms)
-  message-below e (reference n k) = omega arith
   message-below e (enumeration n t ms) =
       omega (arith, message-below e t, names-below e ms, length-append (poolBytes t) (enumNames ms ++ enumValues ms), length-append (enumNames ms) (enumValues ms))
   message-below e (variableLength i a c t) = omega (arith, message-below e t)

@@ -8,12 +8,12 @@ use lib.ListN.{length, take, drop}
 use lib.Dec.{leb, ltb}
 use borrow.Author.Tests.{lt-ltb, le-leb, lt-leb, leb-true}
 use Rattle.format.specs.Bytes.{paddingTo8}
-use Rattle.format.specs.Datatype.{typeSize}
-use Rattle.format.specs.Message.{storable, carried, messageLength, all, fit, offsetWidth}
-use Rattle.format.specs.Table.{found, row, Kind, isFixedPoint, isFloatingPoint, isTime, isString, isBitField, isOpaque, isCompound, isReference, isEnumeration, isVariableLength, isArray, isUnknown, kindOf}
+use Rattle.format.specs.Datatype.{floatNumbers, leafClass, leafPool, typeSize}
+use Rattle.format.specs.Message.{storableLeaf, lengthOfLeaf, storable, carried, messageLength, all, fit, offsetWidth}
+use Rattle.format.specs.Table.{leafRow, leafKnown, leafOf, found, LeafKind, isFixedPoint, isFloatingPoint, isTime, isString, isBitField, isOpaque, isReference, Kind, isLeaf, isCompound, isEnumeration, isVariableLength, isArray, isUnknown, kindOf}
 use Rattle.format.proofs.Booleans.{and-both}
 use Rattle.format.proofs.Lists.{length-part}
-use Rattle.rows.specs.Entries.{wordAt, rowIs, pick, entryOf, entryAt, leafType}
+use Rattle.rows.specs.Entries.{wordAt, rowIs, pick, leafAt, tagInside, leafEntry, entryOf, entryAt, leafKindOf, leafType}
 use Rattle.rows.specs.declared.Entry.{Entry}
 use Rattle.rows.specs.declared.Entry.the-variants.{Leaf, Compound, Enumeration, VariableLength, Array, Unknown}
 use Rattle.measure.specs.Measure.{mostLength, measureOf, word, partsFit, leafStorable, leafLength, offsetFits}
@@ -126,23 +126,9 @@ LeafIs e table pool r p (Array k) = Unit {0}
 LeafIs e table pool r p Unknown = Unit {0}
 
 module _ (e : ℕ) (table pool : List ℕ) (r p : ℕ) where
-  -- the tests of the words of a row
-  abbrev is-fixed : Bool
-  is-fixed = rowIs table r (row 1 (wordAt table r 1) 0 0 0 (wordAt table r 5 ∷ wordAt table r 6 ∷ wordAt table r 7 ∷ wordAt table r 8 ∷ []))
-
-  abbrev is-float : Bool
-  is-float =
-      rowIs table r
-      (row 2 (wordAt table r 1) 0 0 0 (wordAt table r 5 ∷ 0 ∷ wordAt table r 7 ∷ wordAt table r 8 ∷ wordAt table r 9 ∷ wordAt table r 10 ∷ wordAt table r 11 ∷ wordAt table r 12 ∷ wordAt table r 13 ∷ []))
-
-  abbrev is-string : Bool
-  is-string = rowIs table r (row 4 (wordAt table r 1) 0 0 0 (wordAt table r 5 ∷ wordAt table r 6 ∷ []))
-
-  abbrev is-opaque : Bool
-  is-opaque = rowIs table r (row 6 (wordAt table r 1) p (wordAt table r 3) 0 [])
-
-  abbrev is-reference : Bool
-  is-reference = rowIs table r (row 8 (wordAt table r 1) 0 0 0 (wordAt table r 5 ∷ []))
+  -- the test of the words of a leaf's row
+  abbrev row-is : LeafKind → Bool
+  row-is k = rowIs table r (leafRow p (wordAt table r 1) (leafAt table pool r p k))
 
   codes : (a x y : Bool) → (a && (x && y)) ≡ true → (x ≡ true) × (y ≡ true)
   codes a x y h = and-both x y (and-both a (x && y) h .1)
@@ -153,30 +139,30 @@ module _ (e : ℕ) (table pool : List ℕ) (r p : ℕ) where
   is-pick false x h = tt
 
   is-kind : (k : Kind) → LeafIs e table pool r p (entryOf table pool r p k)
-  unfolding entryOf LeafIs leafType measureOf typeSize storable carried messageLength all fit leafStorable partsFit leafLength
-  is-kind isFixedPoint =
+  unfolding entryOf tagInside leafEntry leafAt leafKnown leafClass leafPool LeafIs leafType measureOf typeSize storable storableLeaf carried messageLength lengthOfLeaf all fit leafKindOf leafOf floatNumbers leafStorable partsFit leafLength
+  is-kind (isLeaf isFixedPoint) =
       is-pick _ _ (λ h s w.
-      let g = codes is-fixed (ltb (wordAt table r 5) 3) (ltb (wordAt table r 6) 2) h .1 in
+      let g = codes (row-is isFixedPoint) (ltb (wordAt table r 5) 3) (ltb (wordAt table r 6) 2) h .1 in
       rw (lt-ltb (wordAt table r 1) 4294967296 s, g) (simp and-true))
-  is-kind isFloatingPoint =
+  is-kind (isLeaf isFloatingPoint) =
       is-pick _ _ (λ h s w.
-      let g = and-both is-float (ltb (wordAt table r 5) 3) h .1 in
-      rw (g, lt-ltb (wordAt table r 13) 4294967296 w) (simp (and-true, and-assoc)))
-  is-kind isTime = is-pick _ _ (λ h s w. rw (lt-ltb (wordAt table r 1) 4294967296 s) (simp and-true))
-  is-kind isString =
+      let g = and-both (row-is isFloatingPoint) (ltb (wordAt table r 5) 3) h .1 in
+      rw (g, lt-ltb (wordAt table r 1) 4294967296 s, lt-ltb (wordAt table r 13) 4294967296 w) (simp (and-true, and-assoc)))
+  is-kind (isLeaf isTime) = is-pick _ _ (λ h s w. rw (lt-ltb (wordAt table r 1) 4294967296 s) (simp and-true))
+  is-kind (isLeaf isString) =
       is-pick _ _ (λ h s w.
-      let g = codes is-string (ltb (wordAt table r 5) 3) (ltb (wordAt table r 6) 2) h in
+      let g = codes (row-is isString) (ltb (wordAt table r 5) 3) (ltb (wordAt table r 6) 2) h in
       rw (lt-ltb (wordAt table r 1) 4294967296 s, g .0, g .1))
-  is-kind isBitField = is-pick _ _ (λ h s w. rw (lt-ltb (wordAt table r 1) 4294967296 s) (simp and-true))
-  is-kind isOpaque =
+  is-kind (isLeaf isBitField) = is-pick _ _ (λ h s w. rw (lt-ltb (wordAt table r 1) 4294967296 s) (simp and-true))
+  is-kind (isLeaf isOpaque) =
       is-pick _ _ (λ h s w.
-      let g : length (take (wordAt table r 3) (drop p pool)) ≡ wordAt table r 3 = length-part pool p (wordAt table r 3) (leb-true (p + wordAt table r 3) (length pool) (and-both is-opaque (leb (p + wordAt table r 3) (length pool)) h .1)) in
+      let g : length (take (wordAt table r 3) (drop p pool)) ≡ wordAt table r 3 = length-part pool p (wordAt table r 3) (leb-true (p + wordAt table r 3) (length pool) (and-both (leb (p + wordAt table r 3) (length pool)) (row-is isOpaque && true) h .0)) in
       let f : 8 + (wordAt table r 3 + paddingTo8 (wordAt table r 3)) ≡ 8 + wordAt table r 3 + paddingTo8 (wordAt table r 3) = omega arith in
       rw (lt-ltb (wordAt table r 1) 4294967296 s, g, f) (simp and-true))
   is-kind isCompound = is-pick _ _ (λ h. tt)
-  is-kind isReference =
+  is-kind (isLeaf isReference) =
       is-pick _ _ (λ h s w.
-      let g = and-both is-reference (ltb (wordAt table r 5) 2) h .1 in
+      let g = and-both (row-is isReference) (ltb (wordAt table r 5) 2) h .1 in
       rw (lt-ltb (wordAt table r 1) 4294967296 s, g))
   is-kind isEnumeration = is-pick _ _ (λ h. tt)
   is-kind isVariableLength = is-pick _ _ (λ h. tt)

@@ -6,7 +6,7 @@ use native.Mathlib.Omega.{arith}
 use Rattle.format.specs.declared.Header.{Header}
 use Rattle.format.specs.Datatype.{Datatype}
 use Rattle.format.specs.Reading.{Reader, _>>=_, _>>_, classKind, layoutVersion, readProperties}
-use Rattle.format.specs.Table.{Kind, isFixedPoint, isFloatingPoint, isTime, isString, isBitField, isOpaque, isCompound, isReference, isEnumeration, isVariableLength, isArray, isUnknown}
+use Rattle.format.specs.Table.{Kind, isLeaf, isCompound, isEnumeration, isVariableLength, isArray, isUnknown}
 use Rattle.reading.specs.Contract.{leafKind}
 
 pub leaf-low : (c : ℕ) → c < 6 → leafKind (classKind c) ≡ true
@@ -75,14 +75,8 @@ no-truth e = let z : _≡_ {A = ℕ} 0 1 = cc in omega arith
 -- the reader of the types inside a leaf is never asked
 pub leaf-same : (rd rd′ : Reader Datatype) (h : Header) (k : Kind) → leafKind k ≡ true → readProperties rd h k ≡ readProperties rd′ h k
 unfolding leafKind readProperties
-leaf-same rd rd′ h isFixedPoint e = refl
-leaf-same rd rd′ h isFloatingPoint e = refl
-leaf-same rd rd′ h isTime e = refl
-leaf-same rd rd′ h isString e = refl
-leaf-same rd rd′ h isBitField e = refl
-leaf-same rd rd′ h isOpaque e = refl
+leaf-same rd rd′ h (isLeaf k) e = refl
 leaf-same rd rd′ h isCompound e = absurd (no-truth e)
-leaf-same rd rd′ h isReference e = refl
 leaf-same rd rd′ h isEnumeration e = absurd (no-truth e)
 leaf-same rd rd′ h isVariableLength e = absurd (no-truth e)
 leaf-same rd rd′ h isArray e = absurd (no-truth e)

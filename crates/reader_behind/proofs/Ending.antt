@@ -15,10 +15,10 @@ use Rattle.refusal.specs.declared.Refusal.{Refusal}
 use Rattle.refusal.specs.declared.Refusal.the-variants.{ZeroSize}
 use Rattle.format.specs.declared.Header.{Header}
 use Rattle.format.specs.Bits.{lowBits, highBits}
-use Rattle.format.specs.Bytes.{zeros, padded, dimensionBytes, dimensionsFrom}
+use Rattle.format.specs.Bytes.{dimensionBytes, dimensionsFrom}
 use Rattle.format.specs.Datatype.{enumNames, enumValues, Datatype, variableLength, array, enumeration, typeSize, rowCount, poolBytes, product}
 use Rattle.format.specs.Reading.{got, refused, then, countOf, classKind, sized}
-use Rattle.format.specs.Table.{row, rows, enumRows, isEnumeration, isVariableLength, isArray}
+use Rattle.format.specs.Table.{row, enumerationRow, variableLengthRow, arrayRow, rows, enumRows, isEnumeration, isVariableLength, isArray}
 use Rattle.format.proofs.Bytes.{length-dimensions, length-dimensionsFrom, dimension-bytes-back, all-bytes, bytes-take, bytes-drop}
 use Rattle.reading.specs.declared.Limits.{Limits}
 use Rattle.reading.specs.declared.State.{State}
@@ -78,7 +78,7 @@ module _ (d : List ℕ) (lim : Limits) (used pooled : ℕ) (h : Header) (b : Bas
       → t′ ≡ sets t (used * 16) (10 ∷ 0 ∷ 0 ∷ 0 ∷ 0 ∷ i ∷ a ∷ c ∷ 0 ∷ 0 ∷ 0 ∷ 0 ∷ 0 ∷ 0 ∷ 0 ∷ 0 ∷ [])
       → Ends d lim used pooled h (dimensionsOf d b) (inner .at) (inner .rows) (inner .pooled) (inner .size)
       (StepDone (record { at = inner .at; rows = inner .rows; pooled = inner .pooled; size = 16 })) t t′ p p
-  unfolding behind typeSize rowCount poolBytes rows row padded zeros
+  unfolding behind typeSize rowCount poolBytes rows row enumerationRow variableLengthRow arrayRow
   variable-ends i a c of et =
       ends
       λ base en er ep.
@@ -154,7 +154,7 @@ module _ (d : List ℕ) (lim : Limits) (used pooled : ℕ) (h : Header) (b : Bas
       → p′ ≡ sets p pooled (take (4 * b .rank) (drop (b .start) d))
       → Ends d lim used pooled h (dimensionsOf d b) (inner .at) (inner .rows) (inner .pooled) (inner .size)
       (StepDone (record { at = inner .at; rows = inner .rows; pooled = inner .pooled; size = z })) t t′ p p′
-  unfolding rowCount poolBytes rows row padded zeros
+  unfolding rowCount poolBytes rows row enumerationRow variableLengthRow arrayRow
   array-ends ready near long small some et ep =
       let ds = dimensionsOf d b in
       let k = rank-is d b in
@@ -224,7 +224,7 @@ module _ (d : List ℕ) (lim : Limits) (used pooled : ℕ) (h : Header) (b : Bas
         → t′ ≡ sets t₁ (used * 16) (9 ∷ h .size ∷ 0 ∷ 0 ∷ count ∷ 0 ∷ 0 ∷ 0 ∷ 0 ∷ 0 ∷ 0 ∷ 0 ∷ 0 ∷ 0 ∷ 0 ∷ 0 ∷ [])
         → Ends d lim used pooled h (dimensionsOf d b) (inner .at) (inner .rows) (inner .pooled) (inner .size)
         (StepDone (record { at = s .at; rows = s .rows; pooled = s .pooled; size = h .size })) t t′ p p₁
-    unfolding typeSize rowCount poolBytes rows row padded zeros
+    unfolding typeSize rowCount poolBytes rows row enumerationRow variableLengthRow arrayRow
     enum-ends rank some et =
         let l = members .done s done in
         let ms = l .tree in

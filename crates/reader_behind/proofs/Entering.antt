@@ -1,6 +1,6 @@
 -- A compound's member up to its type: the ways out of `enter_member`.
 use mathlib.Core.Path.{_≡_, refl, ap, _∙_}
-use mathlib.Core.List.{List, []}
+use mathlib.Core.List.{List, [], _∷_}
 use Prim.Native.Nat.{ℕ, suc, _+_, _-_, _*_, _<_, _≤_}
 use native.Mathlib.Omega.{arith}
 use lib.ListN.{length, take, drop}
@@ -97,9 +97,9 @@ module _ {d : List ℕ} {lim : Limits} {ver size at used pooled : ℕ} {t t′ p
         enter-cut h = stops (λ rd k. member-cut d lim ver size at used pooled rd k free n m pad width (w .whole n m q) (pe .0) (we .0) wide sk (se .0) h)
 
         pub enter-inner : {o : ℕ} → Ready lim used pooled t p → at + (n + 1) + pad + width + sk ≤ length d → o ≡ numberFrom (take width (drop (at + (n + 1) + pad) d))
-            → t′ ≡ sets t (used * 16) (row 12 o pooled m 0 [])
+            → t′ ≡ sets t (used * 16) (row 12 ((1, o) ∷ (2, pooled) ∷ (3, m) ∷ (4, 0) ∷ []))
             → Enters d lim ver size at used pooled (StepDone (record { at = at + (n + 1) + pad + width + sk; rows = used + 1; pooled = pooled + m; size = 0 })) t t′ p p′
-        unfolding memberRow
+        unfolding memberRow row
         enter-inner {o} ready long oe et =
             let y = w .whole n m q in
             let l = y .long in
@@ -113,7 +113,7 @@ module _ {d : List ℕ} {lim : Limits} {ver size at used pooled : ℕ} {t t′ p
                 pooled-are = ap (λ (k : ℕ). pooled + k) l;
                 table = et ∙ ap (λ (k : ℕ). sets t (used * 16) (memberRow pooled k m)) oe ∙ ap (λ (k : ℕ). sets t (used * 16) (memberRow pooled (numberFrom (take width (drop (at + (n + 1) + pad) d))) k)) l;
                 pool = y .pool;
-                ready = ready-at (used + 1) (pooled + m) ready (omega arith) f (ap length et ∙ length-sets t (used * 16) (row 12 o pooled m 0 [])) (ap length (y .pool) ∙ length-sets p pooled (mended (take n (drop at d))));
+                ready = ready-at (used + 1) (pooled + m) ready (omega arith) f (ap length et ∙ length-sets t (used * 16) (row 12 ((1, o) ∷ (2, pooled) ∷ (3, m) ∷ (4, 0) ∷ []))) (ap length (y .pool) ∙ length-sets p pooled (mended (take n (drop at d))));
                 within = long;
               });
               stopped = not-refused (λ e. (rd : Reader Datatype) (k : ℕ) → run (readMembers rd ver size (suc k)) d lim at used pooled ≡ refused e);

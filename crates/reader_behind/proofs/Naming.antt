@@ -1,7 +1,7 @@
 -- A name at a place of the message, by what `read_name` found there: the laws of `readName`, and the ways out of `enter_enum_member`.
 use mathlib.Core.Path.{_≡_, refl, ap, _∙_}
 use mathlib.Core.Option.{none}
-use mathlib.Core.List.{List, []}
+use mathlib.Core.List.{List, [], _∷_}
 use Prim.Native.Nat.{ℕ, _+_, _-_, _*_, _<_, _≤_}
 use native.Mathlib.Omega.{arith}
 use mir.Syntax.{w64}
@@ -114,9 +114,9 @@ module _ {d : List ℕ} {lim : Limits} {ver width at used pooled : ℕ} {t t′ 
     enum-over q = stops (name-over d lim ver at used pooled free (w .full q))
 
     pub enum-named : {n m pad : ℕ} → x ≡ Whole n m → (pad ≡ namePadding ver (n + 1)) × (pad < 8)
-        → t′ ≡ sets t (used * 16) (row 13 0 pooled m width [])
+        → t′ ≡ sets t (used * 16) (row 13 ((1, 0) ∷ (2, pooled) ∷ (3, m) ∷ (4, width) ∷ []))
         → Names d lim ver width at used pooled (StepDone (record { at = at + (n + 1) + pad; rows = used + 1; pooled = pooled + m; size = 0 })) t t′ p p′
-    unfolding enumMemberRow
+    unfolding enumMemberRow row
     enum-named {n} {m} {pad} q pe et =
         let y = w .whole n m q in
         let i = y .inside in

@@ -18,11 +18,12 @@ use reading::State;
 use reading::Step;
 use refusal::Refusal;
 ghost use mathlib.Core.Path.{_≡_};
-ghost use mathlib.Core.List.{List, []};
+ghost use mathlib.Core.List.{List, [], _∷_};
 ghost use Prim.Native.Nat.{ℕ, _+_, _*_, _<_, _≤_, min};
 ghost use lib.ListN.{length, take, drop};
 ghost use lib.Seq.{sets};
 ghost use Rattle.format.specs.Bytes.{dimensionsFrom};
+ghost use Rattle.format.specs.Columns.{memberOffsetColumn, placeColumn, lengthColumn, valueLengthColumn};
 ghost use Rattle.format.specs.Datatype.{product};
 ghost use Rattle.format.specs.Reading.{classKind, countOf, readNames, readValues};
 ghost use Rattle.format.specs.Table.{row, isEnumeration, isVariableLength, isArray};
@@ -46,7 +47,7 @@ fn put_member_row(
     width: u32,
 )
     requires { ⌜ (used * 16 + 16 ≤ length (now table)) × ((place < 4294967296) × (long < 4294967296)) ⌝ }
-    ensures { λ r. ⌜ now (table .exit) ≡ sets (now (table .entry)) (used * 16) (row kind offset place long width []) ⌝ }
+    ensures { λ r. ⌜ now (table .exit) ≡ sets (now (table .entry)) (used * 16) (row kind ((memberOffsetColumn, offset) ∷ (placeColumn, place) ∷ (lengthColumn, long) ∷ (valueLengthColumn, width) ∷ [])) ⌝ }
 {
     put_row(
         table,

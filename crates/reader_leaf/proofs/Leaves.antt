@@ -11,11 +11,11 @@ use Rattle.refusal.specs.declared.Refusal.{Refusal}
 use Rattle.refusal.specs.declared.Refusal.the-variants.{TooDeep, Short, BadPadding, BadCharset, BadReferenceKind, PoolFull, ZeroSize}
 use Rattle.format.specs.declared.Header.{Header}
 use Rattle.format.specs.Bits.{lowBits, highBits, bitAt, floatOrder}
-use Rattle.format.specs.Bytes.{numberFrom, paddingTo8, totalWidth, unpackNumbers, zeros, padded}
-use Rattle.format.specs.Datatype.{Datatype, fixedPoint, floatingPoint, time, string, bitField, opaque, reference, typeSize, rowCount, poolBytes}
+use Rattle.format.specs.Bytes.{numberFrom, paddingTo8, totalWidth, unpackNumbers}
+use Rattle.format.specs.Datatype.{floatLayout, leafClass, leafPool, Datatype, leaf, fixedPoint, floatingPoint, time, string, bitField, opaque, reference, typeSize, rowCount, poolBytes}
 use Rattle.format.specs.Message.{bitWidths, floatWidths, timeWidths}
-use Rattle.format.specs.Reading.{got, refused, then, _>>=_, give, refuse, require, numbers, classKind, readProperties, sized}
-use Rattle.format.specs.Table.{Kind, isFixedPoint, isFloatingPoint, isTime, isString, isBitField, isOpaque, isReference, row, rows}
+use Rattle.format.specs.Reading.{got, refused, then, _>>=_, give, refuse, require, numbers, classKind, leafProperties, readProperties, sized}
+use Rattle.format.specs.Table.{columnsOf, leafRow, Kind, isLeaf, isFixedPoint, isFloatingPoint, isTime, isString, isBitField, isOpaque, isReference, row, rows}
 use Rattle.format.proofs.Lists.{drop-take, length-part}
 use Rattle.reading.specs.declared.Limits.{Limits}
 use Rattle.reading.specs.declared.State.{State}
@@ -117,21 +117,21 @@ module _ {k : Kind} {widths : List ℕ} {end : ℕ} {type : Header → List ℕ 
         leaf-lands h d asked (type h (numbersAt widths 8 d)) (ended h end used pooled)
         (block-go b h d (lim .rows - (used + 1)) (lim .pool - pooled) long) (b .leaf h pooled (numbersAt widths 8 d)) z refl refl (omega arith) (asked .0 .0 .0 .room) (omega arith) et refl
 
-pub fixed-points : Block isFixedPoint bitWidths 12 (λ h x. fixedPoint (h .size) (bitAt 0 (h .f0)) (bitAt 3 (h .f0)) (getD x 0 0) (getD x 1 0))
-unfolding readProperties totalWidth typeSize rowCount poolBytes
+pub fixed-points : Block (isLeaf isFixedPoint) bitWidths 12 (λ h x. leaf (h .size) (fixedPoint (bitAt 0 (h .f0)) (bitAt 3 (h .f0)) (getD x 0 0) (getD x 1 0)))
+unfolding readProperties leafProperties totalWidth typeSize rowCount poolBytes leafPool
 fixed-points = record { is = λ h. refl; ends = refl; some = omega arith; leaf = λ h p x. record { size = refl; count = refl; words-are = refl; bytes-are = refl } }
 
-pub floating-points : Block isFloatingPoint floatWidths 20
-    (λ h x. floatingPoint (h .size) (floatOrder (h .f0)) (getD x 0 0) (getD x 1 0) (getD x 2 0) (getD x 3 0) (getD x 4 0) (getD x 5 0) (getD x 6 0))
-unfolding readProperties totalWidth typeSize rowCount poolBytes
+pub floating-points : Block (isLeaf isFloatingPoint) floatWidths 20
+    (λ h x. leaf (h .size) (floatingPoint (floatOrder (h .f0)) (floatLayout x)))
+unfolding readProperties leafProperties totalWidth typeSize rowCount poolBytes leafPool
 floating-points = record { is = λ h. refl; ends = refl; some = omega arith; leaf = λ h p x. record { size = refl; count = refl; words-are = refl; bytes-are = refl } }
 
-pub times : Block isTime timeWidths 10 (λ h x. time (h .size) (bitAt 0 (h .f0)) (getD x 0 0))
-unfolding readProperties totalWidth typeSize rowCount poolBytes
+pub times : Block (isLeaf isTime) timeWidths 10 (λ h x. leaf (h .size) (time (bitAt 0 (h .f0)) (getD x 0 0)))
+unfolding readProperties leafProperties totalWidth typeSize rowCount poolBytes leafPool
 times = record { is = λ h. refl; ends = refl; some = omega arith; leaf = λ h p x. record { size = refl; count = refl; words-are = refl; bytes-are = refl } }
 
-pub bit-fields : Block isBitField bitWidths 12 (λ h x. bitField (h .size) (bitAt 0 (h .f0)) (getD x 0 0) (getD x 1 0))
-unfolding readProperties totalWidth typeSize rowCount poolBytes
+pub bit-fields : Block (isLeaf isBitField) bitWidths 12 (λ h x. leaf (h .size) (bitField (bitAt 0 (h .f0)) (getD x 0 0) (getD x 1 0)))
+unfolding readProperties leafProperties totalWidth typeSize rowCount poolBytes leafPool
 bit-fields = record { is = λ h. refl; ends = refl; some = omega arith; leaf = λ h p x. record { size = refl; count = refl; words-are = refl; bytes-are = refl } }
 
 -- a number of one byte
@@ -143,61 +143,61 @@ one-byte (suc at) [] = refl
 one-byte (suc at) (b ∷ d) = one-byte at d
 
 module _ (h : Header) (d : List ℕ) {lim : Limits} {used pooled : ℕ} {t t′ p : List ℕ} where
-  pub fixed-point-lands : (o s f q : ℕ) → Asked isFixedPoint h d lim used pooled t p → 12 ≤ length d → (h .size ≡ 0 → ⊥)
+  pub fixed-point-lands : (o s f q : ℕ) → Asked (isLeaf isFixedPoint) h d lim used pooled t p → 12 ≤ length d → (h .size ≡ 0 → ⊥)
       → (o ≡ bitAt 0 (h .f0)) × (o < 2) → (s ≡ bitAt 3 (h .f0)) × (s < 2) → f ≡ numberFrom (take 2 (drop 8 d)) → q ≡ numberFrom (take 2 (drop 10 d))
       → t′ ≡ sets t (used * 16) (1 ∷ h .size ∷ 0 ∷ 0 ∷ 0 ∷ o ∷ s ∷ f ∷ q ∷ 0 ∷ 0 ∷ 0 ∷ 0 ∷ 0 ∷ 0 ∷ 0 ∷ [])
       → Ends h d lim used pooled t p (Done (ended h 12 used pooled)) t′ p
-  unfolding rows row padded zeros numbersAt
+  unfolding rows leafRow leafClass leafPool columnsOf row floatLayout numbersAt
   fixed-point-lands o s f q asked long z eo es ef eq et = block-lands fixed-points h d asked long z (rw (eo .0, es .0, ef, eq) at et)
 
-  pub floating-point-lands : (o f q el es ml ms x : ℕ) → Asked isFloatingPoint h d lim used pooled t p → 20 ≤ length d → (h .size ≡ 0 → ⊥)
+  pub floating-point-lands : (o f q el es ml ms x : ℕ) → Asked (isLeaf isFloatingPoint) h d lim used pooled t p → 20 ≤ length d → (h .size ≡ 0 → ⊥)
       → (o ≡ floatOrder (h .f0)) × (o < 3) → f ≡ numberFrom (take 2 (drop 8 d)) → q ≡ numberFrom (take 2 (drop 10 d))
       → (el ≡ getD d 12 0) × (el < 256) → (es ≡ getD d 13 0) × (es < 256) → (ml ≡ getD d 14 0) × (ml < 256) → (ms ≡ getD d 15 0) × (ms < 256) → x ≡ numberFrom (take 4 (drop 16 d))
       → t′ ≡ sets t (used * 16) (2 ∷ h .size ∷ 0 ∷ 0 ∷ 0 ∷ o ∷ 0 ∷ f ∷ q ∷ el ∷ es ∷ ml ∷ ms ∷ x ∷ 0 ∷ 0 ∷ [])
       → Ends h d lim used pooled t p (Done (ended h 20 used pooled)) t′ p
-  unfolding rows row padded zeros numbersAt
+  unfolding rows leafRow leafClass leafPool columnsOf row floatLayout numbersAt
   floating-point-lands o f q el es ml ms x asked long z eo ef eq a b c e ex et =
       block-lands floating-points h d asked long z (rw (eo .0, ef, eq, a .0 ∙ sym (one-byte 12 d), b .0 ∙ sym (one-byte 13 d), c .0 ∙ sym (one-byte 14 d), e .0 ∙ sym (one-byte 15 d), ex) at et)
 
-  pub time-lands : (o q : ℕ) → Asked isTime h d lim used pooled t p → 10 ≤ length d → (h .size ≡ 0 → ⊥)
+  pub time-lands : (o q : ℕ) → Asked (isLeaf isTime) h d lim used pooled t p → 10 ≤ length d → (h .size ≡ 0 → ⊥)
       → (o ≡ bitAt 0 (h .f0)) × (o < 2) → q ≡ numberFrom (take 2 (drop 8 d))
       → t′ ≡ sets t (used * 16) (3 ∷ h .size ∷ 0 ∷ 0 ∷ 0 ∷ o ∷ 0 ∷ 0 ∷ q ∷ 0 ∷ 0 ∷ 0 ∷ 0 ∷ 0 ∷ 0 ∷ 0 ∷ [])
       → Ends h d lim used pooled t p (Done (ended h 10 used pooled)) t′ p
-  unfolding rows row padded zeros numbersAt
+  unfolding rows leafRow leafClass leafPool columnsOf row floatLayout numbersAt
   time-lands o q asked long z eo eq et = block-lands times h d asked long z (rw (eo .0, eq) at et)
 
-  pub bit-field-lands : (o f q : ℕ) → Asked isBitField h d lim used pooled t p → 12 ≤ length d → (h .size ≡ 0 → ⊥)
+  pub bit-field-lands : (o f q : ℕ) → Asked (isLeaf isBitField) h d lim used pooled t p → 12 ≤ length d → (h .size ≡ 0 → ⊥)
       → (o ≡ bitAt 0 (h .f0)) × (o < 2) → f ≡ numberFrom (take 2 (drop 8 d)) → q ≡ numberFrom (take 2 (drop 10 d))
       → t′ ≡ sets t (used * 16) (5 ∷ h .size ∷ 0 ∷ 0 ∷ 0 ∷ o ∷ 0 ∷ f ∷ q ∷ 0 ∷ 0 ∷ 0 ∷ 0 ∷ 0 ∷ 0 ∷ 0 ∷ [])
       → Ends h d lim used pooled t p (Done (ended h 12 used pooled)) t′ p
-  unfolding rows row padded zeros numbersAt
+  unfolding rows leafRow leafClass leafPool columnsOf row floatLayout numbersAt
   bit-field-lands o f q asked long z eo ef eq et = block-lands bit-fields h d asked long z (rw (eo .0, ef, eq) at et)
 
 -- ---- strings and references: codes alone
 
-string-leaf : (h : Header) (pooled a c : ℕ) → Leaf h pooled (string (h .size) a c) (4 ∷ h .size ∷ 0 ∷ 0 ∷ 0 ∷ a ∷ c ∷ 0 ∷ 0 ∷ 0 ∷ 0 ∷ 0 ∷ 0 ∷ 0 ∷ 0 ∷ 0 ∷ []) []
-unfolding typeSize rowCount poolBytes rows row padded zeros
+string-leaf : (h : Header) (pooled a c : ℕ) → Leaf h pooled (leaf (h .size) (string a c)) (4 ∷ h .size ∷ 0 ∷ 0 ∷ 0 ∷ a ∷ c ∷ 0 ∷ 0 ∷ 0 ∷ 0 ∷ 0 ∷ 0 ∷ 0 ∷ 0 ∷ 0 ∷ []) []
+unfolding typeSize rowCount poolBytes leafPool leafClass columnsOf leafRow rows row
 string-leaf h pooled a c = record { size = refl; count = refl; words-are = refl; bytes-are = refl }
 
-reference-leaf : (h : Header) (pooled c : ℕ) → Leaf h pooled (reference (h .size) c) (8 ∷ h .size ∷ 0 ∷ 0 ∷ 0 ∷ c ∷ 0 ∷ 0 ∷ 0 ∷ 0 ∷ 0 ∷ 0 ∷ 0 ∷ 0 ∷ 0 ∷ 0 ∷ []) []
-unfolding typeSize rowCount poolBytes rows row padded zeros
+reference-leaf : (h : Header) (pooled c : ℕ) → Leaf h pooled (leaf (h .size) (reference c)) (8 ∷ h .size ∷ 0 ∷ 0 ∷ 0 ∷ c ∷ 0 ∷ 0 ∷ 0 ∷ 0 ∷ 0 ∷ 0 ∷ 0 ∷ 0 ∷ 0 ∷ 0 ∷ []) []
+unfolding typeSize rowCount poolBytes leafPool leafClass columnsOf leafRow rows row
 reference-leaf h pooled c = record { size = refl; count = refl; words-are = refl; bytes-are = refl }
 
 module _ (h : Header) (d : List ℕ) {lim : Limits} {used pooled : ℕ} {t p : List ℕ} where
-  module _ (a : ℕ) (asked : Asked isString h d lim used pooled t p) (ea : (a ≡ lowBits 4 (h .f0)) × (a < 16)) where
+  module _ (a : ℕ) (asked : Asked (isLeaf isString) h d lim used pooled t p) (ea : (a ≡ lowBits 4 (h .f0)) × (a < 16)) where
     pub string-padding : {t′ p′ : List ℕ} → 2 < a → Ends h d lim used pooled t p (Refused (BadPadding a)) t′ p′
-    unfolding readProperties then require
+    unfolding readProperties leafProperties then require
     string-padding m = leaf-refuses h d asked (rw (← ea .0, lt-leb a 2 m))
 
     module _ (c : ℕ) (ok : a < 3) (ec : (c ≡ highBits 4 (h .f0)) × (c < 16)) where
       pub string-charset : {t′ p′ : List ℕ} → 1 < c → Ends h d lim used pooled t p (Refused (BadCharset c)) t′ p′
-      unfolding readProperties then require
+      unfolding readProperties leafProperties then require
       string-charset m = leaf-refuses h d asked (rw (← ea .0, ← ec .0, le-leb a 2 (omega arith), lt-leb c 1 m))
 
       module _ (fine : c < 2) where
-        string-is : run (readProperties (refuse TooDeep) h isString) d lim 8 (used + 1) pooled
-            ≡ here (string (h .size) a c) d lim (ended h 8 used pooled)
-        unfolding readProperties then require
+        string-is : run (readProperties (refuse TooDeep) h (isLeaf isString)) d lim 8 (used + 1) pooled
+            ≡ here (leaf (h .size) (string a c)) d lim (ended h 8 used pooled)
+        unfolding readProperties leafProperties then require
         string-is = rw (← ea .0, ← ec .0, le-leb a 2 (omega arith), le-leb c 1 (omega arith))
 
         pub string-zero : {t′ p′ : List ℕ} → h .size ≡ 0 → Ends h d lim used pooled t p (Refused (ZeroSize (h .class))) t′ p′
@@ -209,15 +209,15 @@ module _ (h : Header) (d : List ℕ) {lim : Limits} {used pooled : ℕ} {t p : L
         string-lands x y ex ey z et =
             leaf-lands h d asked _ _ string-is (string-leaf h pooled a c) z refl refl (omega arith) (asked .0 .0 .0 .room) (omega arith) (rw (ex .0, ey .0) at et) refl
 
-  module _ (c : ℕ) (asked : Asked isReference h d lim used pooled t p) (ec : (c ≡ lowBits 4 (h .f0)) × (c < 16)) where
+  module _ (c : ℕ) (asked : Asked (isLeaf isReference) h d lim used pooled t p) (ec : (c ≡ lowBits 4 (h .f0)) × (c < 16)) where
     pub reference-kind : {t′ p′ : List ℕ} → 1 < c → Ends h d lim used pooled t p (Refused (BadReferenceKind c)) t′ p′
-    unfolding readProperties then require
+    unfolding readProperties leafProperties then require
     reference-kind m = leaf-refuses h d asked (rw (← ec .0, lt-leb c 1 m))
 
     module _ (fine : c < 2) where
-      reference-is : run (readProperties (refuse TooDeep) h isReference) d lim 8 (used + 1) pooled
-          ≡ here (reference (h .size) c) d lim (ended h 8 used pooled)
-      unfolding readProperties then require
+      reference-is : run (readProperties (refuse TooDeep) h (isLeaf isReference)) d lim 8 (used + 1) pooled
+          ≡ here (leaf (h .size) (reference c)) d lim (ended h 8 used pooled)
+      unfolding readProperties leafProperties then require
       reference-is = rw (← ec .0, le-leb c 1 (omega arith))
 
       pub reference-zero : {t′ p′ : List ℕ} → h .size ≡ 0 → Ends h d lim used pooled t p (Refused (ZeroSize (h .class))) t′ p′
@@ -231,21 +231,21 @@ module _ (h : Header) (d : List ℕ) {lim : Limits} {used pooled : ℕ} {t p : L
 
 -- ---- opaque: a tag, and its padding
 
-opaque-leaf : (h : Header) (pooled n : ℕ) (d : List ℕ) → 8 + n ≤ length d → Leaf h pooled (opaque (h .size) (take n (drop 8 d))) (6 ∷ h .size ∷ pooled ∷ n ∷ 0 ∷ 0 ∷ 0 ∷ 0 ∷ 0 ∷ 0 ∷ 0 ∷ 0 ∷ 0 ∷ 0 ∷ 0 ∷ 0 ∷ []) (take n (drop 8 d))
-unfolding typeSize rowCount poolBytes rows row padded zeros
+opaque-leaf : (h : Header) (pooled n : ℕ) (d : List ℕ) → 8 + n ≤ length d → Leaf h pooled (leaf (h .size) (opaque (take n (drop 8 d)))) (6 ∷ h .size ∷ pooled ∷ n ∷ 0 ∷ 0 ∷ 0 ∷ 0 ∷ 0 ∷ 0 ∷ 0 ∷ 0 ∷ 0 ∷ 0 ∷ 0 ∷ 0 ∷ []) (take n (drop 8 d))
+unfolding typeSize rowCount poolBytes leafPool leafClass columnsOf leafRow rows row
 opaque-leaf h pooled n d long = record { size = refl; count = refl; words-are = rw (length-part d 8 n long); bytes-are = refl }
 
 module _ (h : Header) (d : List ℕ) {lim : Limits} {used pooled : ℕ} {t p : List ℕ} where
-  module _ (n : ℕ) (asked : Asked isOpaque h d lim used pooled t p) (en : (n ≡ h .f0) × (n < 256)) where
+  module _ (n : ℕ) (asked : Asked (isLeaf isOpaque) h d lim used pooled t p) (en : (n ≡ h .f0) × (n < 256)) where
     pub opaque-cut : {t′ p′ : List ℕ} → length d < 8 + n → Ends h d lim used pooled t p (Refused (Short (8 + n) (length d))) t′ p′
-    unfolding readProperties then
+    unfolding readProperties leafProperties then
     opaque-cut l =
         let k = asked .0 .1 in
         leaf-refuses h d asked (rw (← en .0, bytes-short n 8 d (lim .rows - (used + 1)) (lim .pool - pooled) (omega arith) l))
 
     module _ (long : 8 + n ≤ length d) where
       pub opaque-full : {t′ p′ : List ℕ} → lim .pool - pooled < n → Ends h d lim used pooled t p (Refused PoolFull) t′ p′
-      unfolding readProperties then
+      unfolding readProperties leafProperties then
       opaque-full m =
           let k : lim .pool - pooled < length (take n (drop 8 d)) = omega (arith, length-part d 8 n long) in
           leaf-refuses h d asked (rw (
@@ -255,9 +255,9 @@ module _ (h : Header) (d : List ℕ) {lim : Limits} {used pooled : ℕ} {t p : L
           ))
 
       module _ (room : n ≤ lim .pool - pooled) where
-        opaque-is : run (readProperties (refuse TooDeep) h isOpaque) d lim 8 (used + 1) pooled
-            ≡ here (opaque (h .size) (take n (drop 8 d))) d lim (ended h (8 + n + paddingTo8 n) used (pooled + n))
-        unfolding readProperties then
+        opaque-is : run (readProperties (refuse TooDeep) h (isLeaf isOpaque)) d lim 8 (used + 1) pooled
+            ≡ here (leaf (h .size) (opaque (take n (drop 8 d)))) d lim (ended h (8 + n + paddingTo8 n) used (pooled + n))
+        unfolding readProperties leafProperties then
         opaque-is =
             let k : length (take n (drop 8 d)) ≤ lim .pool - pooled = omega (arith, length-part d 8 n long) in
             rw (
@@ -287,7 +287,7 @@ no : false ≡ true → ⊥
 no e = let z : _≡_ {A = ℕ} 0 1 = cc in omega arith
 
 -- of classes 6 and up only 7 has no type inside
-from-six : (c m : ℕ) → c ≡ suc (suc (suc (suc (suc (suc m))))) → leafKind (classKind c) ≡ true → classKind c ≡ isReference
+from-six : (c m : ℕ) → c ≡ suc (suc (suc (suc (suc (suc m))))) → leafKind (classKind c) ≡ true → classKind c ≡ (isLeaf isReference)
 unfolding leafKind classKind
 from-six c zero e l = absurd (no (rw e at l))
 from-six c (suc zero) e l = rw e
@@ -297,8 +297,8 @@ from-six c (suc (suc (suc (suc zero)))) e l = absurd (no (rw e at l))
 from-six c (suc (suc (suc (suc (suc zero))))) e l = absurd (no (rw e at l))
 from-six c (suc (suc (suc (suc (suc (suc m)))))) e l = absurd (no (rw e at l))
 
-above-five : (c : ℕ) → leafKind (classKind c) ≡ true → 6 ≤ c → classKind c ≡ isReference
+above-five : (c : ℕ) → leafKind (classKind c) ≡ true → 6 ≤ c → classKind c ≡ (isLeaf isReference)
 above-five c l m = from-six c (c - 6) (omega arith) l
 
-pub last-kind : (c : ℕ) → leafKind (classKind c) ≡ true → (c ≡ 0 → ⊥) → (c ≡ 1 → ⊥) → (c ≡ 2 → ⊥) → (c ≡ 3 → ⊥) → (c ≡ 4 → ⊥) → (c ≡ 5 → ⊥) → classKind c ≡ isReference
+pub last-kind : (c : ℕ) → leafKind (classKind c) ≡ true → (c ≡ 0 → ⊥) → (c ≡ 1 → ⊥) → (c ≡ 2 → ⊥) → (c ≡ 3 → ⊥) → (c ≡ 4 → ⊥) → (c ≡ 5 → ⊥) → classKind c ≡ (isLeaf isReference)
 last-kind c l n₀ n₁ n₂ n₃ n₄ n₅ = above-five c l (omega arith)

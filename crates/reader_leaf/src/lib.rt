@@ -20,7 +20,7 @@ ghost use mathlib.Core.Bool.{true};
 ghost use Prim.Native.Nat.{ℕ, _+_, _<_, _≤_};
 ghost use lib.ListN.{length};
 ghost use Rattle.format.specs.Reading.{classKind, sized};
-ghost use Rattle.format.specs.Table.{isFixedPoint, isFloatingPoint, isTime, isString, isBitField, isOpaque, isReference};
+ghost use Rattle.format.specs.Table.{isLeaf, isFixedPoint, isFloatingPoint, isTime, isString, isBitField, isOpaque, isReference};
 ghost use Rattle.reading.specs.Contract.{run, Ready, AfterType, leafKind, readLeaf};
 
 fn read_fixed_point(
@@ -32,7 +32,7 @@ fn read_fixed_point(
     pooled: usize,
     header: Header,
 ) -> Step
-    requires { ⌜ ((Ready limits used pooled (now table) (now pool) × (used < limits .rows)) × (8 ≤ length (now «data»))) × (classKind (header .class) ≡ isFixedPoint) ⌝ }
+    requires { ⌜ ((Ready limits used pooled (now table) (now pool) × (used < limits .rows)) × (8 ≤ length (now «data»))) × (classKind (header .class) ≡ isLeaf isFixedPoint) ⌝ }
     ensures { λ r. ⌜ AfterType (run (sized header (readLeaf header)) (now («data» .entry)) limits 8 (used + 1) pooled)
         (now («data» .entry)) limits used pooled r (now (table .entry)) (now (table .exit)) (now (pool .entry)) (now (pool .exit)) ⌝ }
 {
@@ -85,7 +85,7 @@ fn read_floating_point(
     pooled: usize,
     header: Header,
 ) -> Step
-    requires { ⌜ ((Ready limits used pooled (now table) (now pool) × (used < limits .rows)) × (8 ≤ length (now «data»))) × (classKind (header .class) ≡ isFloatingPoint) ⌝ }
+    requires { ⌜ ((Ready limits used pooled (now table) (now pool) × (used < limits .rows)) × (8 ≤ length (now «data»))) × (classKind (header .class) ≡ isLeaf isFloatingPoint) ⌝ }
     ensures { λ r. ⌜ AfterType (run (sized header (readLeaf header)) (now («data» .entry)) limits 8 (used + 1) pooled)
         (now («data» .entry)) limits used pooled r (now (table .entry)) (now (table .exit)) (now (pool .entry)) (now (pool .exit)) ⌝ }
 {
@@ -142,7 +142,7 @@ fn read_time(
     pooled: usize,
     header: Header,
 ) -> Step
-    requires { ⌜ ((Ready limits used pooled (now table) (now pool) × (used < limits .rows)) × (8 ≤ length (now «data»))) × (classKind (header .class) ≡ isTime) ⌝ }
+    requires { ⌜ ((Ready limits used pooled (now table) (now pool) × (used < limits .rows)) × (8 ≤ length (now «data»))) × (classKind (header .class) ≡ isLeaf isTime) ⌝ }
     ensures { λ r. ⌜ AfterType (run (sized header (readLeaf header)) (now («data» .entry)) limits 8 (used + 1) pooled)
         (now («data» .entry)) limits used pooled r (now (table .entry)) (now (table .exit)) (now (pool .entry)) (now (pool .exit)) ⌝ }
 {
@@ -193,7 +193,7 @@ fn read_string(
     pooled: usize,
     header: Header,
 ) -> Step
-    requires { ⌜ ((Ready limits used pooled (now table) (now pool) × (used < limits .rows)) × (8 ≤ length (now «data»))) × (classKind (header .class) ≡ isString) ⌝ }
+    requires { ⌜ ((Ready limits used pooled (now table) (now pool) × (used < limits .rows)) × (8 ≤ length (now «data»))) × (classKind (header .class) ≡ isLeaf isString) ⌝ }
     ensures { λ r. ⌜ AfterType (run (sized header (readLeaf header)) (now («data» .entry)) limits 8 (used + 1) pooled)
         (now («data» .entry)) limits used pooled r (now (table .entry)) (now (table .exit)) (now (pool .entry)) (now (pool .exit)) ⌝ }
 {
@@ -253,7 +253,7 @@ fn read_bit_field(
     pooled: usize,
     header: Header,
 ) -> Step
-    requires { ⌜ ((Ready limits used pooled (now table) (now pool) × (used < limits .rows)) × (8 ≤ length (now «data»))) × (classKind (header .class) ≡ isBitField) ⌝ }
+    requires { ⌜ ((Ready limits used pooled (now table) (now pool) × (used < limits .rows)) × (8 ≤ length (now «data»))) × (classKind (header .class) ≡ isLeaf isBitField) ⌝ }
     ensures { λ r. ⌜ AfterType (run (sized header (readLeaf header)) (now («data» .entry)) limits 8 (used + 1) pooled)
         (now («data» .entry)) limits used pooled r (now (table .entry)) (now (table .exit)) (now (pool .entry)) (now (pool .exit)) ⌝ }
 {
@@ -306,7 +306,7 @@ fn read_opaque(
     pooled: usize,
     header: Header,
 ) -> Step
-    requires { ⌜ ((Ready limits used pooled (now table) (now pool) × (used < limits .rows)) × (8 ≤ length (now «data»))) × (classKind (header .class) ≡ isOpaque) ⌝ }
+    requires { ⌜ ((Ready limits used pooled (now table) (now pool) × (used < limits .rows)) × (8 ≤ length (now «data»))) × (classKind (header .class) ≡ isLeaf isOpaque) ⌝ }
     ensures { λ r. ⌜ AfterType (run (sized header (readLeaf header)) (now («data» .entry)) limits 8 (used + 1) pooled)
         (now («data» .entry)) limits used pooled r (now (table .entry)) (now (table .exit)) (now (pool .entry)) (now (pool .exit)) ⌝ }
 {
@@ -360,7 +360,7 @@ fn read_reference(
     pooled: usize,
     header: Header,
 ) -> Step
-    requires { ⌜ ((Ready limits used pooled (now table) (now pool) × (used < limits .rows)) × (8 ≤ length (now «data»))) × (classKind (header .class) ≡ isReference) ⌝ }
+    requires { ⌜ ((Ready limits used pooled (now table) (now pool) × (used < limits .rows)) × (8 ≤ length (now «data»))) × (classKind (header .class) ≡ isLeaf isReference) ⌝ }
     ensures { λ r. ⌜ AfterType (run (sized header (readLeaf header)) (now («data» .entry)) limits 8 (used + 1) pooled)
         (now («data» .entry)) limits used pooled r (now (table .entry)) (now (table .exit)) (now (pool .entry)) (now (pool .exit)) ⌝ }
 {

@@ -10,7 +10,7 @@ use lib.ListN.{length}
 use Rattle.refusal.specs.declared.Refusal.{Refusal}
 use Rattle.refusal.specs.declared.Refusal.the-variants.{Short, TooNew, BadClass, BadVersion, BadPadding, BadCharset, ZeroSize}
 use Rattle.format.specs.Bytes.{AllBytes, zeros, padded}
-use Rattle.format.specs.Datatype.{Datatype, fixedPoint, opaque, reference, array, depth, rowCount, poolBytes}
+use Rattle.format.specs.Datatype.{fixedPoint, opaque, reference, Datatype, leaf, array, depth, rowCount, poolBytes}
 use Rattle.format.specs.Message.{message, versions, storable, carried, firstAbove}
 use Rattle.format.specs.Outcome.{Outcome, gives, refuses, outcomeNumber, outcomeValues}
 use Rattle.format.specs.Reading.{Answer, got, refused, Read, readOutcome, readingInto, reading, readsBack, tableAfter, poolAfter}
@@ -163,8 +163,8 @@ pub record Answers (c : ReadCase) (r : Reading) (table′ pool′ : List ℕ) : 
 unfoldable pub starredReadings : List ReadCase
 starredReadings =
     record { limit = 15; message = []; outcome = refuses (Short 8 0); says = 4 ∷ 8 ∷ 0 ∷ [] }
-    ∷ record { limit = 15; message = U1; outcome = gives (record { type = fixedPoint 1 0 0 0 8; consumed = 12 }); says = 0 ∷ 12 ∷ [] }
-    ∷ record { limit = 15; message = 0x15 ∷ 3 ∷ 0 ∷ 0 ∷ 5 ∷ 0 ∷ 0 ∷ 0 ∷ 0x61 ∷ 0x62 ∷ 0x63 ∷ []; outcome = gives (record { type = opaque 5 (0x61 ∷ 0x62 ∷ 0x63 ∷ []); consumed = 16 }); says = 0 ∷ 16 ∷ [] }
+    ∷ record { limit = 15; message = U1; outcome = gives (record { type = leaf 1 (fixedPoint 0 0 0 8); consumed = 12 }); says = 0 ∷ 12 ∷ [] }
+    ∷ record { limit = 15; message = 0x15 ∷ 3 ∷ 0 ∷ 0 ∷ 5 ∷ 0 ∷ 0 ∷ 0 ∷ 0x61 ∷ 0x62 ∷ 0x63 ∷ []; outcome = gives (record { type = leaf 5 (opaque (0x61 ∷ 0x62 ∷ 0x63 ∷ [])); consumed = 16 }); says = 0 ∷ 16 ∷ [] }
     ∷ record { limit = 15; message = 0x1c ∷ sevenZeros; outcome = refuses (BadClass 12); says = 6 ∷ 12 ∷ [] }
     ∷ record { limit = 15; message = 0x06 ∷ sevenZeros; outcome = refuses (BadVersion 6 0); says = 7 ∷ 6 ∷ 0 ∷ [] }
     ∷ record { limit = 15; message = 0x13 ∷ 0x23 ∷ 0 ∷ 0 ∷ 1 ∷ 0 ∷ 0 ∷ 0 ∷ []; outcome = refuses (BadPadding 3); says = 8 ∷ 3 ∷ [] }
@@ -172,7 +172,7 @@ starredReadings =
     ∷ record { limit = 15; message = P; outcome = gives (record { type = typeP; consumed = 38 }); says = 0 ∷ 38 ∷ [] }
     ∷ record { limit = 2; message = P; outcome = refuses (TooNew 3); says = 5 ∷ 3 ∷ [] }
     ∷ record { limit = 15; message = 0x3a ∷ (sevenZeros ++ (1 ∷ 0 ∷ 0 ∷ 0 ∷ 0 ∷ U1)); outcome = refuses (ZeroSize 10); says = 12 ∷ 10 ∷ [] }
-    ∷ record { limit = 15; message = twoR; outcome = gives (record { type = array (2 ∷ []) (reference 8 0); consumed = 21 }); says = 0 ∷ 21 ∷ [] }
+    ∷ record { limit = 15; message = twoR; outcome = gives (record { type = array (2 ∷ []) (leaf 8 (reference 0)); consumed = 21 }); says = 0 ∷ 21 ∷ [] }
     ∷ []
 
 -- what is computed of a list of cases, and what is expected

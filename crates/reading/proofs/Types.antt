@@ -11,8 +11,8 @@ use Rattle.refusal.specs.declared.Refusal.the-variants.{TooDeep, ZeroSize}
 use Rattle.format.specs.declared.Header.{Header}
 use Rattle.format.specs.Datatype.{Datatype, compound, Members, memberCount, rowCount, poolBytes, typeSize}
 use Rattle.format.specs.Reading.{Answer, refused, then, inner, countOf, readMembers, readType, sized, classKind}
-use Rattle.format.specs.Table.{row, rows, memberRows}
-use Rattle.format.proofs.Rows.{length-row, length-rows}
+use Rattle.format.specs.Table.{compoundRow, rows, memberRows}
+use Rattle.format.proofs.Rows.{length-compoundRow, length-rows}
 use Rattle.format.proofs.Bytes.{length-dimensionsFrom}
 use Rattle.format.proofs.Lists.{part-all, sets-more}
 use Rattle.reading.specs.declared.Base.{Base}
@@ -35,11 +35,11 @@ module _ {used : ℕ} {h : Header} {count : ℕ} {inner : State} {t : List ℕ} 
   compound-empty z =
       record { done = not-done _; denied = by-refused (λ e. (e ≡ ZeroSize (h .class)) × (h .size ≡ 0)) (refl, z) }
 
-  pub compound-stored : {t′ : List ℕ} → (h .size ≡ 0 → ⊥) → t′ ≡ sets t (used * 16) (row 7 (h .size) 0 0 count [])
+  pub compound-stored : {t′ : List ℕ} → (h .size ≡ 0 → ⊥) → t′ ≡ sets t (used * 16) (compoundRow (h .size) count)
       → CompoundEnds used h count inner (StepDone (record { at = inner .at; rows = inner .rows; pooled = inner .pooled; size = h .size })) t t′
   compound-stored {t′} z e =
       record {
-        done = by-done (λ s. (s ≡ record { at = inner .at; rows = inner .rows; pooled = inner .pooled; size = h .size }) × (0 < h .size) × (t′ ≡ sets t (used * 16) (row 7 (h .size) 0 0 count []))) (refl, omega arith, e);
+        done = by-done (λ s. (s ≡ record { at = inner .at; rows = inner .rows; pooled = inner .pooled; size = h .size }) × (0 < h .size) × (t′ ≡ sets t (used * 16) (compoundRow (h .size) count))) (refl, omega arith, e);
         denied = not-refused _;
       }
 
@@ -148,7 +148,7 @@ module _ {d : List ℕ} {lim : Limits} {used pooled levels : ℕ} where
             compound-landed z e =
                 let l = m .done s k in
                 let x = c .done z e in
-                let head = row 7 (h .size) 0 0 (memberCount (l .tree)) [] in
+                let head = compoundRow (h .size) (memberCount (l .tree)) in
                 let stored : t₃ ≡ sets (sets t ((used + 1) * 16) (memberRows pooled (l .tree))) (used * 16) head = x .2 ∙ rw (← l .table, l .such) in
                 rw (x .0) (record {
                   tree = compound (h .size) (l .tree);
@@ -156,9 +156,9 @@ module _ {d : List ℕ} {lim : Limits} {used pooled levels : ℕ} where
                   is = at-level (w .compound h v q .is (levels - 1) ∙ sized-go h (readCompound (readType (lim .version) (levels - 1)) h v) _ _ _ _ _ _ _ _ _ _ (compound-is (l .tree) s (l .is)) (x .1));
                   rows-are = l .rows-are ∙ omega arith;
                   pooled-are = l .pooled-are;
-                  table = stored ∙ sets-before head (memberRows pooled (l .tree)) t (used * 16) ((used + 1) * 16) (omega (arith, length-row 7 (h .size) 0 0 (memberCount (l .tree)) [] (omega arith)));
+                  table = stored ∙ sets-before head (memberRows pooled (l .tree)) t (used * 16) ((used + 1) * 16) (omega (arith, length-compoundRow (h .size) (memberCount (l .tree))));
                   pool = l .pool;
-                  ready = ready-at (s .rows) (s .pooled) (l .ready) (l .ready .filled) (l .ready .room) (ap length (x .2) ∙ length-sets t₂ (used * 16) (row 7 (h .size) 0 0 count [])) refl;
+                  ready = ready-at (s .rows) (s .pooled) (l .ready) (l .ready .filled) (l .ready .room) (ap length (x .2) ∙ length-sets t₂ (used * 16) (compoundRow (h .size) count)) refl;
                   near = l .near;
                 })
 

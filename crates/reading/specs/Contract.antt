@@ -13,7 +13,7 @@ use Rattle.format.specs.Bits.{lowBits, highBits}
 use Rattle.format.specs.Bytes.{dimensionsFrom}
 use Rattle.format.specs.Datatype.{Datatype, compound, enumeration, variableLength, array, Members, member, EnumMember, enumNames, enumValues, memberCount, typeSize, rowCount, memberRowCount, poolBytes, memberPool}
 use Rattle.format.specs.Reading.{Answer, got, refused, Reader, then, _>>=_, give, refuse, inner, countOf, readMembers, readName, readNames, readValues, readProperties, classKind, sized, readType}
-use Rattle.format.specs.Table.{Kind, isFixedPoint, isFloatingPoint, isTime, isString, isBitField, isOpaque, isCompound, isReference, isEnumeration, isVariableLength, isArray, isUnknown, rows, memberRows, memberRow, enumRows, enumMemberRow}
+use Rattle.format.specs.Table.{Kind, isLeaf, isCompound, isEnumeration, isVariableLength, isArray, isUnknown, rows, memberRows, memberRow, enumRows, enumMemberRow}
 use Rattle.reading.specs.declared.Limits.{Limits}
 use Rattle.reading.specs.declared.State.{State}
 use Rattle.reading.specs.declared.Step.{Step}
@@ -70,14 +70,8 @@ AfterMembers k = After memberRows memberPool memberRowCount (λ ms s. memberCoun
 
 -- classes 0 to 5 and 7 have no type inside
 unfoldable pub leafKind : Kind → Bool
-leafKind isFixedPoint = true
-leafKind isFloatingPoint = true
-leafKind isTime = true
-leafKind isString = true
-leafKind isBitField = true
-leafKind isOpaque = true
+leafKind (isLeaf k) = true
 leafKind isCompound = false
-leafKind isReference = true
 leafKind isEnumeration = false
 leafKind isVariableLength = false
 leafKind isArray = false
@@ -111,14 +105,8 @@ behind h ds isEnumeration t = do
   give (enumeration (h .size) t ms)
 behind h ds isVariableLength t = give (variableOf h (eqb (lowBits 4 (h .f0)) 1) t)
 behind h ds isArray t = give (array ds t)
-behind h ds isFixedPoint t = refuse TooDeep
-behind h ds isFloatingPoint t = refuse TooDeep
-behind h ds isTime t = refuse TooDeep
-behind h ds isString t = refuse TooDeep
-behind h ds isBitField t = refuse TooDeep
-behind h ds isOpaque t = refuse TooDeep
+behind h ds (isLeaf k) t = refuse TooDeep
 behind h ds isCompound t = refuse TooDeep
-behind h ds isReference t = refuse TooDeep
 behind h ds isUnknown t = refuse TooDeep
 
 -- a type over a base
@@ -154,14 +142,8 @@ unfoldable pub basedKind : Kind → (rank : ℕ) → Type 0
 basedKind isEnumeration k = k ≡ 0
 basedKind isVariableLength k = k ≡ 0
 basedKind isArray k = k ≤ 255
-basedKind isFixedPoint k = ⊥
-basedKind isFloatingPoint k = ⊥
-basedKind isTime k = ⊥
-basedKind isString k = ⊥
-basedKind isBitField k = ⊥
-basedKind isOpaque k = ⊥
+basedKind (isLeaf x) k = ⊥
 basedKind isCompound k = ⊥
-basedKind isReference k = ⊥
 basedKind isUnknown k = ⊥
 
 -- the dimensions in the message

@@ -9,7 +9,7 @@ use Rattle.refusal.specs.declared.Refusal.the-variants.{ZeroSize}
 use Rattle.format.specs.declared.Header.{Header}
 use Rattle.format.specs.Datatype.{Members, noMembers, member, memberCount, memberRowCount, memberPool, Datatype}
 use Rattle.format.specs.Reading.{Reader, got, then, readMembers}
-use Rattle.format.specs.Table.{row, memberRows}
+use Rattle.format.specs.Table.{compoundRow, memberRows}
 use Rattle.reading.specs.declared.Limits.{Limits}
 use Rattle.reading.specs.declared.State.{State}
 use Rattle.reading.specs.declared.Step.{Step}
@@ -18,7 +18,7 @@ use Rattle.reading.specs.Contract.{run, Ready}
 
 -- a compound's own row is stored, or its size is 0
 pub record CompoundEnds (used : ℕ) (h : Header) (count : ℕ) (inner : State) (r : Step) (t t′ : List ℕ) : Type 0 where
-  pub done : (s : State) → r ≡ StepDone s → (s ≡ record { at = inner .at; rows = inner .rows; pooled = inner .pooled; size = h .size }) × (0 < h .size) × (t′ ≡ sets t (used * 16) (row 7 (h .size) 0 0 count []))
+  pub done : (s : State) → r ≡ StepDone s → (s ≡ record { at = inner .at; rows = inner .rows; pooled = inner .pooled; size = h .size }) × (0 < h .size) × (t′ ≡ sets t (used * 16) (compoundRow (h .size) count))
   pub denied : (e : Refusal) → r ≡ StepRefused e → (e ≡ ZeroSize (h .class)) × (h .size ≡ 0)
 
 -- members behind members

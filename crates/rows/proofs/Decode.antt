@@ -1,21 +1,22 @@
 -- The walk of a table by its rows' entries: it is `typeAt`. What is known of a row lies in the table and the pool.
 use Prim.Native.Nat.{ℕ, zero, suc, _+_, _*_, _<_, _≤_, max}
 use mathlib.Core.Path.{_≡_, refl, sym, ap, _∙_}
-use mathlib.Core.Bool.{Bool, true, false, cond, _&&_}
+use mathlib.Core.Bool.{Bool, true, false, cond, _&&_, and-false}
 use mathlib.Core.List.{List, [], _∷_}
 use native.Mathlib.Omega.{arith}
 use native.Mathlib.Nat.{add-zero}
-use lib.ListN.{length, getD, take, drop}
+use lib.ListN.{length, getD, take, drop, length-take, length-drop}
 use lib.Dec.{leb}
 use mir.Syntax.{w64}
 use mir.Val.{Fits}
 use borrow.Author.Tests.{leb-true}
-use Rattle.format.specs.Datatype.{Datatype, member}
-use Rattle.format.specs.Table.{row, memberRow, enumMemberRow, Found, found, bad, Walk, andThen, Kind, isFixedPoint, isFloatingPoint, isTime, isString, isBitField, isOpaque, isCompound, isReference, isEnumeration, isVariableLength, isArray, isUnknown, kindOf, membersAt, enumNamesAt, typeAt}
+use Rattle.format.specs.Datatype.{leafClass, leafPool, Datatype, member}
+use Rattle.format.specs.Table.{row, columnsOf, leafRow, compoundRow, enumerationRow, variableLengthRow, arrayRow, memberRow, enumMemberRow, leafKnown, tagAt, leafOf, LeafKind, Found, found, bad, Walk, andThen, isFixedPoint, isFloatingPoint, isTime, isString, isBitField, isOpaque, isReference, Kind, isLeaf, isCompound, isEnumeration, isVariableLength, isArray, isUnknown, kindOf, membersAt, enumNamesAt, typeAt}
 use Rattle.format.proofs.Booleans.{and-both}
-use Rattle.format.proofs.Rows.{length-row, length-memberRow, length-enumMemberRow}
-use Rattle.format.proofs.TableSteps.{rowIs-fits, typeAt-unknown, typeAt-fixedPoint, typeAt-floatingPoint, typeAt-time, typeAt-string, typeAt-bitField, typeAt-opaque, typeAt-compound, typeAt-reference, typeAt-enumeration, typeAt-variableLength, typeAt-array, membersAt-step, enumNamesAt-step}
-use Rattle.rows.specs.Entries.{wordAt, rowIs, pick, pickMember, entryOf, entryAt, memberAt, enumMemberAt, EntryInside, MemberInside, memberNameLength, enumMemberNameLength, leafType, fromEntry, fromMember, fromEnumMember}
+use Rattle.format.proofs.Lists.{length-part}
+use Rattle.format.proofs.Rows.{length-row, length-leafRow, length-memberRow, length-enumMemberRow}
+use Rattle.format.proofs.TableSteps.{rowIs-fits, then-piece, typeAt-unknown, typeAt-leaf, typeAt-compound, typeAt-enumeration, typeAt-variableLength, typeAt-array, membersAt-step, enumNamesAt-step}
+use Rattle.rows.specs.Entries.{wordAt, rowIs, pick, pickMember, leafAt, tagInside, leafEntry, entryOf, entryAt, memberAt, enumMemberAt, EntryInside, MemberInside, memberNameLength, enumMemberNameLength, leafKindOf, leafType, fromEntry, fromMember, fromEnumMember}
 use Rattle.rows.specs.declared.Entry.{Entry}
 use Rattle.rows.specs.declared.Entry.the-variants.{Leaf, Compound, Enumeration, VariableLength, Array}
 use Rattle.rows.specs.declared.Member.{Member}
@@ -27,6 +28,18 @@ module _ (table pool : List ℕ) (r p : ℕ) where
   unfolding entryAt
   entry-kind e = rw (add-zero, e)
 
+  -- an opaque's entry, by the length of its tag in its row
+  pub opaque-picked : entryOf table pool r p (isLeaf isOpaque)
+      ≡ pick (rowIs table r (row 6 ((1, wordAt table r 1) ∷ (2, p) ∷ (3, wordAt table r 3) ∷ [])) && leb (p + wordAt table r 3) (length pool)) (Leaf 5 (wordAt table r 1) (wordAt table r 3) (wordAt table r 5))
+  unfolding entryOf tagInside leafEntry leafAt leafOf leafClass leafPool leafKnown leafRow columnsOf
+  opaque-picked = go _ refl
+    where
+      go : (b : Bool) → leb (p + wordAt table r 3) (length pool) ≡ b
+          → pick (b && (rowIs table r (row 6 ((1, wordAt table r 1) ∷ (2, p) ∷ (3, length (take (wordAt table r 3) (drop p pool))) ∷ [])) && true)) (Leaf 5 (wordAt table r 1) (length (take (wordAt table r 3) (drop p pool))) (wordAt table r 5))
+          ≡ pick (rowIs table r (row 6 ((1, wordAt table r 1) ∷ (2, p) ∷ (3, wordAt table r 3) ∷ [])) && b) (Leaf 5 (wordAt table r 1) (wordAt table r 3) (wordAt table r 5))
+      go true h = rw (length-part pool p (wordAt table r 3) (leb-true (p + wordAt table r 3) (length pool) h))
+      go false h = rw and-false (unfold pick in refl)
+
   module _ (rd : Walk Datatype) where
     from-pick : (b : Bool) (e : Entry) {x : Found Datatype} → fromEntry rd table pool r p e ≡ x → cond b x bad ≡ fromEntry rd table pool r p (pick b e)
     unfolding fromEntry pick
@@ -37,19 +50,26 @@ module _ (table pool : List ℕ) (r p : ℕ) where
     unfolding fromEntry
     from-leaf b c n x = from-pick b (Leaf c n 0 x) (rw add-zero)
 
+    from-tag : (b c : Bool) → leb (p + wordAt table r 3) (length pool) ≡ b
+        → cond b (cond c (found (leafType table pool r p 5) (suc r) (p + wordAt table r 3)) bad) bad ≡ fromEntry rd table pool r p (pick (b && c) (leafEntry table r (leafAt table pool r p isOpaque)))
+    unfolding fromEntry pick leafEntry leafAt leafOf leafClass leafPool
+    from-tag true c h =
+        from-pick c (leafEntry table r (leafAt table pool r p isOpaque)) (ap (λ (n : ℕ). found (leafType table pool r p 5) (suc r) (p + n)) (length-part pool p (wordAt table r 3) (leb-true _ _ h)))
+    from-tag false c h = refl
+
 -- by the kind of the row
 module _ (k : ℕ) (table pool : List ℕ) (r p : ℕ) where
   by-kind : (w : ℕ) → getD table (r * 16) 0 ≡ w → typeAt (suc k) table pool r p ≡ fromEntry (typeAt k table pool) table pool r p (entryOf table pool r p (kindOf w))
-  unfolding entryOf fromEntry leafType kindOf
+  unfolding entryOf tagInside leafEntry leafAt fromEntry leafType leafKindOf kindOf andThen tagAt leafOf leafClass leafPool
   by-kind zero e = typeAt-unknown table pool k r p (ap kindOf e)
-  by-kind (suc zero) e = typeAt-fixedPoint table pool k r p e ∙ from-leaf table pool r p (typeAt k table pool) _ _ _ _
-  by-kind (suc (suc zero)) e = typeAt-floatingPoint table pool k r p e ∙ from-leaf table pool r p (typeAt k table pool) _ _ _ _
-  by-kind (suc (suc (suc zero))) e = typeAt-time table pool k r p e ∙ from-leaf table pool r p (typeAt k table pool) _ _ _ _
-  by-kind (suc (suc (suc (suc zero)))) e = typeAt-string table pool k r p e ∙ from-leaf table pool r p (typeAt k table pool) _ _ _ _
-  by-kind (suc (suc (suc (suc (suc zero))))) e = typeAt-bitField table pool k r p e ∙ from-leaf table pool r p (typeAt k table pool) _ _ _ _
-  by-kind (suc (suc (suc (suc (suc (suc zero)))))) e = typeAt-opaque table pool k r p e ∙ from-pick table pool r p (typeAt k table pool) _ _ refl
+  by-kind (suc zero) e = typeAt-leaf table pool k r p isFixedPoint (ap kindOf e) ∙ from-leaf table pool r p (typeAt k table pool) _ _ _ _
+  by-kind (suc (suc zero)) e = typeAt-leaf table pool k r p isFloatingPoint (ap kindOf e) ∙ from-leaf table pool r p (typeAt k table pool) _ _ _ _
+  by-kind (suc (suc (suc zero))) e = typeAt-leaf table pool k r p isTime (ap kindOf e) ∙ from-leaf table pool r p (typeAt k table pool) _ _ _ _
+  by-kind (suc (suc (suc (suc zero)))) e = typeAt-leaf table pool k r p isString (ap kindOf e) ∙ from-leaf table pool r p (typeAt k table pool) _ _ _ _
+  by-kind (suc (suc (suc (suc (suc zero))))) e = typeAt-leaf table pool k r p isBitField (ap kindOf e) ∙ from-leaf table pool r p (typeAt k table pool) _ _ _ _
+  by-kind (suc (suc (suc (suc (suc (suc zero)))))) e = typeAt-leaf table pool k r p isOpaque (ap kindOf e) ∙ rw then-piece (from-tag table pool r p (typeAt k table pool) _ _ refl)
   by-kind (suc (suc (suc (suc (suc (suc (suc zero))))))) e = typeAt-compound table pool k r p e ∙ from-pick table pool r p (typeAt k table pool) _ _ refl
-  by-kind (suc (suc (suc (suc (suc (suc (suc (suc zero)))))))) e = typeAt-reference table pool k r p e ∙ from-leaf table pool r p (typeAt k table pool) _ _ _ _
+  by-kind (suc (suc (suc (suc (suc (suc (suc (suc zero)))))))) e = typeAt-leaf table pool k r p isReference (ap kindOf e) ∙ from-leaf table pool r p (typeAt k table pool) _ _ _ _
   by-kind (suc (suc (suc (suc (suc (suc (suc (suc (suc zero))))))))) e = typeAt-enumeration table pool k r p e ∙ from-pick table pool r p (typeAt k table pool) _ _ refl
   by-kind (suc (suc (suc (suc (suc (suc (suc (suc (suc (suc zero)))))))))) e = typeAt-variableLength table pool k r p e ∙ from-pick table pool r p (typeAt k table pool) _ _ refl
   by-kind (suc (suc (suc (suc (suc (suc (suc (suc (suc (suc (suc zero))))))))))) e = typeAt-array table pool k r p e ∙ from-pick table pool r p (typeAt k table pool) _ _ refl
@@ -82,8 +102,16 @@ module _ (table pool : List ℕ) (n r p : ℕ) where
 
 -- what is known of a row lies in the table and in the pool
 module _ (table pool : List ℕ) (r p : ℕ) where
-  fits : (k s q l c : ℕ) (rest : List ℕ) (b : Bool) → length rest ≤ 11 → (rowIs table r (row k s q l c rest) && b) ≡ true → r * 16 + 16 ≤ length table
-  fits k s q l c rest b n h = rowIs-fits table r (row k s q l c rest) (length-row k s q l c rest n) (and-both _ b h .0)
+  -- a tag lies behind its place
+  tag-behind : (k : LeafKind) → p + length (leafPool (leafAt table pool r p k)) ≤ max (length pool) p
+  unfolding leafAt leafOf leafPool
+  tag-behind isFixedPoint = omega arith
+  tag-behind isFloatingPoint = omega arith
+  tag-behind isTime = omega arith
+  tag-behind isString = omega arith
+  tag-behind isBitField = omega arith
+  tag-behind isOpaque = omega (arith, length-take (wordAt table r 3) (drop p pool), length-drop p pool)
+  tag-behind isReference = omega arith
 
   known : (v : List ℕ) (n : ℕ) → length v ≡ 16 → (rowIs table r v && leb (p + n) (length pool)) ≡ true → (r * 16 + 16 ≤ length table) × (p + n ≤ length pool)
   known v n l h =
@@ -96,20 +124,13 @@ module _ (table pool : List ℕ) (r p : ℕ) where
   inside-pick false e h = tt
 
   inside-kind : (k : Kind) → EntryInside (entryOf table pool r p k) (length table) (length pool) r p
-  unfolding entryOf EntryInside
-  inside-kind isFixedPoint = inside-pick _ _ (λ h. (fits _ _ _ _ _ _ _ (omega arith) h, omega arith))
-  inside-kind isFloatingPoint = inside-pick _ _ (λ h. (fits _ _ _ _ _ _ _ (omega arith) h, omega arith))
-  inside-kind isTime = inside-pick _ _ (λ h. (fits _ _ _ _ _ _ _ (omega arith) h, omega arith))
-  inside-kind isString = inside-pick _ _ (λ h. (fits _ _ _ _ _ _ _ (omega arith) h, omega arith))
-  inside-kind isBitField = inside-pick _ _ (λ h. (fits _ _ _ _ _ _ _ (omega arith) h, omega arith))
-  inside-kind isReference = inside-pick _ _ (λ h. (fits _ _ _ _ _ _ _ (omega arith) h, omega arith))
-  inside-kind isOpaque =
-      inside-pick _ _ (λ h. let i = known (row 6 (wordAt table r 1) p (wordAt table r 3) 0 []) (wordAt table r 3) (length-row _ _ _ _ _ _ (omega arith)) h in (i .0, omega arith))
-  inside-kind isCompound = inside-pick _ _ (λ h. rowIs-fits table r _ (length-row _ _ _ _ _ _ (omega arith)) h)
-  inside-kind isEnumeration = inside-pick _ _ (λ h. rowIs-fits table r _ (length-row _ _ _ _ _ _ (omega arith)) h)
-  inside-kind isVariableLength = inside-pick _ _ (λ h. fits _ _ _ _ _ _ _ (omega arith) h)
-  inside-kind isArray =
-      inside-pick _ _ (λ h. known (row 11 0 p (wordAt table r 3) 0 []) (wordAt table r 3 * 4) (length-row _ _ _ _ _ _ (omega arith)) h)
+  unfolding entryOf leafEntry EntryInside compoundRow enumerationRow variableLengthRow arrayRow
+  inside-kind (isLeaf k) =
+      inside-pick _ _ (λ h. (rowIs-fits table r _ (length-leafRow p (wordAt table r 1) (leafAt table pool r p k)) (and-both _ _ (and-both (tagInside table pool r p k) _ h .1) .0), tag-behind k))
+  inside-kind isCompound = inside-pick _ _ (λ h. rowIs-fits table r _ (length-row _ _) h)
+  inside-kind isEnumeration = inside-pick _ _ (λ h. rowIs-fits table r _ (length-row _ _) h)
+  inside-kind isVariableLength = inside-pick _ _ (λ h. rowIs-fits table r _ (length-row _ _) (and-both _ _ h .0))
+  inside-kind isArray = inside-pick _ _ (λ h. known (arrayRow p (wordAt table r 3)) (wordAt table r 3 * 4) (length-row _ _) h)
   inside-kind isUnknown = tt
 
   pub entry-inside : EntryInside (entryAt table pool r p) (length table) (length pool) r p

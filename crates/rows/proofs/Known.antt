@@ -2,20 +2,20 @@
 use Prim.Native.Nat.{ℕ, suc, _+_, _-_, _*_, _/_, _<_, _≤_}
 use mathlib.Core.Path.{_≡_, refl, sym, _∙_}
 use mathlib.Core.Bool.{Bool, true, false, _&&_}
-use mathlib.Core.List.{List, []}
+use mathlib.Core.List.{List, [], _∷_}
 use native.Mathlib.Omega.{arith}
 use native.Mathlib.Nat.{mul-one}
 use lib.ListN.{length, getD}
 use lib.Dec.{leb, eqb}
 use borrow.Author.Tests.{leb-true, leb-false, le-leb, lt-leb}
-use Rattle.format.specs.Datatype.{Datatype, Members}
-use Rattle.format.specs.Table.{row, memberRow, enumMemberRow, Found, bad, Walk, kindOf, membersAt, enumNamesAt, typeAt}
-use Rattle.rows.specs.Entries.{wordAt, rowIs, pick, pickMember, entryOf, entryAt, memberAt, enumMemberAt, EntryInside, EntryIfKnown, MemberInside, MemberIfKnown, memberNameLength, enumMemberNameLength, fromEntry, fromMember, fromEnumMember}
+use Rattle.format.specs.Datatype.{leafClass, leafPool, Datatype, Members}
+use Rattle.format.specs.Table.{row, arrayRow, memberRow, enumMemberRow, Found, bad, Walk, kindOf, leafOf, membersAt, enumNamesAt, typeAt}
+use Rattle.rows.specs.Entries.{wordAt, rowIs, pick, pickMember, leafAt, leafEntry, entryOf, entryAt, memberAt, enumMemberAt, EntryInside, EntryIfKnown, MemberInside, MemberIfKnown, memberNameLength, enumMemberNameLength, fromEntry, fromMember, fromEnumMember}
 use Rattle.rows.specs.declared.Entry.{Entry}
 use Rattle.rows.specs.declared.Entry.the-variants.{Leaf, Compound, Enumeration, VariableLength, Array, Unknown}
 use Rattle.rows.specs.declared.Member.{Member}
 use Rattle.rows.specs.declared.Member.the-variants.{Named, Unnamed}
-use Rattle.rows.proofs.Decode.{entry-kind, typeAt-entry, membersAt-entry, enumNamesAt-entry}
+use Rattle.rows.proofs.Decode.{entry-kind, opaque-picked, typeAt-entry, membersAt-entry, enumNamesAt-entry}
 
 known-itself : (e : Entry) → EntryIfKnown e e
 unfolding EntryIfKnown
@@ -75,23 +75,23 @@ module _ (table pool : List ℕ) (r p : ℕ) where
     kind = getD table (r * 16) 0
 
     pub known-fixedPoint : kind ≡ 1 → Answered (Leaf 0 (wordAt table r 1) 0 (wordAt table r 5))
-    unfolding entryOf kindOf EntryInside
+    unfolding entryOf leafEntry leafAt leafOf leafClass leafPool kindOf EntryInside
     known-fixedPoint e = (rw (entry-kind table pool r p e) (known-tested _ _), (omega arith, omega arith))
 
     pub known-floatingPoint : kind ≡ 2 → Answered (Leaf 1 (wordAt table r 1) 0 (wordAt table r 5))
-    unfolding entryOf kindOf EntryInside
+    unfolding entryOf leafEntry leafAt leafOf leafClass leafPool kindOf EntryInside
     known-floatingPoint e = (rw (entry-kind table pool r p e) (known-tested _ _), (omega arith, omega arith))
 
     pub known-time : kind ≡ 3 → Answered (Leaf 2 (wordAt table r 1) 0 (wordAt table r 5))
-    unfolding entryOf kindOf EntryInside
+    unfolding entryOf leafEntry leafAt leafOf leafClass leafPool kindOf EntryInside
     known-time e = (rw (entry-kind table pool r p e) (known-tested _ _), (omega arith, omega arith))
 
     pub known-string : kind ≡ 4 → Answered (Leaf 3 (wordAt table r 1) 0 (wordAt table r 5))
-    unfolding entryOf kindOf EntryInside
+    unfolding entryOf leafEntry leafAt leafOf leafClass leafPool kindOf EntryInside
     known-string e = (rw (entry-kind table pool r p e) (known-tested _ _), (omega arith, omega arith))
 
     pub known-bitField : kind ≡ 5 → Answered (Leaf 4 (wordAt table r 1) 0 (wordAt table r 5))
-    unfolding entryOf kindOf EntryInside
+    unfolding entryOf leafEntry leafAt leafOf leafClass leafPool kindOf EntryInside
     known-bitField e = (rw (entry-kind table pool r p e) (known-tested _ _), (omega arith, omega arith))
 
     pub known-compound : kind ≡ 7 → Answered (Compound (wordAt table r 1) (wordAt table r 4))
@@ -99,7 +99,7 @@ module _ (table pool : List ℕ) (r p : ℕ) where
     known-compound e = (rw (entry-kind table pool r p e) (known-tested _ _), omega arith)
 
     pub known-reference : kind ≡ 8 → Answered (Leaf 7 (wordAt table r 1) 0 (wordAt table r 5))
-    unfolding entryOf kindOf EntryInside
+    unfolding entryOf leafEntry leafAt leafOf leafClass leafPool kindOf EntryInside
     known-reference e = (rw (entry-kind table pool r p e) (known-tested _ _), (omega arith, omega arith))
 
     pub known-enumeration : kind ≡ 9 → Answered (Enumeration (wordAt table r 1) (wordAt table r 4))
@@ -115,13 +115,13 @@ module _ (table pool : List ℕ) (r p : ℕ) where
     unfolding entryOf kindOf EntryInside
     known-opaque e f g =
         let i : EntryInside (pick (leb (p + wordAt table r 3) (length pool)) (Leaf 5 (wordAt table r 1) (wordAt table r 3) (wordAt table r 5))) (length table) (length pool) r p = piece-inside _ _ _ _ _ _ (λ t. (omega arith, omega (arith, leb-true (p + wordAt table r 3) (length pool) t))) in
-        rw (f, g, mul-one) (rw (entry-kind table pool r p e) (known-part (rowIs table r (row 6 (wordAt table r 1) p (wordAt table r 3) 0 [])) _ _), i)
+        rw (f, g, mul-one) (rw (entry-kind table pool r p e, opaque-picked) (known-part (rowIs table r (row 6 ((1, wordAt table r 1) ∷ (2, p) ∷ (3, wordAt table r 3) ∷ []))) _ _), i)
 
     pub known-array : {x : Entry} {b : Bool} → kind ≡ 11 → x ≡ pick b (Array (wordAt table r 3)) → b ≡ leb (p + wordAt table r 3 * 4) (length pool) → Answered x
     unfolding entryOf kindOf EntryInside
     known-array e f g =
         let i : EntryInside (pick (leb (p + wordAt table r 3 * 4) (length pool)) (Array (wordAt table r 3))) (length table) (length pool) r p = piece-inside _ _ _ _ _ _ (λ t. (omega arith, leb-true _ _ t)) in
-        rw (f, g) (rw (entry-kind table pool r p e) (known-part (rowIs table r (row 11 0 p (wordAt table r 3) 0 [])) _ _), i)
+        rw (f, g) (rw (entry-kind table pool r p e) (known-part (rowIs table r (arrayRow p (wordAt table r 3))) _ _), i)
 
     pub known-member : {x : Member} {b : Bool} → x ≡ pickMember b (Named (wordAt table r 1) (wordAt table r 3)) → b ≡ leb (p + wordAt table r 3 * 1) (length pool)
         → MemberIfKnown (memberAt table pool r p) x × MemberInside x (length table) (length pool) r p (memberNameLength x)

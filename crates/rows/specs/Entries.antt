@@ -6,8 +6,9 @@ use mathlib.Core.List.{List, [], _∷_}
 use lib.ListN.{length, getD, take, drop}
 use lib.Dec.{leb, ltb}
 use Rattle.format.specs.Bytes.{dimensionsFrom}
-use Rattle.format.specs.Datatype.{Datatype, fixedPoint, floatingPoint, time, string, bitField, opaque, compound, reference, enumeration, variableLength, array, Members, member}
-use Rattle.format.specs.Table.{row, memberRow, enumMemberRow, Found, found, bad, Walk, andThen, wordsAt, sameWords, Kind, isFixedPoint, isFloatingPoint, isTime, isString, isBitField, isOpaque, isCompound, isReference, isEnumeration, isVariableLength, isArray, isUnknown, kindOf, membersAt, enumNamesAt, enumValuesAt}
+use Rattle.format.specs.Columns.{kindColumn, sizeColumn, memberOffsetColumn, lengthColumn, countColumn, valueLengthColumn, codeColumn, isStringColumn, variablePaddingColumn, variableCharsetColumn}
+use Rattle.format.specs.Datatype.{Leaf as LeafType, leafClass, leafPool, Datatype, leaf, compound, enumeration, variableLength, array, Members, member}
+use Rattle.format.specs.Table.{leafRow, compoundRow, enumerationRow, variableLengthRow, arrayRow, memberRow, enumMemberRow, leafKnown, Found, found, bad, Walk, andThen, wordsAt, sameWords, LeafKind, isFixedPoint, isFloatingPoint, isTime, isString, isBitField, isOpaque, isReference, Kind, isLeaf, isCompound, isEnumeration, isVariableLength, isArray, isUnknown, leafOf, kindOf, membersAt, enumNamesAt, enumValuesAt}
 use Rattle.rows.specs.declared.Entry.{Entry}
 use Rattle.rows.specs.declared.Entry.the-variants.{Leaf, Compound, Enumeration, VariableLength, Array, Unknown}
 use Rattle.rows.specs.declared.Member.{Member}
@@ -26,24 +27,43 @@ unfoldable pub pick : Bool → Entry → Entry
 pick true e = e
 pick false e = Unknown
 
+-- the leaf of a kind that row r says, its tag at p
+unfoldable pub leafAt : (table pool : List ℕ) (r p : ℕ) → LeafKind → LeafType
+leafAt table pool r p k = leafOf (wordAt table r) (take (wordAt table r lengthColumn) (drop p pool)) k
+
+-- its tag lies in the pool; only an opaque has one
+unfoldable pub tagInside : (table pool : List ℕ) (r p : ℕ) → LeafKind → Bool
+tagInside table pool r p isFixedPoint = true
+tagInside table pool r p isFloatingPoint = true
+tagInside table pool r p isTime = true
+tagInside table pool r p isString = true
+tagInside table pool r p isBitField = true
+tagInside table pool r p isOpaque = leb (p + wordAt table r lengthColumn) (length pool)
+tagInside table pool r p isReference = true
+
+-- the entry of a row that says leaf x: class, size, length of the tag, code
+unfoldable pub leafEntry : (table : List ℕ) (r : ℕ) → LeafType → Entry
+leafEntry table r x = Leaf (leafClass x) (wordAt table r sizeColumn) (length (leafPool x)) (wordAt table r codeColumn)
+
 -- the entry of a row of a kind
 unfoldable pub entryOf : (table pool : List ℕ) (r p : ℕ) → Kind → Entry
-entryOf table pool r p isFixedPoint = pick (rowIs table r (row 1 (wordAt table r 1) 0 0 0 (wordAt table r 5 ∷ wordAt table r 6 ∷ wordAt table r 7 ∷ wordAt table r 8 ∷ [])) && (ltb (wordAt table r 5) 3 && ltb (wordAt table r 6) 2)) (Leaf 0 (wordAt table r 1) 0 (wordAt table r 5))
-entryOf table pool r p isFloatingPoint = pick (rowIs table r (row 2 (wordAt table r 1) 0 0 0 (wordAt table r 5 ∷ 0 ∷ wordAt table r 7 ∷ wordAt table r 8 ∷ wordAt table r 9 ∷ wordAt table r 10 ∷ wordAt table r 11 ∷ wordAt table r 12 ∷ wordAt table r 13 ∷ [])) && ltb (wordAt table r 5) 3) (Leaf 1 (wordAt table r 1) 0 (wordAt table r 5))
-entryOf table pool r p isTime = pick (rowIs table r (row 3 (wordAt table r 1) 0 0 0 (wordAt table r 5 ∷ 0 ∷ 0 ∷ wordAt table r 8 ∷ [])) && ltb (wordAt table r 5) 3) (Leaf 2 (wordAt table r 1) 0 (wordAt table r 5))
-entryOf table pool r p isString = pick (rowIs table r (row 4 (wordAt table r 1) 0 0 0 (wordAt table r 5 ∷ wordAt table r 6 ∷ [])) && (ltb (wordAt table r 5) 3 && ltb (wordAt table r 6) 2)) (Leaf 3 (wordAt table r 1) 0 (wordAt table r 5))
-entryOf table pool r p isBitField = pick (rowIs table r (row 5 (wordAt table r 1) 0 0 0 (wordAt table r 5 ∷ 0 ∷ wordAt table r 7 ∷ wordAt table r 8 ∷ [])) && ltb (wordAt table r 5) 3) (Leaf 4 (wordAt table r 1) 0 (wordAt table r 5))
-entryOf table pool r p isOpaque = pick (rowIs table r (row 6 (wordAt table r 1) p (wordAt table r 3) 0 []) && leb (p + wordAt table r 3) (length pool)) (Leaf 5 (wordAt table r 1) (wordAt table r 3) (wordAt table r 5))
-entryOf table pool r p isCompound = pick (rowIs table r (row 7 (wordAt table r 1) 0 0 (wordAt table r 4) [])) (Compound (wordAt table r 1) (wordAt table r 4))
-entryOf table pool r p isReference = pick (rowIs table r (row 8 (wordAt table r 1) 0 0 0 (wordAt table r 5 ∷ [])) && ltb (wordAt table r 5) 2) (Leaf 7 (wordAt table r 1) 0 (wordAt table r 5))
-entryOf table pool r p isEnumeration = pick (rowIs table r (row 9 (wordAt table r 1) 0 0 (wordAt table r 4) [])) (Enumeration (wordAt table r 1) (wordAt table r 4))
-entryOf table pool r p isVariableLength = pick (rowIs table r (row 10 0 0 0 0 (wordAt table r 5 ∷ wordAt table r 6 ∷ wordAt table r 7 ∷ [])) && (ltb (wordAt table r 5) 2 && (ltb (wordAt table r 6) 4 && ltb (wordAt table r 7) 3))) (VariableLength (wordAt table r 5) (wordAt table r 6) (wordAt table r 7))
-entryOf table pool r p isArray = pick (rowIs table r (row 11 0 p (wordAt table r 3) 0 []) && leb (p + wordAt table r 3 * 4) (length pool)) (Array (wordAt table r 3))
+entryOf table pool r p (isLeaf k) =
+    pick (tagInside table pool r p k && (rowIs table r (leafRow p (wordAt table r sizeColumn) (leafAt table pool r p k)) && leafKnown (leafAt table pool r p k)))
+    (leafEntry table r (leafAt table pool r p k))
+entryOf table pool r p isCompound =
+    pick (rowIs table r (compoundRow (wordAt table r sizeColumn) (wordAt table r countColumn))) (Compound (wordAt table r sizeColumn) (wordAt table r countColumn))
+entryOf table pool r p isEnumeration =
+    pick (rowIs table r (enumerationRow (wordAt table r sizeColumn) (wordAt table r countColumn))) (Enumeration (wordAt table r sizeColumn) (wordAt table r countColumn))
+entryOf table pool r p isVariableLength =
+    pick (rowIs table r (variableLengthRow (wordAt table r isStringColumn) (wordAt table r variablePaddingColumn) (wordAt table r variableCharsetColumn)) && (ltb (wordAt table r isStringColumn) 2 && (ltb (wordAt table r variablePaddingColumn) 4 && ltb (wordAt table r variableCharsetColumn) 3)))
+    (VariableLength (wordAt table r isStringColumn) (wordAt table r variablePaddingColumn) (wordAt table r variableCharsetColumn))
+entryOf table pool r p isArray =
+    pick (rowIs table r (arrayRow p (wordAt table r lengthColumn)) && leb (p + wordAt table r lengthColumn * 4) (length pool)) (Array (wordAt table r lengthColumn))
 entryOf table pool r p isUnknown = Unknown
 
 -- the row of a type, its pool bytes beginning at p
 unfoldable pub entryAt : (table pool : List ℕ) (r p : ℕ) → Entry
-entryAt table pool r p = entryOf table pool r p (kindOf (wordAt table r 0))
+entryAt table pool r p = entryOf table pool r p (kindOf (wordAt table r kindColumn))
 
 unfoldable pub pickMember : Bool → Member → Member
 pickMember true m = m
@@ -51,11 +71,15 @@ pickMember false m = Unnamed
 
 -- the row of a compound's member, its name at p: offset, length of the name
 unfoldable pub memberAt : (table pool : List ℕ) (r p : ℕ) → Member
-memberAt table pool r p = pickMember (rowIs table r (memberRow p (wordAt table r 1) (wordAt table r 3)) && leb (p + wordAt table r 3) (length pool)) (Named (wordAt table r 1) (wordAt table r 3))
+memberAt table pool r p =
+    pickMember (rowIs table r (memberRow p (wordAt table r memberOffsetColumn) (wordAt table r lengthColumn)) && leb (p + wordAt table r lengthColumn) (length pool))
+    (Named (wordAt table r memberOffsetColumn) (wordAt table r lengthColumn))
 
 -- the row of an enumeration's member, its name at p: length of the name, length of the value
 unfoldable pub enumMemberAt : (table pool : List ℕ) (r p : ℕ) → Member
-enumMemberAt table pool r p = pickMember (rowIs table r (enumMemberRow p (wordAt table r 3) (wordAt table r 4)) && leb (p + wordAt table r 3) (length pool)) (Named (wordAt table r 3) (wordAt table r 4))
+enumMemberAt table pool r p =
+    pickMember (rowIs table r (enumMemberRow p (wordAt table r lengthColumn) (wordAt table r valueLengthColumn)) && leb (p + wordAt table r lengthColumn) (length pool))
+    (Named (wordAt table r lengthColumn) (wordAt table r valueLengthColumn))
 
 -- a row that was known lies in the table, and its piece in the pool
 unfoldable pub EntryInside : Entry → (words bytes r p : ℕ) → Type 0
@@ -92,19 +116,13 @@ unfoldable pub MemberInside : Member → (words bytes r p length : ℕ) → Type
 MemberInside (Named x y) words bytes r p n = (r * 16 + 16 ≤ words) × (p + n ≤ bytes)
 MemberInside Unnamed words bytes r p n = Unit {0}
 
+-- a leaf's kind, by its class
+unfoldable pub leafKindOf : (class : ℕ) → LeafKind
+leafKindOf c = getD (isFixedPoint ∷ isFloatingPoint ∷ isTime ∷ isString ∷ isBitField ∷ isOpaque ∷ []) c isReference
+
 -- a leaf's type, by its class
 unfoldable pub leafType : (table pool : List ℕ) (r p class : ℕ) → Datatype
-leafType table pool r p c =
-    getD
-    (fixedPoint (wordAt table r 1) (wordAt table r 5) (wordAt table r 6) (wordAt table r 7) (wordAt table r 8)
-    ∷ floatingPoint (wordAt table r 1) (wordAt table r 5) (wordAt table r 7) (wordAt table r 8) (wordAt table r 9) (wordAt table r 10) (wordAt table r 11) (wordAt table r 12) (wordAt table r 13)
-    ∷ time (wordAt table r 1) (wordAt table r 5) (wordAt table r 8)
-    ∷ string (wordAt table r 1) (wordAt table r 5) (wordAt table r 6)
-    ∷ bitField (wordAt table r 1) (wordAt table r 5) (wordAt table r 7) (wordAt table r 8)
-    ∷ opaque (wordAt table r 1) (take (wordAt table r 3) (drop p pool))
-    ∷ [])
-    c
-    (reference (wordAt table r 1) (wordAt table r 5))
+leafType table pool r p c = leaf (wordAt table r sizeColumn) (leafAt table pool r p (leafKindOf c))
 
 -- the walk by entries: law `typeAt-entry` says that it is `typeAt`
 unfoldable pub fromEntry : Walk Datatype → (table pool : List ℕ) (r p : ℕ) → Entry → Found Datatype

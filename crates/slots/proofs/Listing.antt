@@ -10,12 +10,12 @@ use lib.ListN.{length, take, drop, set}
 use lib.Dec.{eqb}
 use borrow.Author.Tests.{ne-eqb, not-true, not-false}
 use Rattle.format.specs.Bytes.{dimensionsFrom}
-use Rattle.format.specs.Datatype.{Datatype, fixedPoint, floatingPoint, time, string, bitField, opaque, compound, reference, enumeration, variableLength, array, Members, noMembers, member, product, typeSize}
+use Rattle.format.specs.Datatype.{Datatype, leaf, compound, enumeration, variableLength, array, Members, noMembers, member, product, typeSize}
 use Rattle.format.specs.Sizes.{holdsObjectAddress, memberHoldsObjectAddress}
 use Rattle.format.specs.Slots.{isSlot, shifted, entries, slots, memberSlots, holdsOtherReference, holdsHiddenReference, firstZero}
 use Rattle.format.specs.Table.{Found, found, bad, Walk, andThen, typeAt, membersAt}
 use Rattle.format.proofs.Booleans.{or-neither}
-use Rattle.format.proofs.Slots.{length-slots, first-zero-size, no-slot-no-reference, or-else-none}
+use Rattle.format.proofs.Slots.{refers-within, length-slots, first-zero-size, no-slot-no-reference, or-else-none}
 use Rattle.rows.specs.Entries.{entryAt, leafType, fromEntry}
 use Rattle.rows.specs.declared.Entry.{Entry}
 use Rattle.rows.specs.declared.Entry.the-variants.{Leaf, Compound, Enumeration, VariableLength, Array, Unknown}
@@ -45,14 +45,8 @@ mutual
   unfolding slots holdsObjectAddress
 
   no-slots : (t : Datatype) → holdsObjectAddress t ≡ false → slots t ≡ []
-  no-slots (fixedPoint n o s f q) h = refl
-  no-slots (floatingPoint n o f q el es ml ms b) h = refl
-  no-slots (time n o q) h = refl
-  no-slots (string n a d) h = refl
-  no-slots (bitField n o f q) h = refl
-  no-slots (opaque n g) h = refl
+  no-slots (leaf n x) h = rw (refers-within (isSlot n) x, h)
   no-slots (compound n ms) h = no-member-slots ms h
-  no-slots (reference n k) h = let z : _≡_ {A = ℕ} 0 1 = cc in absurd (omega arith)
   no-slots (enumeration n t ms) h = refl
   no-slots (variableLength i a d t) h = refl
   no-slots (array ds t) h = rw (no-slots t h) (entries-none (typeSize t) 0 (product ds))
@@ -92,23 +86,12 @@ module _ (rd : Walk Datatype) (table pool : List ℕ) (r p : ℕ) where
 
 -- what a leaf's row says of its type
 unfoldable LeafTold : (k n l x : ℕ) → Datatype → Type 0
-LeafTold k n l x t = (slots t ≡ cond (eqb k 7) (cond (isSlot n x) (0 ∷ []) []) []) × (holdsOtherReference t ≡ (eqb k 7 && not (isSlot n x)))
+LeafTold k n l x t = (slots t ≡ cond (eqb k 7 && isSlot n x) (0 ∷ []) []) × (holdsOtherReference t ≡ (eqb k 7 && not (isSlot n x)))
 
 module _ (table pool : List ℕ) (r p : ℕ) where
   leaf-told : {k n l x : ℕ} {e : Entry} → e ≡ entryAt table pool r p → e ≡ Leaf k n l x → LeafTold k n l x (leafType table pool r p k)
   unfolding LeafTold slots holdsOtherReference
-  leaf-told =
-      leaf-law table pool r p LeafTold (
-      record {
-        of-fixedPoint = (refl, refl);
-        of-floatingPoint = (refl, refl);
-        of-time = (refl, refl);
-        of-string = (refl, refl);
-        of-bitField = (refl, refl);
-        of-opaque = λ i. (refl, refl);
-        of-reference = (refl, refl);
-      }
-      )
+  leaf-told q e = let h = leaf-law table pool r p q e in (rw (h .is, h .refers-by), rw (h .is, h .refers-by))
 
   leaf-empty : {k n l x : ℕ} {e : Entry} → e ≡ entryAt table pool r p → e ≡ Leaf k n l x → (k ≡ 7 → ⊥) → slots (leafType table pool r p k) ≡ []
   unfolding LeafTold

@@ -2,7 +2,8 @@
 use Prim.Native.Nat.{ℕ, suc, _+_, _-_, _*_, _<_, _≤_, min, max}
 use mathlib.Core.Path.{_≡_, refl, sym, ap, _∙_}
 use mathlib.Core.Logic.{⊎-elim}
-use mathlib.Core.Bool.{Bool, true, false, cond, not, _||_}
+use mathlib.Core.Bool.{Bool, true, false, cond, not, _&&_, _||_, or-false}
+use lib.Dec.{eqb}
 use mathlib.Core.List.{List}
 use mathlib.Core.Option.{none}
 use native.Mathlib.Omega.{arith}
@@ -10,14 +11,14 @@ use native.Mathlib.Nat.{one-mul}
 use native.Mathlib.Numerals.{add-one}
 use lib.ListN.{take, drop}
 use Rattle.format.specs.Bytes.{dimensionsFrom}
-use Rattle.format.specs.Datatype.{Datatype, fixedPoint, floatingPoint, time, string, bitField, opaque, compound, reference, enumeration, variableLength, array, EnumMember, Members, noMembers, member, product, typeSize}
+use Rattle.format.specs.Datatype.{Datatype, leaf, compound, enumeration, variableLength, array, EnumMember, Members, noMembers, member, product, typeSize}
 use Rattle.format.specs.Sizes.{holdsObjectAddress, memberHoldsObjectAddress}
 use Rattle.format.specs.Slots.{isSlot, slotCount, memberSlotCount, lastEnd, movedEnd, slotEnd, memberSlotEnd, holdsOtherReference, memberHoldsOtherReference, holdsHiddenReference, memberHoldsHiddenReference, firstZero, memberFirstZero}
 use Rattle.format.specs.Table.{Found, found, bad, Walk, andThen, typeAt, membersAt}
-use Rattle.format.proofs.Booleans.{or-either, or-second}
-use Rattle.format.proofs.Slots.{first-zero-size, or-else-none}
+use Rattle.format.proofs.Booleans.{and-both, or-either, or-second}
+use Rattle.format.proofs.Slots.{refers-within, first-zero-size, or-else-none}
 use Rattle.format.proofs.TableSteps.{then-found}
-use Rattle.rows.specs.Entries.{wordAt, entryAt, memberAt, leafType, fromEntry, fromMember}
+use Rattle.rows.specs.Entries.{entryAt, memberAt, leafType, fromEntry, fromMember}
 use Rattle.rows.specs.declared.Entry.{Entry}
 use Rattle.rows.specs.declared.Entry.the-variants.{Leaf, Compound, Enumeration, VariableLength, Array, Unknown}
 use Rattle.rows.specs.declared.Member.{Member}
@@ -37,28 +38,19 @@ use Rattle.slots.specs.declared.Tallied.the-variants.{At, Lost}
 
 -- ---- a leaf
 
-one-slot : (b : Bool) (r p : ℕ)
-    → At (record { row = r; place = p; unmapped = not b; count = cond b 1 0; end = cond b 8 0 })
-    ≡ At (record { row = r; place = p; unmapped = not b || false; count = mostSlots (cond b 1 0); end = mostEnd (cond b 8 0) })
-one-slot true r p = refl
-one-slot false r p = refl
+one-slot : (u b : Bool) (r p : ℕ)
+    → At (record { row = r; place = p; unmapped = u; count = cond b 1 0; end = cond b 8 0 })
+    ≡ At (record { row = r; place = p; unmapped = u || false; count = mostSlots (cond b 1 0); end = mostEnd (cond b 8 0) })
+one-slot u true r p = rw or-false
+one-slot u false r p = rw or-false
 
 module _ (table pool : List ℕ) (r p : ℕ) where
   -- what a leaf's row says of its type
   leaf-told : {k n l x : ℕ} {e : Entry} → e ≡ entryAt table pool r p → e ≡ Leaf k n l x → CountedAs (found (leafType table pool r p k) (suc r) (p + l)) (At (leafTally k n x (suc r) (p + l)))
   unfolding CountedAs leafTally holdsOtherReference holdsHiddenReference slotCount slotEnd
-  leaf-told =
-      leaf-law table pool r p (λ k n l x t. CountedAs (found t (suc r) (p + l)) (At (leafTally k n x (suc r) (p + l)))) (
-      record {
-        of-fixedPoint = λ z. refl;
-        of-floatingPoint = λ z. refl;
-        of-time = λ z. refl;
-        of-string = λ z. refl;
-        of-bitField = λ z. refl;
-        of-opaque = λ i z. refl;
-        of-reference = λ z. one-slot (isSlot (wordAt table r 1) (wordAt table r 5)) (suc r) (p + 0);
-      }
-      )
+  leaf-told {k = k} {n = n} {x = x} q e =
+      let h = leaf-law table pool r p q e in
+      rw (h .is) (λ z. rw (h .refers-by, h .refers-by) (one-slot (eqb k 7 && not (isSlot n x)) (eqb k 7 && isSlot n x) (suc r) _))
 
 -- ---- a type below which no slot is
 
@@ -66,14 +58,8 @@ mutual
   unfolding holdsOtherReference holdsObjectAddress
 
   other-held : (t : Datatype) → holdsOtherReference t ≡ true → holdsObjectAddress t ≡ true
-  other-held (fixedPoint n o s f q) h = h
-  other-held (floatingPoint n o f q el es ml ms b) h = h
-  other-held (time n o q) h = h
-  other-held (string n a d) h = h
-  other-held (bitField n o f q) h = h
-  other-held (opaque n g) h = h
+  other-held (leaf n x) h = and-both _ _ (sym (refers-within _ x) ∙ h) .0
   other-held (compound n ms) h = member-other-held ms h
-  other-held (reference n k) h = refl
   other-held (enumeration n t ms) h = other-held t h
   other-held (variableLength i a d t) h = other-held t h
   other-held (array ds t) h = other-held t h

@@ -8,12 +8,12 @@ use lib.ListN.{length, getD, List·getD-append}
 use borrow.Author.Tests.{lt-ltb}
 use Rattle.refusal.specs.declared.Refusal.the-variants.{BadTable, ZeroSize}
 use Rattle.format.specs.Bytes.{padded}
-use Rattle.format.specs.Datatype.{Datatype, fixedPoint, floatingPoint, time, string, bitField, opaque, compound, reference, enumeration, variableLength, array, rowCount, typeSize, classNumber}
+use Rattle.format.specs.Datatype.{Datatype, leaf, compound, enumeration, variableLength, array, rowCount, typeSize, classNumber}
 use Rattle.format.specs.Outcome.{Outcome, gives, refuses, whenGiven, unless, outcomeNumber, outcomeValues}
 use Rattle.format.specs.Sizes.{sizing, elementSizing, objectAddressHeld, fileAddressHeld, holdsObjectAddress, holdsFileAddress}
-use Rattle.format.specs.Table.{rows, row, found}
+use Rattle.format.specs.Table.{row, leafRow, compoundRow, enumerationRow, variableLengthRow, arrayRow, rows, found}
 use Rattle.format.proofs.Bytes.{all-bytes}
-use Rattle.format.proofs.Rows.{length-rows}
+use Rattle.format.proofs.Rows.{leafClass-low, length-rows}
 use Rattle.format.proofs.Table.{typeOf-sound}
 use Rattle.table.specs.Survey.{Checks, sizedNumber, sizedValues, sizedOf, SizedAs, heldNumber, heldValues, heldOf, yesOrNo, HeldAs}
 use Rattle.table.specs.declared.Survey.{Survey}
@@ -27,43 +27,25 @@ use Rattle.table.proofs.Surveys.{Says, Told, told}
 
 -- the first word of a type's rows is its class + 1
 rows-first : (p : ℕ) (t : Datatype) → getD (rows p t) 0 0 ≡ suc (classNumber t)
-unfolding rows row classNumber
-rows-first p (fixedPoint n o s f q) = refl
-rows-first p (floatingPoint n o f q el es ml ms x) = refl
-rows-first p (time n o q) = refl
-rows-first p (string n a k) = refl
-rows-first p (bitField n o f q) = refl
-rows-first p (opaque n g) = refl
+unfolding rows leafRow compoundRow enumerationRow variableLengthRow arrayRow row classNumber
+rows-first p (leaf n x) = refl
 rows-first p (compound n ms) = refl
-rows-first p (reference n k) = refl
 rows-first p (enumeration n t ms) = refl
 rows-first p (variableLength i a k t) = refl
 rows-first p (array ds t) = refl
 
 class-small : (t : Datatype) → classNumber t ≤ 10
 unfolding classNumber
-class-small (fixedPoint n o s f q) = omega arith
-class-small (floatingPoint n o f q el es ml ms x) = omega arith
-class-small (time n o q) = omega arith
-class-small (string n a k) = omega arith
-class-small (bitField n o f q) = omega arith
-class-small (opaque n g) = omega arith
+class-small (leaf n x) = omega (arith, leafClass-low x)
 class-small (compound n ms) = omega arith
-class-small (reference n k) = omega arith
 class-small (enumeration n t ms) = omega arith
 class-small (variableLength i a k t) = omega arith
 class-small (array ds t) = omega arith
 
 rows-some : (t : Datatype) → 0 < rowCount t
 unfolding rowCount
-rows-some (fixedPoint n o s f q) = omega arith
-rows-some (floatingPoint n o f q el es ml ms x) = omega arith
-rows-some (time n o q) = omega arith
-rows-some (string n a k) = omega arith
-rows-some (bitField n o f q) = omega arith
-rows-some (opaque n g) = omega arith
+rows-some (leaf n x) = omega arith
 rows-some (compound n ms) = omega arith
-rows-some (reference n k) = omega arith
 rows-some (enumeration n t ms) = omega arith
 rows-some (variableLength i a k t) = omega arith
 rows-some (array ds t) = omega arith

@@ -9,10 +9,10 @@ use mir.Syntax.{w64}
 use mir.Val.{Fits}
 use lib.Seq.{drop-at, drop-append-le, drop-drop, getD-drop}
 use Rattle.format.specs.Bytes.{dimensionBytes, padded, zeros}
-use Rattle.format.specs.Datatype.{Datatype, fixedPoint, floatingPoint, time, string, bitField, opaque, compound, reference, enumeration, variableLength, array, Members, noMembers, member, EnumMember, memberCount, rowCount, memberRowCount, poolBytes, memberPool, enumNames, enumValues}
-use Rattle.format.specs.Table.{row, memberRow, enumMemberRow, rows, memberRows, enumRows, SetsOut}
+use Rattle.format.specs.Datatype.{Datatype, leaf, compound, enumeration, variableLength, array, Members, noMembers, member, EnumMember, memberCount, rowCount, memberRowCount, poolBytes, memberPool, enumNames, enumValues}
+use Rattle.format.specs.Table.{row, leafRow, compoundRow, enumerationRow, variableLengthRow, arrayRow, memberRow, enumMemberRow, rows, memberRows, enumRows, SetsOut}
 use Rattle.format.proofs.Bytes.{all-bytes}
-use Rattle.format.proofs.Rows.{length-row, length-memberRow, length-enumMemberRow, length-rows}
+use Rattle.format.proofs.Rows.{leafClass-low, length-row, length-memberRow, length-enumMemberRow, length-rows}
 use Rattle.format.proofs.Table.{typeOf-sound}
 use Rattle.table.specs.Names.{Part, nameParts, memberNameParts, enumNameParts, partOf, placeOf, nameIn, nameOf, placeIn, namePlace, further, PartIs}
 use Rattle.table.specs.Survey.{Checks}
@@ -61,14 +61,8 @@ mutual
   unfolding nameParts rowCount
 
   pub length-parts : (t : Datatype) (p : ℕ) → length (nameParts p t) ≡ rowCount t
-  length-parts (fixedPoint n o s f q) p = refl
-  length-parts (floatingPoint n o f q el es ml ms x) p = refl
-  length-parts (time n o q) p = refl
-  length-parts (string n a k) p = refl
-  length-parts (bitField n o f q) p = refl
-  length-parts (opaque n g) p = refl
+  length-parts (leaf n x) p = refl
   length-parts (compound n ms) p = ap suc (length-memberParts ms p)
-  length-parts (reference n k) p = refl
   length-parts (enumeration n t ms) p = ap suc (length-append (nameParts p t) _ ∙ rw (length-parts t p, length-enumParts))
   length-parts (variableLength i a k t) p = ap suc (length-parts t p)
   length-parts (array ds t) p = ap suc (length-parts t (p + length (dimensionBytes ds)))
@@ -84,13 +78,13 @@ module _ (e : ℕ) where
   unfolding RowsName
   rows-none = tt
 
-  row-type : (k s p l c : ℕ) (rest : List ℕ) → k < 12 → RowNames e none (row k s p l c rest)
+  row-type : (k : ℕ) (xs : List (ℕ × ℕ)) → k < 12 → RowNames e none (row k xs)
   unfolding RowNames row
-  row-type k s p l c rest h = h
+  row-type k xs h = h
 
-  row-leaf : (k s p l c : ℕ) (rest : List ℕ) → k < 12 → RowsName e (none ∷ []) (row k s p l c rest)
+  row-leaf : (k : ℕ) (xs : List (ℕ × ℕ)) → k < 12 → RowsName e (none ∷ []) (row k xs)
   unfolding RowsName
-  row-leaf k s p l c rest h = (row-type k s p l c rest h, tt)
+  row-leaf k xs h = (row-type k xs h, tt)
 
   row-member : (p o n : ℕ) → p + n ≤ e → RowNames e (some (record { place = p; long = n })) (memberRow p o n)
   unfolding RowNames memberRow row
@@ -111,26 +105,20 @@ module _ (e : ℕ) where
   as-long t p = length-rows t p ∙ rw (length-parts t p)
 
   mutual
-    unfolding nameParts rows poolBytes
+    unfolding nameParts rows leafRow compoundRow enumerationRow variableLengthRow arrayRow poolBytes
 
     type-names : (t : Datatype) (p : ℕ) → p + length (poolBytes t) ≤ e → RowsName e (nameParts p t) (rows p t)
-    type-names (fixedPoint n o s f q) p h = row-leaf _ _ _ _ _ _ (omega arith)
-    type-names (floatingPoint n o f q el es ml ms x) p h = row-leaf _ _ _ _ _ _ (omega arith)
-    type-names (time n o q) p h = row-leaf _ _ _ _ _ _ (omega arith)
-    type-names (string n a k) p h = row-leaf _ _ _ _ _ _ (omega arith)
-    type-names (bitField n o f q) p h = row-leaf _ _ _ _ _ _ (omega arith)
-    type-names (opaque n g) p h = row-leaf _ _ _ _ _ _ (omega arith)
-    type-names (compound n ms) p h = rows-cons e none _ _ _ (length-row 7 n 0 0 (memberCount ms) [] (omega arith)) (row-type _ _ _ _ _ _ (omega arith)) (member-names ms p h)
-    type-names (reference n k) p h = row-leaf _ _ _ _ _ _ (omega arith)
+    type-names (leaf n x) p h = row-leaf _ _ (omega (arith, leafClass-low x))
+    type-names (compound n ms) p h = rows-cons e none _ _ _ (length-row _ _) (row-type _ _ (omega arith)) (member-names ms p h)
     type-names (enumeration n t ms) p h =
         let l = length-append (poolBytes t) (enumNames ms ++ enumValues ms) in
         let k = length-append (enumNames ms) (enumValues ms) in
-        rows-cons e none _ _ _ (length-row 9 n 0 0 (length ms) [] (omega arith)) (row-type _ _ _ _ _ _ (omega arith))
+        rows-cons e none _ _ _ (length-row _ _) (row-type _ _ (omega arith))
         (rows-append e _ _ _ _ (as-long t p) (type-names t p (omega arith)) (enum-names ms (p + length (poolBytes t)) (omega arith)))
-    type-names (variableLength i a k t) p h = rows-cons e none _ _ _ (length-row 10 0 0 0 0 (i ∷ a ∷ k ∷ []) (omega arith)) (row-type _ _ _ _ _ _ (omega arith)) (type-names t p h)
+    type-names (variableLength i a k t) p h = rows-cons e none _ _ _ (length-row _ _) (row-type _ _ (omega arith)) (type-names t p h)
     type-names (array ds t) p h =
         let l = length-append (dimensionBytes ds) (poolBytes t) in
-        rows-cons e none _ _ _ (length-row 11 0 p (length ds) 0 [] (omega arith)) (row-type _ _ _ _ _ _ (omega arith)) (type-names t (p + length (dimensionBytes ds)) (omega arith))
+        rows-cons e none _ _ _ (length-row _ _) (row-type _ _ (omega arith)) (type-names t (p + length (dimensionBytes ds)) (omega arith))
 
     member-names : (ms : Members) (p : ℕ) → p + length (memberPool ms) ≤ e → RowsName e (memberNameParts p ms) (memberRows p ms)
     member-names noMembers p h = rows-none

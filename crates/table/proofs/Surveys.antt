@@ -1,7 +1,7 @@
 -- The walk over a type's rows, one law for each way out of it.
 use Prim.Native.Nat.{ℕ, zero, suc, _+_, _-_, _*_, _<_, _≤_, min}
 use mathlib.Core.Path.{_≡_, refl, sym, ap, _∙_}
-use mathlib.Core.Bool.{Bool, true, false, cond, _&&_, _||_, or-false, or-assoc}
+use mathlib.Core.Bool.{Bool, true, false, cond, _&&_, _||_, or-false, or-assoc, and-true}
 use mathlib.Core.List.{List}
 use mathlib.Core.Option.{Option, none, some}
 use native.Mathlib.Omega.{arith}
@@ -15,10 +15,11 @@ use Rattle.format.specs.Datatype.{Datatype, compound, enumeration, variableLeng
 use Rattle.format.specs.Ownership.{outside, memberOutside, heapHeld, memberHeapHeld}
 use Rattle.format.specs.Sizes.{holdsObjectAddress, memberHoldsObjectAddress, holdsFileAddress, memberHoldsFileAddress}
 use Rattle.format.specs.Slots.{firstZero, memberFirstZero, orElse, zeroClass}
+use Rattle.format.proofs.Rows.{leafClass-low}
 use Rattle.format.specs.Table.{Found, found, bad, Walk, andThen, typeAt, membersAt, enumNamesAt, enumValuesAt}
 use Rattle.format.proofs.Scaling.{cap-again}
 use Rattle.format.proofs.TableSteps.{then-found, then-assoc}
-use Rattle.rows.specs.Entries.{wordAt, entryAt, memberAt, leafType, fromEntry, fromMember}
+use Rattle.rows.specs.Entries.{entryAt, memberAt, leafType, fromEntry, fromMember}
 use Rattle.rows.specs.declared.Entry.{Entry}
 use Rattle.rows.specs.declared.Entry.the-variants.{Leaf, Compound, Enumeration, VariableLength, Array, Unknown}
 use Rattle.rows.specs.declared.Member.{Member}
@@ -84,18 +85,9 @@ LeafTold r p k n l x t =
 module _ (table pool : List ℕ) (r p : ℕ) where
   leaf-told : {k n l x : ℕ} {e : Entry} → e ≡ entryAt table pool r p → e ≡ Leaf k n l x → LeafTold r p k n l x (leafType table pool r p k)
   unfolding LeafTold surveyOf typeSize firstZero outside heapHeld holdsObjectAddress holdsFileAddress
-  leaf-told =
-      leaf-law table pool r p (LeafTold r p) (
-      record {
-        of-fixedPoint = (omega arith, rw (zero-class 0 (wordAt table r 1)));
-        of-floatingPoint = (omega arith, rw (zero-class 1 (wordAt table r 1)));
-        of-time = (omega arith, rw (zero-class 2 (wordAt table r 1)));
-        of-string = (omega arith, rw (zero-class 3 (wordAt table r 1)));
-        of-bitField = (omega arith, rw (zero-class 4 (wordAt table r 1)));
-        of-opaque = λ i. (omega arith, rw (zero-class 5 (wordAt table r 1)));
-        of-reference = (omega arith, rw (zero-class 7 (wordAt table r 1)));
-      }
-      )
+  leaf-told {n = n} {x = x} q e =
+      let h = leaf-law table pool r p q e in
+      (omega (arith, h .class, leafClass-low (h .of)), rw (h .is, h .class, zero-class, h .refers-by, h .refers-by, and-true))
 
   pub leaf-class : {k n l x : ℕ} {e : Entry} → e ≡ entryAt table pool r p → e ≡ Leaf k n l x → k ≤ 7
   unfolding LeafTold

@@ -4,9 +4,10 @@ use mathlib.Core.Bool.{Bool, true, false, cond}
 use mathlib.Core.Option.{Option, none, some}
 use native.Mathlib.Omega.{arith}
 use lib.Dec.{eqb}
-use Rattle.format.specs.Datatype.{Datatype, fixedPoint, floatingPoint, time, string, bitField, opaque, compound, reference, enumeration, variableLength, array, Members, noMembers, member, typeSize}
+use Rattle.format.specs.Datatype.{leafClass, Datatype, leaf, compound, enumeration, variableLength, array, Members, noMembers, member, typeSize}
 use Rattle.format.specs.Slots.{orElse, zeroClass, firstZero, memberFirstZero}
 use Rattle.table.specs.Survey.{zeroCode}
+use Rattle.format.proofs.Rows.{leafClass-low}
 
 low-class : (c n : ℕ) → c ≤ 10 → zeroCode (zeroClass c n) ≤ 11
 unfolding zeroClass
@@ -29,14 +30,8 @@ mutual
   unfolding firstZero
 
   pub zero-low : (t : Datatype) → zeroCode (firstZero t) ≤ 11
-  zero-low (fixedPoint n o s f q) = low-class 0 n (omega arith)
-  zero-low (floatingPoint n o f q el es ml ms b) = low-class 1 n (omega arith)
-  zero-low (time n o q) = low-class 2 n (omega arith)
-  zero-low (string n a d) = low-class 3 n (omega arith)
-  zero-low (bitField n o f q) = low-class 4 n (omega arith)
-  zero-low (opaque n g) = low-class 5 n (omega arith)
+  zero-low (leaf n x) = low-class (leafClass x) n (omega (arith, leafClass-low x))
   zero-low (compound n ms) = low-else (zeroClass 6 n) (memberFirstZero ms) (low-class 6 n (omega arith)) (member-zero-low ms)
-  zero-low (reference n k) = low-class 7 n (omega arith)
   zero-low (enumeration n t ms) = low-else (zeroClass 8 n) (firstZero t) (low-class 8 n (omega arith)) (zero-low t)
   zero-low (variableLength i a d t) = zero-low t
   zero-low (array ds t) = low-else (zeroClass 10 (typeSize (array ds t))) (firstZero t) (low-class 10 (typeSize (array ds t)) (omega arith)) (zero-low t)

@@ -5,7 +5,7 @@ use mathlib.Core.List.{List, [], _∷_, _++_}
 use mathlib.Core.Option.{Option, none, some}
 use lib.ListN.{length, getD, take, drop}
 use Rattle.format.specs.Bytes.{dimensionBytes}
-use Rattle.format.specs.Datatype.{Datatype, fixedPoint, floatingPoint, time, string, bitField, opaque, compound, reference, enumeration, variableLength, array, Members, noMembers, member, EnumMember, poolBytes}
+use Rattle.format.specs.Datatype.{Datatype, leaf, compound, enumeration, variableLength, array, Members, noMembers, member, EnumMember, poolBytes}
 use Rattle.format.specs.Outcome.{Outcome, gives, refuses}
 use Rattle.format.specs.Table.{typeOf}
 use Rattle.table.specs.declared.NamePart.{NamePart}
@@ -22,14 +22,8 @@ enumNameParts p (m ∷ ms) = some (record { place = p; long = length (m .name) }
 unfoldable mutual
   -- for each row of a type whose pool bytes begin at a place: where the name of a member's row lies, none for a type's row
   pub nameParts : (place : ℕ) → Datatype → List (Option Part)
-  nameParts p (fixedPoint n o s f q) = none ∷ []
-  nameParts p (floatingPoint n o f q el es ml ms x) = none ∷ []
-  nameParts p (time n o q) = none ∷ []
-  nameParts p (string n a c) = none ∷ []
-  nameParts p (bitField n o f q) = none ∷ []
-  nameParts p (opaque n g) = none ∷ []
+  nameParts p (leaf n x) = none ∷ []
   nameParts p (compound n ms) = none ∷ memberNameParts p ms
-  nameParts p (reference n k) = none ∷ []
   nameParts p (enumeration n t ms) = none ∷ (nameParts p t ++ enumNameParts (p + length (poolBytes t)) ms)
   nameParts p (variableLength i a c t) = none ∷ nameParts p t
   nameParts p (array ds t) = none ∷ nameParts (p + length (dimensionBytes ds)) t

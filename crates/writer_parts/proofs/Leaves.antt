@@ -11,7 +11,8 @@ use lib.Dec.{eqb, leb, ltb}
 use borrow.Author.Tests.{leb-true, ltb-true, lt-ltb, le-ltb, eq-eqb, ne-eqb}
 use Rattle.format.specs.Bits.{fixedFlags, floatFlags, nibbles}
 use Rattle.format.specs.Bytes.{littleEndian, zeros, paddingTo8, packNumbers}
-use Rattle.format.specs.Message.{header, message, storable, carried}
+use Rattle.format.specs.Datatype.{floatNumbers, leafClass, leafPool}
+use Rattle.format.specs.Message.{header, leafMessage, message, storable, carried}
 use Rattle.format.proofs.Booleans.{and-both}
 use Rattle.writer_parts.specs.Places.{Places, PlacesFrom, Inside, Stands}
 use Rattle.writer_parts.specs.Leaf.{leafCodes, leafFlags, leafBits, columnWidth, columnBytes, tagBytes, leafRest, leafBytes, PutsLeaf}
@@ -20,10 +21,10 @@ use Rattle.writer_parts.specs.declared.Placed.the-variants.{Behind, Full
 use Rattle.writer_parts.specs.declared.Put.{Put}
 use Rattle.writer_parts.specs.declared.Put.the-variants.{At, Lost}
 use Rattle.writer_parts.proofs.Placing.{behind, full-behind, none-placed, stands, lost}
-use Rattle.format.specs.Table.{row, Kind, isFixedPoint, isFloatingPoint, isTime, isString, isBitField, isOpaque, isCompound, isReference, isEnumeration, isVariableLength, isArray, isUnknown, kindOf}
-use Rattle.format.proofs.Facts.{Storable}
+use Rattle.format.specs.Table.{leafOf, isFixedPoint, isFloatingPoint, isTime, isString, isBitField, isOpaque, isReference, Kind, isLeaf, isCompound, isEnumeration, isVariableLength, isArray, isUnknown, kindOf}
+use Rattle.format.proofs.Facts.{StorableLeaf, Storable}
 use Rattle.format.proofs.Storable.{storable-fact}
-use Rattle.rows.specs.Entries.{wordAt, rowIs, pick, entryOf, entryAt, leafType}
+use Rattle.rows.specs.Entries.{wordAt, pick, leafAt, tagInside, leafEntry, entryOf, entryAt, leafKindOf, leafType}
 use Rattle.rows.specs.declared.Entry.{Entry}
 use Rattle.rows.specs.declared.Entry.the-variants.{Leaf, Compound, Enumeration, VariableLength, Array, Unknown}
 
@@ -233,20 +234,20 @@ module _ (table pool : List ℕ) (r p : ℕ) where
   says-pick false e h = tt
 
   says-kind : (k : Kind) → LeafSays table pool r p (entryOf table pool r p k)
-  unfolding entryOf LeafSays leafType leafCodes leafFlags leafBits leafRest leafBytes columnBytes columnWidth message packNumbers carried Storable
-  says-kind isFixedPoint = says-pick _ _ (λ b. (omega arith, λ e h. let s = storable-fact e (leafType table pool r p 0) h refl in (two-below (wordAt table r 5) (wordAt table r 6) 2 2 (s .2) (s .3), refl)))
-  says-kind isFloatingPoint = says-pick _ _ (λ b. (omega arith, λ e h. let s = storable-fact e (leafType table pool r p 1) h refl in (lt-ltb (wordAt table r 5) 3 (s .2), refl)))
-  says-kind isTime = says-pick _ _ (λ b. (omega arith, λ e h. let s = storable-fact e (leafType table pool r p 2) h refl in (lt-ltb (wordAt table r 5) 256 (omega (arith, s .2)), refl)))
-  says-kind isString =
-      says-pick _ _ (λ b. (omega arith, λ e h. let s = storable-fact e (leafType table pool r p 3) h refl in (two-below (wordAt table r 5) (wordAt table r 6) 16 16 (omega (arith, s .2)) (omega (arith, s .3)), sym (append-nil _))))
-  says-kind isBitField = says-pick _ _ (λ b. (omega arith, λ e h. let s = storable-fact e (leafType table pool r p 4) h refl in (lt-ltb (wordAt table r 5) 256 (omega (arith, s .2)), refl)))
-  says-kind isOpaque =
+  unfolding entryOf tagInside leafEntry leafAt leafClass leafPool LeafSays leafType leafCodes leafFlags leafBits leafRest leafBytes columnBytes columnWidth message leafMessage packNumbers carried Storable StorableLeaf leafKindOf leafOf floatNumbers
+  says-kind (isLeaf isFixedPoint) = says-pick _ _ (λ b. (omega arith, λ e h. let s = storable-fact e (leafType table pool r p 0) h refl in (two-below (wordAt table r 5) (wordAt table r 6) 2 2 (s .2 .0) (s .2 .1), refl)))
+  says-kind (isLeaf isFloatingPoint) = says-pick _ _ (λ b. (omega arith, λ e h. let s = storable-fact e (leafType table pool r p 1) h refl in (lt-ltb (wordAt table r 5) 3 (s .2 .1), refl)))
+  says-kind (isLeaf isTime) = says-pick _ _ (λ b. (omega arith, λ e h. let s = storable-fact e (leafType table pool r p 2) h refl in (lt-ltb (wordAt table r 5) 256 (omega (arith, s .2 .0)), refl)))
+  says-kind (isLeaf isString) =
+      says-pick _ _ (λ b. (omega arith, λ e h. let s = storable-fact e (leafType table pool r p 3) h refl in (two-below (wordAt table r 5) (wordAt table r 6) 16 16 (omega (arith, s .2 .0)) (omega (arith, s .2 .1)), sym (append-nil _))))
+  says-kind (isLeaf isBitField) = says-pick _ _ (λ b. (omega arith, λ e h. let s = storable-fact e (leafType table pool r p 4) h refl in (lt-ltb (wordAt table r 5) 256 (omega (arith, s .2 .0)), refl)))
+  says-kind (isLeaf isOpaque) =
       says-pick _ _ (λ b.
-      let i = leb-true (p + wordAt table r 3) (length pool) (and-both (rowIs table r (row 6 (wordAt table r 1) p (wordAt table r 3) 0 [])) (leb (p + wordAt table r 3) (length pool)) b .1) in
+      let i = leb-true (p + wordAt table r 3) (length pool) (and-both (leb (p + wordAt table r 3) (length pool)) _ b .0) in
       let q : length (take (wordAt table r 3) (drop p pool)) ≡ wordAt table r 3 = length-take-le (wordAt table r 3) (drop p pool) (omega (arith, length-drop p pool)) in
-      (omega arith, λ e h. let s = storable-fact e (leafType table pool r p 5) h refl in (lt-ltb (wordAt table r 3) 256 (omega (arith, s .2)), rw q)))
+      (omega arith, λ e h. let s = storable-fact e (leafType table pool r p 5) h refl in (lt-ltb _ 256 (s .2), rw q)))
   says-kind isCompound = says-pick _ _ (λ b. tt)
-  says-kind isReference =
+  says-kind (isLeaf isReference) =
       says-pick _ _ (λ b. (omega arith, λ e h. let s = storable-fact e (leafType table pool r p 7) h refl in (lt-ltb (wordAt table r 5) 256 (omega (arith, s .2)), sym (append-nil _))))
   says-kind isEnumeration = says-pick _ _ (λ b. tt)
   says-kind isVariableLength = says-pick _ _ (λ b. tt)

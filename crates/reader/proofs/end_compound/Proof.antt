@@ -1,5 +1,4 @@
-use Rattle.format.specs.Bytes.{padded, zeros}
-use Rattle.format.specs.Table.{row}
+use Rattle.format.specs.Table.{row, compoundRow}
 use Rattle.reading.proofs.Types.{compound-empty, compound-stored}
 use borrow.Author.Needs.{needs}
 use Rattle.reader.proofs.end_compound.Statement.{statement}
@@ -12,7 +11,7 @@ returns : tie.Need-returns
 returns c = search compound-empty
 
 returns-2 : tie.Need-returns-2
-unfolding row padded zeros
+unfolding row compoundRow
 returns-2 c = search compound-stored
 
 pub end-compound-spec : {M : Type 1} → statement M

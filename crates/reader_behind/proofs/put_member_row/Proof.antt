@@ -1,11 +1,10 @@
 use borrow.Author.Needs.{needs}
-use Rattle.format.specs.Bytes.{zeros, padded}
 use Rattle.format.specs.Table.{row}
 use Rattle.reader_behind.proofs.put_member_row.Statement.{statement}
 use Rattle.reader_behind.proofs.put_member_row.Tie as tie
 
 returns : tie.Need-returns
-unfolding row padded zeros
+unfolding row
 returns c = search
 
 pub put-member-row-spec : {M : Type 1} → statement M

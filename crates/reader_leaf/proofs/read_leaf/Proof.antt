@@ -2,33 +2,33 @@ use Rattle.reader_leaf.proofs.Leaves.{kind-of, last-kind}
 use borrow.Author.Needs.{needs}
 use mathlib.Core.Path.{refl}
 use Rattle.format.specs.Reading.{classKind}
-use Rattle.format.specs.Table.{isFixedPoint, isFloatingPoint, isTime, isString, isBitField, isOpaque}
+use Rattle.format.specs.Table.{isLeaf, isFixedPoint, isFloatingPoint, isTime, isString, isBitField, isOpaque}
 use Rattle.reader_leaf.proofs.read_leaf.Statement.{statement}
 use Rattle.reader_leaf.proofs.read_leaf.Tie as tie
 
 read-fixed-point-requires : tie.Need-read-fixed-point-requires
 unfolding classKind
-read-fixed-point-requires c κs = search (needs, kind-of 0 isFixedPoint refl)
+read-fixed-point-requires c κs = search (needs, kind-of 0 (isLeaf isFixedPoint) refl)
 
 read-floating-point-requires : tie.Need-read-floating-point-requires
 unfolding classKind
-read-floating-point-requires c κs = search (needs, kind-of 1 isFloatingPoint refl)
+read-floating-point-requires c κs = search (needs, kind-of 1 (isLeaf isFloatingPoint) refl)
 
 read-time-requires : tie.Need-read-time-requires
 unfolding classKind
-read-time-requires c κs = search (needs, kind-of 2 isTime refl)
+read-time-requires c κs = search (needs, kind-of 2 (isLeaf isTime) refl)
 
 read-string-requires : tie.Need-read-string-requires
 unfolding classKind
-read-string-requires c κs = search (needs, kind-of 3 isString refl)
+read-string-requires c κs = search (needs, kind-of 3 (isLeaf isString) refl)
 
 read-bit-field-requires : tie.Need-read-bit-field-requires
 unfolding classKind
-read-bit-field-requires c κs = search (needs, kind-of 4 isBitField refl)
+read-bit-field-requires c κs = search (needs, kind-of 4 (isLeaf isBitField) refl)
 
 read-opaque-requires : tie.Need-read-opaque-requires
 unfolding classKind
-read-opaque-requires c κs = search (needs, kind-of 5 isOpaque refl)
+read-opaque-requires c κs = search (needs, kind-of 5 (isLeaf isOpaque) refl)
 
 read-reference-requires : tie.Need-read-reference-requires
 read-reference-requires c κs = search (needs, last-kind)
