@@ -196,14 +196,14 @@ sound-leaf : (h : Header) (c : LeafKind) (v at : ℕ) (s : List ℕ) (r p : ℕ)
 unfolding leafProperties leafKnown leafPool
 sound-leaf h isFixedPoint v at s r p b =
     sure-then (sure-numbers v at s r p _) λ x a1 s1 r1 p1 h1.
-    met (leaf-inside (h .size) _ (and-true _ _ (lt-ltb (bitAt 0 (h .f0)) 3 (omega (arith, bit-lt 0 (h .f0)))) (lt-ltb _ 2 (bit-lt 3 (h .f0)))) no-bytes, h1 .2 b)
+    met (leaf-inside (h .size) _ (and-true _ _ (lt-ltb (bitAt 0 (h .f0)) _ (omega (arith, bit-lt 0 (h .f0)))) (lt-ltb _ 2 (bit-lt 3 (h .f0)))) no-bytes, h1 .2 b)
 sound-leaf h isFloatingPoint v at s r p b = sure-then (sure-numbers v at s r p _) λ x a1 s1 r1 p1 h1. met (leaf-inside (h .size) _ (lt-ltb _ 3 (float-order-lt (h .f0))) no-bytes, h1 .2 b)
-sound-leaf h isTime v at s r p b = sure-then (sure-numbers v at s r p _) λ x a1 s1 r1 p1 h1. met (leaf-inside (h .size) _ (lt-ltb (bitAt 0 (h .f0)) 3 (omega (arith, bit-lt 0 (h .f0)))) no-bytes, h1 .2 b)
+sound-leaf h isTime v at s r p b = sure-then (sure-numbers v at s r p _) λ x a1 s1 r1 p1 h1. met (leaf-inside (h .size) _ (lt-ltb (bitAt 0 (h .f0)) _ (omega (arith, bit-lt 0 (h .f0)))) no-bytes, h1 .2 b)
 sound-leaf h isString v at s r p b =
     sure-then (sure-require v at s r p _ _) λ u a1 s1 r1 p1 h1.
     sure-then (sure-require v a1 s1 r1 p1 _ _) λ u a2 s2 r2 p2 h2.
     met (leaf-inside (h .size) _ (and-true _ _ (code-below (lowBits 4 (h .f0)) 2 (h1 .0)) (code-below (highBits 4 (h .f0)) 1 (h2 .0))) no-bytes, h2 .3 (h1 .3 b))
-sound-leaf h isBitField v at s r p b = sure-then (sure-numbers v at s r p _) λ x a1 s1 r1 p1 h1. met (leaf-inside (h .size) _ (lt-ltb (bitAt 0 (h .f0)) 3 (omega (arith, bit-lt 0 (h .f0)))) no-bytes, h1 .2 b)
+sound-leaf h isBitField v at s r p b = sure-then (sure-numbers v at s r p _) λ x a1 s1 r1 p1 h1. met (leaf-inside (h .size) _ (lt-ltb (bitAt 0 (h .f0)) _ (omega (arith, bit-lt 0 (h .f0)))) no-bytes, h1 .2 b)
 sound-leaf h isOpaque v at s r p b =
     sure-then (sure-bytes v at s r p _) λ g a1 s1 r1 p1 h1.
     sure-then (sure-piece v a1 s1 r1 p1 g) λ w a2 s2 r2 p2 h2.

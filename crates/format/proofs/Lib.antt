@@ -22,6 +22,7 @@ pub mod Table
 pub mod TableSteps
 pub mod Written
 pub mod Cases
+pub mod RowCases
 pub mod Bounds
 pub mod WritingBounds
 pub mod AdmissionBounds
