@@ -11,7 +11,7 @@ use Rattle.format.specs.Utf8.{upTo, leads, replacement, begin, broken, g
 use Rattle.format.specs.Datatype.{floatNumbers, floatLayout, fixedPoint, opaque, reference, leafClass, leafPool, refers, Datatype, leaf, compound, variableLength, array, noMembers, member, memberCount, product, typeSize, classNumber, rowCount, enumNames, enumValues, poolBytes}
 use Rattle.format.specs.Outcome.{Outcome, gives, refuses, whenGiven, unless, needed}
 use Rattle.format.specs.Table.{row, compoundRow, enumerationRow, variableLengthRow, arrayRow, memberRow, enumMemberRow, enumRows, columnsOf, leafRow, rows, leafKnown, allBelow, andThen, test, wordsAt, nextRow, nextPiece, sameWords, membersAt, enumNamesAt, enumValuesAt, kindOf, tagAt, leafOf, typeFrom, typeAt, wholeType, typeOf, tableOf, poolOf}
-use Rattle.format.specs.Message.{header, namePadding, offsetWidth, skippedBytes, reservedBytes, permutationBytes, nameBytes, enumNameBytes, arrayBytes, codeOf, variableFlags, variableCharset, leafMessage, message, nameLength, enumNameLength, lengthOfLeaf, messageLength, all, noNul, fit, storableEnum, storableVariable, storableLeaf, storable, carried, writingType, writing}
+use Rattle.format.specs.Message.{header, namePadding, offsetWidth, skippedBytes, reservedBytes, permutationBytes, nameBytes, enumNameBytes, arrayBytes, codeOf, variableFlags, variableCharset, leafMessage, message, nameLength, enumNameLength, leafMessageLength, messageLength, all, noNul, fit, storableEnum, storableVariable, storableLeaf, storable, carried, writingType, writing}
 use Rattle.format.specs.Reading.{Read, then, require, bytes, skip, number, numbers, nameTo, name, takeRow, piece, moved, inner, headerOf, readHeader, classKind, layoutVersion, countOf, readName, readMembers, readNames, readValues, readVariable, readArray, leafProperties, readProperties, sized, readType, readOutcome, readingInto, reading}
 use Rattle.format.specs.Sizes.{sizing, holdsObjectAddress}
 use Rattle.format.specs.Slots.{isSlot, shifted, entries, slots, holdsOtherReference, holdsHiddenReference, someOutside, unmapped, orElse, zeroClass, firstZero, unlessZero, slotting, findingSlots}
@@ -19,7 +19,7 @@ use Rattle.format.specs.Ownership.{inEntries, owned, outside, heapHeld, 
 
 -- all definitions that a computed case opens
 unfoldable pub computing : Unit {0}
-unfolding littleEndian numberFrom zeros padded allZero paddingTo8 oneMore firstNul totalWidth packNumbers unpackNumbers dimensionBytes dimensionsFrom lowBits highBits joinBits bitAt classAndVersion fixedFlags floatFlags floatOrder nibbles upTo leads replacement begin broken going step atEnd mendedFrom mended isReady wellFormedFrom wellFormed memberCount product typeSize classNumber rowCount enumNames enumValues floatNumbers floatLayout leafClass leafPool refers poolBytes whenGiven unless needed row compoundRow enumerationRow variableLengthRow arrayRow memberRow enumMemberRow enumRows columnsOf leafRow rows leafKnown allBelow andThen test wordsAt nextRow nextPiece sameWords membersAt enumNamesAt enumValuesAt kindOf tagAt leafOf typeFrom typeAt wholeType typeOf tableOf poolOf header namePadding offsetWidth skippedBytes reservedBytes permutationBytes nameBytes enumNameBytes arrayBytes codeOf variableFlags variableCharset leafMessage message nameLength enumNameLength lengthOfLeaf messageLength all noNul fit storableEnum storableVariable storableLeaf storable carried writingType writing then require bytes skip number numbers nameTo name takeRow piece moved inner headerOf readHeader classKind layoutVersion countOf readName readMembers readNames readValues readVariable readArray leafProperties readProperties sized readType readOutcome readingInto reading sizing holdsObjectAddress isSlot shifted entries slots holdsOtherReference holdsHiddenReference someOutside unmapped orElse zeroClass firstZero unlessZero slotting findingSlots inEntries owned outside heapHeld agreeFrom agree admitting comparingRecords comparing
+unfolding littleEndian numberFrom zeros padded allZero paddingTo8 oneMore firstNul totalWidth packNumbers unpackNumbers dimensionBytes dimensionsFrom lowBits highBits joinBits bitAt classAndVersion fixedFlags floatFlags floatOrder nibbles upTo leads replacement begin broken going step atEnd mendedFrom mended isReady wellFormedFrom wellFormed memberCount product typeSize classNumber rowCount enumNames enumValues floatNumbers floatLayout leafClass leafPool refers poolBytes whenGiven unless needed row compoundRow enumerationRow variableLengthRow arrayRow memberRow enumMemberRow enumRows columnsOf leafRow rows leafKnown allBelow andThen test wordsAt nextRow nextPiece sameWords membersAt enumNamesAt enumValuesAt kindOf tagAt leafOf typeFrom typeAt wholeType typeOf tableOf poolOf header namePadding offsetWidth skippedBytes reservedBytes permutationBytes nameBytes enumNameBytes arrayBytes codeOf variableFlags variableCharset leafMessage message nameLength enumNameLength leafMessageLength messageLength all noNul fit storableEnum storableVariable storableLeaf storable carried writingType writing then require bytes skip number numbers nameTo name takeRow piece moved inner headerOf readHeader classKind layoutVersion countOf readName readMembers readNames readValues readVariable readArray leafProperties readProperties sized readType readOutcome readingInto reading sizing holdsObjectAddress isSlot shifted entries slots holdsOtherReference holdsHiddenReference someOutside unmapped orElse zeroClass firstZero unlessZero slotting findingSlots inEntries owned outside heapHeld agreeFrom agree admitting comparingRecords comparing
 computing = tt
 
 -- what is asked. All but the first are asked of the type that a message gives

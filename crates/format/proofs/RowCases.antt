@@ -76,27 +76,27 @@ layouts =
     -- class 6: members a, at 2, an opaque with the tag x, and bc, at 5, an array of 3 times 2
     ∷ record {
       message = 0x36 ∷ 2 ∷ 0 ∷ 0 ∷ 11 ∷ 0 ∷ 0 ∷ 0
-        ∷ 0x61 ∷ 0 ∷ 2 ∷ 0x15 ∷ 1 ∷ 0 ∷ 0 ∷ 3 ∷ 0 ∷ 0 ∷ 0 ∷ 0x78 ∷ 0 ∷ 0 ∷ 0 ∷ 0 ∷ 0 ∷ 0 ∷ 0
-        ∷ 0x62 ∷ 0x63 ∷ 0 ∷ 5 ∷ 0x3a ∷ 0 ∷ 0 ∷ 0 ∷ 6 ∷ 0 ∷ 0 ∷ 0 ∷ 2 ∷ 3 ∷ 0 ∷ 0 ∷ 0 ∷ 2 ∷ 0 ∷ 0 ∷ 0 ∷ U1;
+          ∷ 0x61 ∷ 0 ∷ 2 ∷ 0x15 ∷ 1 ∷ 0 ∷ 0 ∷ 3 ∷ 0 ∷ 0 ∷ 0 ∷ 0x78 ∷ 0 ∷ 0 ∷ 0 ∷ 0 ∷ 0 ∷ 0 ∷ 0
+          ∷ 0x62 ∷ 0x63 ∷ 0 ∷ 5 ∷ 0x3a ∷ 0 ∷ 0 ∷ 0 ∷ 6 ∷ 0 ∷ 0 ∷ 0 ∷ 2 ∷ 3 ∷ 0 ∷ 0 ∷ 0 ∷ 2 ∷ 0 ∷ 0 ∷ 0 ∷ U1;
       words = 7 ∷ 11 ∷ 0 ∷ 0 ∷ 2 ∷ 0 ∷ 0 ∷ 0 ∷ 0 ∷ 0 ∷ 0 ∷ 0 ∷ 0 ∷ 0 ∷ 0 ∷ 0
-        ∷ 12 ∷ 2 ∷ 0 ∷ 1 ∷ 0 ∷ 0 ∷ 0 ∷ 0 ∷ 0 ∷ 0 ∷ 0 ∷ 0 ∷ 0 ∷ 0 ∷ 0 ∷ 0
-        ∷ 6 ∷ 3 ∷ 1 ∷ 1 ∷ 0 ∷ 0 ∷ 0 ∷ 0 ∷ 0 ∷ 0 ∷ 0 ∷ 0 ∷ 0 ∷ 0 ∷ 0 ∷ 0
-        ∷ 12 ∷ 5 ∷ 2 ∷ 2 ∷ 0 ∷ 0 ∷ 0 ∷ 0 ∷ 0 ∷ 0 ∷ 0 ∷ 0 ∷ 0 ∷ 0 ∷ 0 ∷ 0
-        ∷ 11 ∷ 0 ∷ 4 ∷ 2 ∷ 0 ∷ 0 ∷ 0 ∷ 0 ∷ 0 ∷ 0 ∷ 0 ∷ 0 ∷ 0 ∷ 0 ∷ 0 ∷ 0
-        ∷ 1 ∷ 1 ∷ 0 ∷ 0 ∷ 0 ∷ 0 ∷ 0 ∷ 0 ∷ 8 ∷ 0 ∷ 0 ∷ 0 ∷ 0 ∷ 0 ∷ 0 ∷ 0
-        ∷ [];
+          ∷ 12 ∷ 2 ∷ 0 ∷ 1 ∷ 0 ∷ 0 ∷ 0 ∷ 0 ∷ 0 ∷ 0 ∷ 0 ∷ 0 ∷ 0 ∷ 0 ∷ 0 ∷ 0
+          ∷ 6 ∷ 3 ∷ 1 ∷ 1 ∷ 0 ∷ 0 ∷ 0 ∷ 0 ∷ 0 ∷ 0 ∷ 0 ∷ 0 ∷ 0 ∷ 0 ∷ 0 ∷ 0
+          ∷ 12 ∷ 5 ∷ 2 ∷ 2 ∷ 0 ∷ 0 ∷ 0 ∷ 0 ∷ 0 ∷ 0 ∷ 0 ∷ 0 ∷ 0 ∷ 0 ∷ 0 ∷ 0
+          ∷ 11 ∷ 0 ∷ 4 ∷ 2 ∷ 0 ∷ 0 ∷ 0 ∷ 0 ∷ 0 ∷ 0 ∷ 0 ∷ 0 ∷ 0 ∷ 0 ∷ 0 ∷ 0
+          ∷ 1 ∷ 1 ∷ 0 ∷ 0 ∷ 0 ∷ 0 ∷ 0 ∷ 0 ∷ 8 ∷ 0 ∷ 0 ∷ 0 ∷ 0 ∷ 0 ∷ 0 ∷ 0
+          ∷ [];
       pool = 0x61 ∷ 0x78 ∷ 0x62 ∷ 0x63 ∷ 3 ∷ 0 ∷ 0 ∷ 0 ∷ 2 ∷ 0 ∷ 0 ∷ 0 ∷ [];
     }
     -- class 9 over class 8: a string, space-padded, ASCII, over an enumeration of size 4 with de = 7 and f = 9
     ∷ record {
       message = 0x19 ∷ 0x21 ∷ 0 ∷ 0 ∷ 16 ∷ 0 ∷ 0 ∷ 0 ∷ 0x38 ∷ 2 ∷ 0 ∷ 0 ∷ 4 ∷ 0 ∷ 0 ∷ 0
-        ∷ (U1 ++ (0x64 ∷ 0x65 ∷ 0 ∷ 0x66 ∷ 0 ∷ 7 ∷ 9 ∷ []));
+          ∷ (U1 ++ (0x64 ∷ 0x65 ∷ 0 ∷ 0x66 ∷ 0 ∷ 7 ∷ 9 ∷ []));
       words = 10 ∷ 0 ∷ 0 ∷ 0 ∷ 0 ∷ 1 ∷ 3 ∷ 1 ∷ 0 ∷ 0 ∷ 0 ∷ 0 ∷ 0 ∷ 0 ∷ 0 ∷ 0
-        ∷ 9 ∷ 4 ∷ 0 ∷ 0 ∷ 2 ∷ 0 ∷ 0 ∷ 0 ∷ 0 ∷ 0 ∷ 0 ∷ 0 ∷ 0 ∷ 0 ∷ 0 ∷ 0
-        ∷ 1 ∷ 1 ∷ 0 ∷ 0 ∷ 0 ∷ 0 ∷ 0 ∷ 0 ∷ 8 ∷ 0 ∷ 0 ∷ 0 ∷ 0 ∷ 0 ∷ 0 ∷ 0
-        ∷ 13 ∷ 0 ∷ 0 ∷ 2 ∷ 1 ∷ 0 ∷ 0 ∷ 0 ∷ 0 ∷ 0 ∷ 0 ∷ 0 ∷ 0 ∷ 0 ∷ 0 ∷ 0
-        ∷ 13 ∷ 0 ∷ 2 ∷ 1 ∷ 1 ∷ 0 ∷ 0 ∷ 0 ∷ 0 ∷ 0 ∷ 0 ∷ 0 ∷ 0 ∷ 0 ∷ 0 ∷ 0
-        ∷ [];
+          ∷ 9 ∷ 4 ∷ 0 ∷ 0 ∷ 2 ∷ 0 ∷ 0 ∷ 0 ∷ 0 ∷ 0 ∷ 0 ∷ 0 ∷ 0 ∷ 0 ∷ 0 ∷ 0
+          ∷ 1 ∷ 1 ∷ 0 ∷ 0 ∷ 0 ∷ 0 ∷ 0 ∷ 0 ∷ 8 ∷ 0 ∷ 0 ∷ 0 ∷ 0 ∷ 0 ∷ 0 ∷ 0
+          ∷ 13 ∷ 0 ∷ 0 ∷ 2 ∷ 1 ∷ 0 ∷ 0 ∷ 0 ∷ 0 ∷ 0 ∷ 0 ∷ 0 ∷ 0 ∷ 0 ∷ 0 ∷ 0
+          ∷ 13 ∷ 0 ∷ 2 ∷ 1 ∷ 1 ∷ 0 ∷ 0 ∷ 0 ∷ 0 ∷ 0 ∷ 0 ∷ 0 ∷ 0 ∷ 0 ∷ 0 ∷ 0
+          ∷ [];
       pool = 0x64 ∷ 0x65 ∷ 0x66 ∷ 7 ∷ 9 ∷ [];
     }
     ∷ []
@@ -147,21 +147,20 @@ unfoldable pub tested : Outcome Bool → List ℕ
 tested x = answer (whenGiven x λ b. gives (cond b 1 0 ∷ []))
 
 -- refusal 12 bears the class of a leaf of size 0
-unfoldable pub zeroSized : List (List ℕ)
-zeroSized = (12 ∷ 0 ∷ []) ∷ (12 ∷ 1 ∷ []) ∷ (12 ∷ 2 ∷ []) ∷ (12 ∷ 3 ∷ []) ∷ (12 ∷ 4 ∷ []) ∷ (12 ∷ 5 ∷ []) ∷ (12 ∷ 7 ∷ []) ∷ []
-
-pub leaf-element-sizes : forLeaves (λ kind. answer (whenGiven (elementSizing (oneRow kind 0 0 kind) []) λ n. gives (n ∷ []))) ≡ zeroSized
-unfolding forLeaves zeroSized answer oneRow elementSizing computing
+pub leaf-element-sizes : forLeaves (λ kind. answer (whenGiven (elementSizing (oneRow kind 0 0 kind) []) λ n. gives (n ∷ [])))
+    ≡ (12 ∷ 0 ∷ []) ∷ (12 ∷ 1 ∷ []) ∷ (12 ∷ 2 ∷ []) ∷ (12 ∷ 3 ∷ []) ∷ (12 ∷ 4 ∷ []) ∷ (12 ∷ 5 ∷ []) ∷ (12 ∷ 7 ∷ []) ∷ []
+unfolding forLeaves answer oneRow elementSizing computing
 leaf-element-sizes = refl
 
-pub leaf-zero-sizes : forLeaves (λ kind. tested (comparing (oneRow kind 0 0 kind) [] [] [])) ≡ zeroSized
-unfolding forLeaves zeroSized tested answer oneRow computing
-leaf-zero-sizes = refl
-
--- of the leaves only a reference has a slot, holds an object address and holds a file address
+-- of the leaves only a reference has a slot, or holds an address
 pub leaf-slots : forLeaves (λ kind. answer (findingSlots (oneRow kind 8 0 kind) [] 1)) ≡ (0 ∷ []) ∷ (0 ∷ []) ∷ (0 ∷ []) ∷ (0 ∷ []) ∷ (0 ∷ []) ∷ (0 ∷ []) ∷ (0 ∷ 0 ∷ []) ∷ []
 unfolding forLeaves answer oneRow computing
 leaf-slots = refl
+
+-- one of another size is unmapped
+pub leaf-unmapped : forLeaves (λ kind. answer (findingSlots (oneRow kind 4 0 kind) [] 1)) ≡ (0 ∷ []) ∷ (0 ∷ []) ∷ (0 ∷ []) ∷ (0 ∷ []) ∷ (0 ∷ []) ∷ (0 ∷ []) ∷ (19 ∷ []) ∷ []
+unfolding forLeaves answer oneRow computing
+leaf-unmapped = refl
 
 unfoldable pub onlyReferences : List (List ℕ)
 onlyReferences = (0 ∷ 0 ∷ []) ∷ (0 ∷ 0 ∷ []) ∷ (0 ∷ 0 ∷ []) ∷ (0 ∷ 0 ∷ []) ∷ (0 ∷ 0 ∷ []) ∷ (0 ∷ 0 ∷ []) ∷ (0 ∷ 1 ∷ []) ∷ []

@@ -11,17 +11,9 @@ use lib.Dec.{leb, ltb, eqb}
 use borrow.Author.Tests.{ltb-true, leb-true}
 use Rattle.format.specs.Bytes.{zeros, allZero, dimensionsFrom}
 use Rattle.format.specs.Datatype.{opaque, leafClass, leafPool, Datatype, leaf, compound, enumeration, variableLength, array, member}
-use Rattle.format.specs.Table.{columnsOf, leafRow, compoundRow, enumerationRow, variableLengthRow, arrayRow, memberRow, enumMemberRow, leafKnown, LeafKind, isFixedPoint, isFloatingPoint, isTime, isString, isBitField, isOpaque, isReference, isLeaf, tagAt, leafOf, Found, found, bad, Walk, andThen, test, wordsAt, nextRow, nextPiece, sameWords, column, membersAt, enumNamesAt, enumValuesAt, isUnknown, kindOf, typeFrom, typeAt}
+use Rattle.format.specs.Table.{columnsOf, leafRow, compoundRow, enumerationRow, variableLengthRow, arrayRow, memberRow, enumMemberRow, leafKnown, LeafKind, isFixedPoint, isFloatingPoint, isTime, isString, isBitField, isOpaque, isReference, isLeaf, tagAt, leafOf, Found, found, bad, Walk, andThen, test, wordsAt, wordAt, rowIs, nextRow, nextPiece, sameWords, column, membersAt, enumNamesAt, enumValuesAt, isUnknown, kindOf, typeFrom, typeAt}
 use Rattle.format.proofs.Lists.{length-part}
 use Rattle.format.proofs.Rows.{sameWords-true, length-wordsAt, column-at}
-
--- word c of row r
-abbrev pub wordAt : (table : List ℕ) (r c : ℕ) → ℕ
-wordAt table r c = getD table (r * 16 + c) 0
-
--- row r has exactly these words
-abbrev pub rowIs : (table : List ℕ) (r : ℕ) → List ℕ → Bool
-rowIs table r v = sameWords (wordsAt table r) v
 
 -- n elements from at + i on
 abbrev pub listAt : (l : List ℕ) (at i n : ℕ) → List ℕ

@@ -12,7 +12,7 @@ use Rattle.refusal.specs.declared.Refusal.the-variants.{BadTable, NoSuchEdition
 use Rattle.format.specs.Bytes.{littleEndian, AllBytes, zeros, packNumbers, dimensionBytes}
 use Rattle.format.specs.Bits.{fixedFlags, floatFlags, nibbles}
 use Rattle.format.specs.Datatype.{floatNumbers, Leaf, fixedPoint, floatingPoint, time, string, bitField, opaque, reference, leafPool, Datatype, leaf, compound, enumeration, variableLength, array, Members, noMembers, member, EnumMember, enumNames, typeSize, memberCount, poolBytes, memberPool}
-use Rattle.format.specs.Message.{header, reservedBytes, bitWidths, floatWidths, timeWidths, arrayBytes, enumNameBytes, enumNameLength, nameLength, offsetWidth, skippedBytes, nameBytes, variableFlags, variableCharset, codeOf, leafMessage, message, memberBytes, lengthOfLeaf, messageLength, membersLength, storable, carried, writingType, writing}
+use Rattle.format.specs.Message.{header, reservedBytes, bitWidths, floatWidths, timeWidths, arrayBytes, enumNameBytes, enumNameLength, nameLength, offsetWidth, skippedBytes, nameBytes, variableFlags, variableCharset, codeOf, leafMessage, message, memberBytes, leafMessageLength, messageLength, membersLength, storable, carried, writingType, writing}
 use Rattle.format.specs.Outcome.{gives, refuses, whenGiven, unless, needed}
 use Rattle.format.specs.Table.{typeOf}
 use Rattle.format.proofs.Bits.{class-version-lt, nibbles-lt, fixed-flags-lt, float-flags-lt}
@@ -34,8 +34,8 @@ length-names e (m ∷ ms) = rw (length-append, length-name e (m .name), length-n
 
 ruleset lengths = (length-append, length-header, length-littleEndian, length-zeros, length-dimensions, length-name, length-names)
 
-length-leaf : (n : ℕ) (x : Leaf) → length (leafMessage n x) ≡ lengthOfLeaf x
-unfolding leafMessage lengthOfLeaf packNumbers floatNumbers
+length-leaf : (n : ℕ) (x : Leaf) → length (leafMessage n x) ≡ leafMessageLength x
+unfolding leafMessage leafMessageLength packNumbers floatNumbers
 length-leaf n (fixedPoint o s f q) = simp lengths
 length-leaf n (floatingPoint o y) = simp lengths
 length-leaf n (time o q) = simp lengths

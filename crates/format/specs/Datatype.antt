@@ -1,6 +1,9 @@
--- The type as a tree, one constructor a class. Every field that a row can hold is here, what no message can store included.
--- Codes are those of a row: order 0 little-endian, 1 big-endian, 2 VAX; signed, padding, charset and kind as document 01 has them;
--- a variable-length type's padding and charset are 0 where absent, else the code + 1.
+-- The type as a tree: a leaf of one of seven classes, or one of the four classes that hold other types. Every number that a row can hold is
+-- here, what no message can store included. Codes are those of a row: order 0 little-endian, 1 big-endian, 2 VAX; signed, padding, charset
+-- and kind as document 01 has them; a variable-length type's padding and charset are 0 where absent, else the code + 1.
+--
+-- Letters in clauses, here and in the other definitions: t a type, n its size, x a leaf, ms members, b a name, o a member's offset,
+-- ds dimensions, i a c a variable-length type's is-string, padding and charset, p a place in the pool, e an edition, v a version.
 use Prim.Native.Nat.{ℕ, suc, _+_, _*_, min, max}
 use mathlib.Core.Bool.{Bool, false}
 use mathlib.Core.List.{List, [], _∷_, _++_}
@@ -31,7 +34,7 @@ unfoldable pub floatLayout : List ℕ → FloatLayout
 floatLayout x =
     record { offset = getD x 0 0; precision = getD x 1 0; exponentLocation = getD x 2 0; exponentSize = getD x 3 0; mantissaLocation = getD x 4 0; mantissaSize = getD x 5 0; bias = getD x 6 0 }
 
--- a type that holds no other, without its size
+-- a type that holds no other, but for its size
 pub data Leaf : Type 0 where
   fixedPoint : (order signed offset precision : ℕ) → Leaf
   floatingPoint : (order : ℕ) (layout : FloatLayout) → Leaf
@@ -75,13 +78,13 @@ typeSize (variableLength i a c t) = 16
 typeSize (array ds t) = min (typeSize t * product ds) maxSize
 
 unfoldable pub leafClass : Leaf → ℕ
-leafClass (fixedPoint o s f q) = 0
-leafClass (floatingPoint o y) = 1
-leafClass (time o q) = 2
-leafClass (string a c) = 3
-leafClass (bitField o f q) = 4
-leafClass (opaque g) = 5
-leafClass (reference k) = 7
+leafClass (fixedPoint order signed offset precision) = 0
+leafClass (floatingPoint order layout) = 1
+leafClass (time order precision) = 2
+leafClass (string padding charset) = 3
+leafClass (bitField order offset precision) = 4
+leafClass (opaque tag) = 5
+leafClass (reference kind) = 7
 
 -- the class, "the table's": a class 11 message gives a compound
 unfoldable pub classNumber : Datatype → ℕ
@@ -125,14 +128,15 @@ unfoldable pub enumValues : List EnumMember → List ℕ
 enumValues [] = []
 enumValues (m ∷ ms) = m .value ++ enumValues ms
 
+-- a leaf's pool bytes: only an opaque has some
 unfoldable pub leafPool : Leaf → List ℕ
-leafPool (fixedPoint o s f q) = []
-leafPool (floatingPoint o y) = []
-leafPool (time o q) = []
-leafPool (string a c) = []
-leafPool (bitField o f q) = []
-leafPool (opaque g) = g
-leafPool (reference k) = []
+leafPool (fixedPoint order signed offset precision) = []
+leafPool (floatingPoint order layout) = []
+leafPool (time order precision) = []
+leafPool (string padding charset) = []
+leafPool (bitField order offset precision) = []
+leafPool (opaque tag) = tag
+leafPool (reference kind) = []
 
 unfoldable mutual
   -- the pool bytes: "names, tags, values and dimensions, packed in message order, an enumeration's names before its values"
@@ -147,12 +151,12 @@ unfoldable mutual
   memberPool noMembers = []
   memberPool (member b o t ms) = b ++ (poolBytes t ++ memberPool ms)
 
--- a reference whose kind passes a test
+-- a leaf is a reference whose kind passes a test
 unfoldable pub refers : (ℕ → Bool) → Leaf → Bool
-refers test (fixedPoint o s f q) = false
-refers test (floatingPoint o y) = false
-refers test (time o q) = false
-refers test (string a c) = false
-refers test (bitField o f q) = false
-refers test (opaque g) = false
-refers test (reference k) = test k
+refers test (fixedPoint order signed offset precision) = false
+refers test (floatingPoint order layout) = false
+refers test (time order precision) = false
+refers test (string padding charset) = false
+refers test (bitField order offset precision) = false
+refers test (opaque tag) = false
+refers test (reference kind) = test kind

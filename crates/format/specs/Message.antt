@@ -73,15 +73,15 @@ unfoldable pub variableCharset : (isString charset : ℕ) → ℕ
 variableCharset zero c = 0
 variableCharset (suc i) c = codeOf c
 
--- a leaf's, in version 1
+-- a leaf's message, in every edition of version 1
 unfoldable pub leafMessage : (size : ℕ) → Leaf → List ℕ
-leafMessage n (fixedPoint o s f q) = header 0 1 (fixedFlags o s) 0 n ++ packNumbers bitWidths (f ∷ q ∷ [])
-leafMessage n (floatingPoint o y) = header 1 1 (floatFlags o) ((n * 8 - 1) % 256) n ++ packNumbers floatWidths (floatNumbers y)
-leafMessage n (time o q) = header 2 1 o 0 n ++ packNumbers timeWidths (q ∷ [])
-leafMessage n (string a c) = header 3 1 (nibbles a c) 0 n
-leafMessage n (bitField o f q) = header 4 1 o 0 n ++ packNumbers bitWidths (f ∷ q ∷ [])
-leafMessage n (opaque g) = header 5 1 (length g) 0 n ++ (g ++ zeros (paddingTo8 (length g)))
-leafMessage n (reference k) = header 7 1 k 0 n
+leafMessage n (fixedPoint order signed offset precision) = header 0 1 (fixedFlags order signed) 0 n ++ packNumbers bitWidths (offset ∷ precision ∷ [])
+leafMessage n (floatingPoint order layout) = header 1 1 (floatFlags order) ((n * 8 - 1) % 256) n ++ packNumbers floatWidths (floatNumbers layout)
+leafMessage n (time order precision) = header 2 1 order 0 n ++ packNumbers timeWidths (precision ∷ [])
+leafMessage n (string padding charset) = header 3 1 (nibbles padding charset) 0 n
+leafMessage n (bitField order offset precision) = header 4 1 order 0 n ++ packNumbers bitWidths (offset ∷ precision ∷ [])
+leafMessage n (opaque tag) = header 5 1 (length tag) 0 n ++ (tag ++ zeros (paddingTo8 (length tag)))
+leafMessage n (reference kind) = header 7 1 kind 0 n
 
 unfoldable mutual
   -- "Edition 3 equals `serialize`: classes 6, 8, 10 in version 3, all others 1. Edition 2 writes 6, 8, 10 in version 2; edition 1 writes
@@ -107,19 +107,19 @@ unfoldable pub enumNameLength : (version : ℕ) → List EnumMember → ℕ
 enumNameLength v [] = 0
 enumNameLength v (m ∷ ms) = nameLength v (m .name) + enumNameLength v ms
 
-unfoldable pub lengthOfLeaf : Leaf → ℕ
-lengthOfLeaf (fixedPoint o s f q) = 12
-lengthOfLeaf (floatingPoint o y) = 20
-lengthOfLeaf (time o q) = 10
-lengthOfLeaf (string a c) = 8
-lengthOfLeaf (bitField o f q) = 12
-lengthOfLeaf (opaque g) = 8 + (length g + paddingTo8 (length g))
-lengthOfLeaf (reference k) = 8
+unfoldable pub leafMessageLength : Leaf → ℕ
+leafMessageLength (fixedPoint order signed offset precision) = 12
+leafMessageLength (floatingPoint order layout) = 20
+leafMessageLength (time order precision) = 10
+leafMessageLength (string padding charset) = 8
+leafMessageLength (bitField order offset precision) = 12
+leafMessageLength (opaque tag) = 8 + (length tag + paddingTo8 (length tag))
+leafMessageLength (reference kind) = 8
 
 unfoldable mutual
   -- the length of the message, without its bytes
   pub messageLength : (edition : ℕ) → Datatype → ℕ
-  messageLength e (leaf n x) = lengthOfLeaf x
+  messageLength e (leaf n x) = leafMessageLength x
   messageLength e (compound n ms) = 8 + membersLength e n ms
   messageLength e (enumeration n t ms) = 8 + (messageLength e t + (enumNameLength e ms + length (enumValues ms)))
   messageLength e (variableLength i a c t) = 8 + messageLength e t
@@ -174,13 +174,13 @@ storableVariable i a c = (eqb i 0 && (eqb a 0 && eqb c 0)) || (eqb i 1 && ((ltb 
 
 -- a leaf's codes and numbers; "float size at most 536,870,911", "VAX only in floats"
 unfoldable pub storableLeaf : (size : ℕ) → Leaf → Bool
-storableLeaf n (fixedPoint o s f q) = all (ltb o 2 ∷ ltb s 2 ∷ fit bitWidths (f ∷ q ∷ []) ∷ [])
-storableLeaf n (floatingPoint o y) = all (leb n 536870911 ∷ ltb o 3 ∷ fit floatWidths (floatNumbers y) ∷ [])
-storableLeaf n (time o q) = all (ltb o 2 ∷ fit timeWidths (q ∷ []) ∷ [])
-storableLeaf n (string a c) = all (ltb a 3 ∷ ltb c 2 ∷ [])
-storableLeaf n (bitField o f q) = all (ltb o 2 ∷ fit bitWidths (f ∷ q ∷ []) ∷ [])
-storableLeaf n (opaque g) = ltb (length g) 256
-storableLeaf n (reference k) = ltb k 2
+storableLeaf n (fixedPoint order signed offset precision) = all (ltb order 2 ∷ ltb signed 2 ∷ fit bitWidths (offset ∷ precision ∷ []) ∷ [])
+storableLeaf n (floatingPoint order layout) = all (leb n 536870911 ∷ ltb order 3 ∷ fit floatWidths (floatNumbers layout) ∷ [])
+storableLeaf n (time order precision) = all (ltb order 2 ∷ fit timeWidths (precision ∷ []) ∷ [])
+storableLeaf n (string padding charset) = all (ltb padding 3 ∷ ltb charset 2 ∷ [])
+storableLeaf n (bitField order offset precision) = all (ltb order 2 ∷ fit bitWidths (offset ∷ precision ∷ []) ∷ [])
+storableLeaf n (opaque tag) = ltb (length tag) 256
+storableLeaf n (reference kind) = ltb kind 2
 
 unfoldable mutual
   -- "Storable". "each offset at most 255, 65,535 or 4,294,967,295 by the width above": the width of edition 3, in every edition

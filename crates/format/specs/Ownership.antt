@@ -16,15 +16,15 @@ unfoldable mutual
   -- "A field is a type other than a compound or an array, reached through these only: the outermost type itself, a member's or an
   -- entry's." The field lies at a place of the record; entry k of an array at k base sizes.
   pub FieldAt : Datatype → (field : Datatype) (place : ℕ) → Type 0
-  FieldAt (leaf n y) x p = (x ≡ leaf n y) × (p ≡ 0)
-  FieldAt (compound n ms) x p = MemberFieldAt ms x p
-  FieldAt (enumeration n t ms) x p = (x ≡ enumeration n t ms) × (p ≡ 0)
-  FieldAt (variableLength i a c t) x p = (x ≡ variableLength i a c t) × (p ≡ 0)
-  FieldAt (array ds t) x p = (k : ℕ) × (q : ℕ) × (k < product ds) × (p ≡ k * typeSize t + q) × FieldAt t x q
+  FieldAt (leaf n x) field place = (field ≡ leaf n x) × (place ≡ 0)
+  FieldAt (compound n ms) field place = MemberFieldAt ms field place
+  FieldAt (enumeration n t ms) field place = (field ≡ enumeration n t ms) × (place ≡ 0)
+  FieldAt (variableLength i a c t) field place = (field ≡ variableLength i a c t) × (place ≡ 0)
+  FieldAt (array ds t) field place = (k : ℕ) × (q : ℕ) × (k < product ds) × (place ≡ k * typeSize t + q) × FieldAt t field q
 
   pub MemberFieldAt : Members → (field : Datatype) (place : ℕ) → Type 0
-  MemberFieldAt noMembers x p = ⊥
-  MemberFieldAt (member b o t ms) x p = ((q : ℕ) × (p ≡ o + q) × FieldAt t x q) ⊎ MemberFieldAt ms x p
+  MemberFieldAt noMembers field place = ⊥
+  MemberFieldAt (member b o t ms) field place = ((q : ℕ) × (place ≡ o + q) × FieldAt t field q) ⊎ MemberFieldAt ms field place
 
 -- "all other types own all their bytes": place i is one of a field's bytes; overlaps are united
 pub record Owned (t : Datatype) (i : ℕ) : Type 0 where
@@ -42,15 +42,15 @@ inEntries f stride (suc n) i = (leb (n * stride) i && f (i - n * stride)) || inE
 unfoldable mutual
   -- the same as a test: "A compound owns its members' bytes at their offsets, overlaps united; an array owns its base's at each stride"
   pub owned : Datatype → ℕ → Bool
-  owned (leaf n x) i = ltb i n
-  owned (compound n ms) i = memberOwned ms i
-  owned (enumeration n t ms) i = ltb i n
-  owned (variableLength x a c t) i = ltb i 16
-  owned (array ds t) i = inEntries (owned t) (typeSize t) (product ds) i
+  owned (leaf n x) place = ltb place n
+  owned (compound n ms) place = memberOwned ms place
+  owned (enumeration n t ms) place = ltb place n
+  owned (variableLength i a c t) place = ltb place 16
+  owned (array ds t) place = inEntries (owned t) (typeSize t) (product ds) place
 
   pub memberOwned : Members → ℕ → Bool
-  memberOwned noMembers i = false
-  memberOwned (member b o t ms) i = (leb o i && owned t (i - o)) || memberOwned ms i
+  memberOwned noMembers place = false
+  memberOwned (member b o t ms) place = (leb o place && owned t (place - o)) || memberOwned ms place
 
 unfoldable mutual
   -- refusal 16: "a member ends past its compound, or an array's true size passes 4,294,967,295", in any row

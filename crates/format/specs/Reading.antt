@@ -2,7 +2,7 @@
 use Prim.Native.Nat.{ℕ, zero, suc, _+_, _-_, _*_, _/_, min}
 use mathlib.Core.Bool.{Bool, true, false, cond}
 use mathlib.Core.Option.{Option, none, some}
-use mathlib.Core.List.{List, [], _∷_}
+use mathlib.Core.List.{List, [], _∷_, _++_}
 use lib.ListN.{length, take, drop, getD}
 use lib.Dec.{leb, ltb, eqb}
 use Rattle.refusal.specs.declared.Refusal.{Refusal}
@@ -13,7 +13,7 @@ use Rattle.format.specs.Bits.{lowBits, highBits, bitAt, floatOrder}
 use Rattle.format.specs.Utf8.{mended}
 use Rattle.format.specs.Datatype.{floatLayout, fixedPoint, floatingPoint, time, string, bitField, opaque, reference, Datatype, leaf, compound, enumeration, variableLength, array, Members, noMembers, member, EnumMember, typeSize}
 use Rattle.format.specs.Message.{namePadding, offsetWidth, skippedBytes, reservedBytes, permutationBytes, bitWidths, floatWidths, timeWidths}
-use Rattle.format.specs.Table.{LeafKind, isFixedPoint, isFloatingPoint, isTime, isString, isBitField, isOpaque, isReference, Kind, isLeaf, isCompound, isEnumeration, isVariableLength, isArray, isUnknown, maxLevels, maxRows, maxPool, tableOf, poolOf}
+use Rattle.format.specs.Table.{LeafKind, isFixedPoint, isFloatingPoint, isTime, isString, isBitField, isOpaque, isReference, Kind, isLeaf, isCompound, isEnumeration, isVariableLength, isArray, isUnknown, classes, maxLevels, maxRows, maxPool, tableOf, poolOf}
 use Rattle.format.specs.Outcome.{Outcome, gives, refuses}
 
 -- what was read, with the place in the innermost message, the bytes from there on, and the rows and pool bytes still free
@@ -21,7 +21,8 @@ pub data Answer (A : Type 0) : Type 0 where
   got : A → (at : ℕ) (bytes : List ℕ) (rows pool : ℕ) → Answer A
   refused : Refusal → Answer A
 
--- over the number of bytes from the innermost message's start to the end of the data
+-- over what is available, the bytes from the innermost message's start to the end of the data; in clauses s is the bytes from the place on,
+-- r and p the rows and pool bytes still free
 abbrev pub Reader : Type 0 → Type 0
 Reader A = (available at : ℕ) (bytes : List ℕ) (rows pool : ℕ) → Answer A
 
@@ -31,29 +32,29 @@ then (refused e) k = refused e
 
 infixl 20 _>>=_
 abbrev pub _>>=_ : {A B : Type 0} → Reader A → (A → Reader B) → Reader B
-_>>=_ m f = λ v at s r p. then (m v at s r p) (λ a. f a v)
+_>>=_ m f = λ available at s r p. then (m available at s r p) (λ a. f a available)
 
 infixl 20 _>>_
 abbrev pub _>>_ : {A B : Type 0} → Reader A → Reader B → Reader B
-_>>_ m n = λ v at s r p. then (m v at s r p) (λ a. n v)
+_>>_ m n = λ available at s r p. then (m available at s r p) (λ a. n available)
 
 abbrev pub give : {A : Type 0} → A → Reader A
-give a = λ v at s r p. got a at s r p
+give a = λ available at s r p. got a at s r p
 
 abbrev pub refuse : {A : Type 0} → Refusal → Reader A
-refuse e = λ v at s r p. refused e
+refuse e = λ available at s r p. refused e
 
 -- a test that has to be passed
 unfoldable pub require : Bool → Refusal → Reader (Unit {0})
-require b e v at s r p = cond b (got tt at s r p) (refused e)
+require passed e available at s r p = cond passed (got tt at s r p) (refused e)
 
 -- n bytes, which have to be there: "as the Rust's `UnexpectedEof`, counted within the innermost message"
 unfoldable pub bytes : ℕ → Reader (List ℕ)
-bytes n v at s r p = cond (leb n (length s)) (got (take n s) (at + n) (drop n s) r p) (refused (Short (at + n) v))
+bytes n available at s r p = cond (leb n (length s)) (got (take n s) (at + n) (drop n s) r p) (refused (Short (at + n) available))
 
 -- n bytes, counted and not required to be there
 unfoldable pub skip : ℕ → Reader (Unit {0})
-skip n v at s r p = got tt (at + n) (drop n s) r p
+skip n available at s r p = got tt (at + n) (drop n s) r p
 
 -- a number of so many bytes
 unfoldable pub number : ℕ → Reader ℕ
@@ -67,22 +68,23 @@ numbers ws = do
   b ← bytes (totalWidth ws)
   give (unpackNumbers ws b)
 
+-- a name that ends at a place of the bytes
 unfoldable pub nameTo : Option ℕ → Reader (List ℕ)
-nameTo none v at s r p = refused (Short (at + 1) v)
-nameTo (some n) v at s r p = got (take n s) (at + (n + 1)) (drop (n + 1) s) r p
+nameTo none available at s r p = refused (Short (at + 1) available)
+nameTo (some n) available at s r p = got (take n s) (at + (n + 1)) (drop (n + 1) s) r p
 
 -- a name that ends in NUL
 unfoldable pub name : Reader (List ℕ)
-name v at s r p = nameTo (firstNul s) v at s r p
+name available at s r p = nameTo (firstNul s) available at s r p
 
 -- "A further row is wanted, before its bytes are sought"
 unfoldable pub takeRow : Reader (Unit {0})
-takeRow v at s zero p = refused TooMany
-takeRow v at s (suc r) p = got tt at s r p
+takeRow available at s zero p = refused TooMany
+takeRow available at s (suc r) p = got tt at s r p
 
 -- "A piece is found whole but doesn't fit"
 unfoldable pub piece : List ℕ → Reader (Unit {0})
-piece b v at s r p = cond (leb (length b) p) (got tt at s r (p - length b)) (refused PoolFull)
+piece b available at s r p = cond (leb (length b) p) (got tt at s r (p - length b)) (refused PoolFull)
 
 -- a message inside a message is counted from its own start
 unfoldable pub moved : {A : Type 0} → ℕ → Answer A → Answer A
@@ -90,7 +92,7 @@ moved at (got a n s r p) = got a (at + n) s r p
 moved at (refused e) = refused e
 
 unfoldable pub inner : {A : Type 0} → Reader A → Reader A
-inner m v at s r p = moved at (m (length s) 0 s r p)
+inner m available at s r p = moved at (m (length s) 0 s r p)
 
 -- "class is the low four bits of the first byte, version the high four; three flag bytes f0, f1, f2; size, 4 bytes"
 unfoldable pub headerOf : List ℕ → Header
@@ -105,23 +107,7 @@ readHeader l = do
 
 -- classes 0 to 11; class 11 "gives a compound"
 unfoldable pub classKind : ℕ → Kind
-classKind c =
-    getD
-    (isLeaf isFixedPoint
-    ∷ isLeaf isFloatingPoint
-    ∷ isLeaf isTime
-    ∷ isLeaf isString
-    ∷ isLeaf isBitField
-    ∷ isLeaf isOpaque
-    ∷ isCompound
-    ∷ isLeaf isReference
-    ∷ isEnumeration
-    ∷ isVariableLength
-    ∷ isArray
-    ∷ isCompound
-    ∷ [])
-    c
-    isUnknown
+classKind c = getD (classes ++ (isCompound ∷ [])) c isUnknown
 
 -- "Class 11 reads as version 3, whichever version it bears"
 unfoldable pub layoutVersion : Header → ℕ

@@ -1,4 +1,4 @@
--- `embedded_reference_slots` and `stored_object_references`.
+-- `embedded_reference_slots` and `stored_object_references`; the first type of size 0, which comparing asks for too.
 use Prim.Native.Nat.{ℕ, zero, suc, _+_, _*_, _/_, max}
 use mathlib.Core.Bool.{Bool, false, cond, not, _&&_, _||_}
 use mathlib.Core.List.{List, [], _∷_, _++_}

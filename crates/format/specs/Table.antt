@@ -11,33 +11,33 @@ use Rattle.format.specs.Columns.{kindColumn, sizeColumn, memberOffsetCol
 use Rattle.format.specs.Datatype.{Leaf, leafClass, fixedPoint, floatingPoint, time, string, bitField, opaque, reference, Datatype, leaf, compound, enumeration, variableLength, array, Members, noMembers, member, EnumMember, memberCount, depth, rowCount, poolBytes}
 use Rattle.format.specs.Outcome.{Outcome, gives, refuses}
 
--- the value of a column, by the columns that are named
+-- the value of a column, if those of some columns are given; the others are 0
 abbrev pub valueIn : List (ℕ × ℕ) → (column : ℕ) → ℕ
 valueIn [] c = 0
 valueIn (x ∷ xs) c = cond (eqb (x .0) c) (x .1) (valueIn xs c)
 
--- n columns from c on
+-- of n columns from column c on
 abbrev pub wordsFrom : List (ℕ × ℕ) → (c n : ℕ) → List ℕ
 wordsFrom xs c zero = []
 wordsFrom xs c (suc n) = valueIn xs c ∷ wordsFrom xs (suc c) n
 
--- the 16 words of a row: its kind, the columns that are named, and "zeros .. in whatever a row of its class doesn't use"
+-- the 16 words of a row of a kind, by the columns that it uses: "zeros .. in whatever a row of its class doesn't use"
 unfoldable pub row : (kind : ℕ) (columns : List (ℕ × ℕ)) → List ℕ
 row k xs = wordsFrom ((kindColumn, k) ∷ xs) 0 16
 
--- the columns of a leaf beside its kind and size; its tag begins at a place of the pool
+-- the columns that a leaf uses beside its size; its tag begins at a place of the pool
 unfoldable pub columnsOf : (place : ℕ) → Leaf → List (ℕ × ℕ)
 columnsOf p (fixedPoint order signed offset precision) =
     (orderColumn, order) ∷ (signedColumn, signed) ∷ (offsetColumn, offset) ∷ (precisionColumn, precision) ∷ []
-columnsOf p (floatingPoint order y) =
+columnsOf p (floatingPoint order layout) =
     (orderColumn, order)
-    ∷ (offsetColumn, y .offset)
-    ∷ (precisionColumn, y .precision)
-    ∷ (exponentLocationColumn, y .exponentLocation)
-    ∷ (exponentSizeColumn, y .exponentSize)
-    ∷ (mantissaLocationColumn, y .mantissaLocation)
-    ∷ (mantissaSizeColumn, y .mantissaSize)
-    ∷ (biasColumn, y .bias)
+    ∷ (offsetColumn, layout .offset)
+    ∷ (precisionColumn, layout .precision)
+    ∷ (exponentLocationColumn, layout .exponentLocation)
+    ∷ (exponentSizeColumn, layout .exponentSize)
+    ∷ (mantissaLocationColumn, layout .mantissaLocation)
+    ∷ (mantissaSizeColumn, layout .mantissaSize)
+    ∷ (biasColumn, layout .bias)
     ∷ []
 columnsOf p (time order precision) = (orderColumn, order) ∷ (precisionColumn, precision) ∷ []
 columnsOf p (string padding charset) = (paddingColumn, padding) ∷ (charsetColumn, charset) ∷ []
@@ -89,18 +89,18 @@ unfoldable pub allBelow : ℕ → List ℕ → Bool
 allBelow k [] = true
 allBelow k (d ∷ ds) = ltb d k && allBelow k ds
 
--- its "known codes"
+-- a leaf has "known codes"
 unfoldable pub leafKnown : Leaf → Bool
-leafKnown (fixedPoint o s f q) = ltb o 3 && ltb s 2
-leafKnown (floatingPoint o y) = ltb o 3
-leafKnown (time o q) = ltb o 3
-leafKnown (string a c) = ltb a 3 && ltb c 2
-leafKnown (bitField o f q) = ltb o 3
-leafKnown (opaque g) = true
-leafKnown (reference k) = ltb k 2
+leafKnown (fixedPoint order signed offset precision) = ltb order 3 && ltb signed 2
+leafKnown (floatingPoint order layout) = ltb order 3
+leafKnown (time order precision) = ltb order 3
+leafKnown (string padding charset) = ltb padding 3 && ltb charset 2
+leafKnown (bitField order offset precision) = ltb order 3
+leafKnown (opaque tag) = true
+leafKnown (reference kind) = ltb kind 2
 
 unfoldable mutual
-  -- "known codes", and dimensions of 32 bits
+  -- a type has "known codes", and dimensions of 32 bits
   pub known : Datatype → Bool
   known (leaf n x) = leafKnown x
   known (compound n ms) = knownMembers ms
@@ -183,9 +183,16 @@ sameWords [] (b ∷ y) = false
 sameWords (a ∷ x) [] = false
 sameWords (a ∷ x) (b ∷ y) = eqb a b && sameWords x y
 
--- word k of a row
+-- word c of a row, by the row's words and in the table
 abbrev pub column : List ℕ → ℕ → ℕ
-column w k = getD w k 0
+column w c = getD w c 0
+
+abbrev pub wordAt : (table : List ℕ) (r c : ℕ) → ℕ
+wordAt table r c = getD table (r * 16 + c) 0
+
+-- row r has exactly these words
+abbrev pub rowIs : (table : List ℕ) (r : ℕ) (words : List ℕ) → Bool
+rowIs table r v = sameWords (wordsAt table r) v
 
 -- so many members of a compound
 unfoldable pub membersAt : Walk Datatype → (table pool : List ℕ) → ℕ → Walk Members
@@ -218,7 +225,7 @@ enumValuesAt pool (x ∷ ns) = do
   ms ← enumValuesAt pool ns
   give (record { name = x .0; value = v } ∷ ms)
 
--- the kinds of a leaf's row, and of a type's
+-- the kinds of leaves, and of all types
 pub data LeafKind : Type 0 where
   isFixedPoint isFloatingPoint isTime isString isBitField isOpaque isReference : LeafKind
 
@@ -226,12 +233,10 @@ pub data Kind : Type 0 where
   isLeaf : LeafKind → Kind
   isCompound isEnumeration isVariableLength isArray isUnknown : Kind
 
--- "kind: class + 1 (1 to 11) for a type"
-unfoldable pub kindOf : ℕ → Kind
-kindOf k =
-    getD
-    (isUnknown
-    ∷ isLeaf isFixedPoint
+-- the classes that a table has, 0 to 10
+abbrev pub classes : List Kind
+classes =
+    isLeaf isFixedPoint
     ∷ isLeaf isFloatingPoint
     ∷ isLeaf isTime
     ∷ isLeaf isString
@@ -242,11 +247,13 @@ kindOf k =
     ∷ isEnumeration
     ∷ isVariableLength
     ∷ isArray
-    ∷ [])
-    k
-    isUnknown
+    ∷ []
 
--- the pool bytes of a leaf: only an opaque has a tag, of so many bytes
+-- "kind: class + 1 (1 to 11) for a type"
+unfoldable pub kindOf : ℕ → Kind
+kindOf k = getD (isUnknown ∷ classes) k isUnknown
+
+-- a leaf's pool bytes: only an opaque has some, as many as its row says. No other leaf looks at the pool
 unfoldable pub tagAt : (pool : List ℕ) (length : ℕ) → LeafKind → Walk (List ℕ)
 tagAt pool n isFixedPoint = give []
 tagAt pool n isFloatingPoint = give []

@@ -8,7 +8,7 @@ use lib.ListN.{length, length-append}
 use lib.Dec.{leb, ltb}
 use Rattle.format.specs.Bytes.{paddingTo8, dimensionBytes}
 use Rattle.format.specs.Datatype.{Leaf, fixedPoint, floatingPoint, time, string, bitField, opaque, reference, leafPool, Datatype, leaf, compound, enumeration, variableLength, array, Members, noMembers, member, EnumMember, rowCount, memberRowCount, enumNames, enumValues, poolBytes, memberPool}
-use Rattle.format.specs.Message.{lengthOfLeaf, namePadding, offsetWidth, skippedBytes, reservedBytes, permutationBytes, nameLength, enumNameLength, messageLength, membersLength}
+use Rattle.format.specs.Message.{leafMessageLength, namePadding, offsetWidth, skippedBytes, reservedBytes, permutationBytes, nameLength, enumNameLength, messageLength, membersLength}
 use Rattle.format.specs.Table.{WithinLimits}
 use Rattle.format.proofs.Bytes.{length-dimensions}
 use Rattle.measure.specs.Measure.{mostLength}
@@ -48,8 +48,8 @@ module _ (e : ℕ) where
   names-below [] = omega arith
   names-below (m ∷ ms) = omega (arith, names-below ms, name-below (m .name), length-append (m .name) (enumNames ms))
 
-leaf-below : (x : Leaf) → lengthOfLeaf x ≤ 40 + 2 * length (leafPool x)
-unfolding lengthOfLeaf leafPool
+leaf-below : (x : Leaf) → leafMessageLength x ≤ 40 + 2 * length (leafPool x)
+unfolding leafMessageLength leafPool
 leaf-below (fixedPoint o s f q) = omega arith
 leaf-below (floatingPoint o y) = omega arith
 leaf-below (time o q) = omega arith

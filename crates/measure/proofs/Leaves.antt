@@ -9,11 +9,11 @@ use lib.Dec.{leb, ltb}
 use borrow.Author.Tests.{lt-ltb, le-leb, lt-leb, leb-true}
 use Rattle.format.specs.Bytes.{paddingTo8}
 use Rattle.format.specs.Datatype.{floatNumbers, leafClass, leafPool, typeSize}
-use Rattle.format.specs.Message.{storableLeaf, lengthOfLeaf, storable, carried, messageLength, all, fit, offsetWidth}
-use Rattle.format.specs.Table.{leafRow, leafKnown, leafOf, found, LeafKind, isFixedPoint, isFloatingPoint, isTime, isString, isBitField, isOpaque, isReference, Kind, isLeaf, isCompound, isEnumeration, isVariableLength, isArray, isUnknown, kindOf}
+use Rattle.format.specs.Message.{storableLeaf, leafMessageLength, storable, carried, messageLength, all, fit, offsetWidth}
+use Rattle.format.specs.Table.{wordAt, rowIs, leafRow, leafKnown, leafOf, found, LeafKind, isFixedPoint, isFloatingPoint, isTime, isString, isBitField, isOpaque, isReference, Kind, isLeaf, isCompound, isEnumeration, isVariableLength, isArray, isUnknown, kindOf}
 use Rattle.format.proofs.Booleans.{and-both}
 use Rattle.format.proofs.Lists.{length-part}
-use Rattle.rows.specs.Entries.{wordAt, rowIs, pick, leafAt, tagInside, leafEntry, entryOf, entryAt, leafKindOf, leafType}
+use Rattle.rows.specs.Entries.{pick, leafAt, tagInside, leafEntry, entryOf, entryAt, leafKindOf, leafType}
 use Rattle.rows.specs.declared.Entry.{Entry}
 use Rattle.rows.specs.declared.Entry.the-variants.{Leaf, Compound, Enumeration, VariableLength, Array, Unknown}
 use Rattle.measure.specs.Measure.{mostLength, measureOf, word, partsFit, leafStorable, leafLength, offsetFits}
@@ -139,7 +139,7 @@ module _ (e : ℕ) (table pool : List ℕ) (r p : ℕ) where
   is-pick false x h = tt
 
   is-kind : (k : Kind) → LeafIs e table pool r p (entryOf table pool r p k)
-  unfolding entryOf tagInside leafEntry leafAt leafKnown leafClass leafPool LeafIs leafType measureOf typeSize storable storableLeaf carried messageLength lengthOfLeaf all fit leafKindOf leafOf floatNumbers leafStorable partsFit leafLength
+  unfolding entryOf tagInside leafEntry leafAt leafKnown leafClass leafPool LeafIs leafType measureOf typeSize storable storableLeaf carried messageLength leafMessageLength all fit leafKindOf leafOf floatNumbers leafStorable partsFit leafLength
   is-kind (isLeaf isFixedPoint) =
       is-pick _ _ (λ h s w.
       let g = codes (row-is isFixedPoint) (ltb (wordAt table r 5) 3) (ltb (wordAt table r 6) 2) h .1 in

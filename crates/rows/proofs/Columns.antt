@@ -12,9 +12,9 @@ use mir.Val.{Fits}
 use borrow.Author.Tests.{eq-eqb}
 use Rattle.format.specs.Bytes.{allZero}
 use Rattle.format.specs.Datatype.{leafClass, leafPool}
-use Rattle.format.specs.Table.{row, columnsOf, leafRow, compoundRow, enumerationRow, variableLengthRow, arrayRow, memberRow, enumMemberRow, leafKnown, sameWords, isUnknown, kindOf, leafOf}
+use Rattle.format.specs.Table.{wordAt, row, columnsOf, leafRow, compoundRow, enumerationRow, variableLengthRow, arrayRow, memberRow, enumMemberRow, leafKnown, sameWords, isUnknown, kindOf, leafOf}
 use Rattle.format.proofs.TableSteps.{listAt, rowIs-words, take-listAt}
-use Rattle.rows.specs.Entries.{wordAt, pick, pickMember, leafAt, tagInside, leafEntry, entryOf, entryAt, memberAt, enumMemberAt, EntryInside, MemberInside, memberNameLength, enumMemberNameLength}
+use Rattle.rows.specs.Entries.{pick, pickMember, leafAt, tagInside, leafEntry, entryOf, entryAt, memberAt, enumMemberAt, EntryInside, MemberInside, memberNameLength, enumMemberNameLength}
 use Rattle.rows.specs.Columns.{clearColumns, leafColumns, groupColumns, variableLengthColumns, pieceColumns}
 use Rattle.rows.specs.declared.Entry.{Entry}
 use Rattle.rows.specs.declared.Entry.the-variants.{Leaf, Compound, Enumeration, VariableLength, Array, Unknown}

@@ -11,12 +11,12 @@ use mir.Syntax.{w64}
 use mir.Val.{Fits}
 use borrow.Author.Tests.{leb-true}
 use Rattle.format.specs.Datatype.{leafClass, leafPool, Datatype, member}
-use Rattle.format.specs.Table.{row, columnsOf, leafRow, compoundRow, enumerationRow, variableLengthRow, arrayRow, memberRow, enumMemberRow, leafKnown, tagAt, leafOf, LeafKind, Found, found, bad, Walk, andThen, isFixedPoint, isFloatingPoint, isTime, isString, isBitField, isOpaque, isReference, Kind, isLeaf, isCompound, isEnumeration, isVariableLength, isArray, isUnknown, kindOf, membersAt, enumNamesAt, typeAt}
+use Rattle.format.specs.Table.{wordAt, rowIs, row, columnsOf, leafRow, compoundRow, enumerationRow, variableLengthRow, arrayRow, memberRow, enumMemberRow, leafKnown, tagAt, leafOf, LeafKind, Found, found, bad, Walk, andThen, isFixedPoint, isFloatingPoint, isTime, isString, isBitField, isOpaque, isReference, Kind, isLeaf, isCompound, isEnumeration, isVariableLength, isArray, isUnknown, kindOf, membersAt, enumNamesAt, typeAt}
 use Rattle.format.proofs.Booleans.{and-both}
 use Rattle.format.proofs.Lists.{length-part}
 use Rattle.format.proofs.Rows.{length-row, length-leafRow, length-memberRow, length-enumMemberRow}
 use Rattle.format.proofs.TableSteps.{rowIs-fits, then-piece, typeAt-unknown, typeAt-leaf, typeAt-compound, typeAt-enumeration, typeAt-variableLength, typeAt-array, membersAt-step, enumNamesAt-step}
-use Rattle.rows.specs.Entries.{wordAt, rowIs, pick, pickMember, leafAt, tagInside, leafEntry, entryOf, entryAt, memberAt, enumMemberAt, EntryInside, MemberInside, memberNameLength, enumMemberNameLength, leafKindOf, leafType, fromEntry, fromMember, fromEnumMember}
+use Rattle.rows.specs.Entries.{pick, pickMember, leafAt, tagInside, leafEntry, entryOf, entryAt, memberAt, enumMemberAt, EntryInside, MemberInside, memberNameLength, enumMemberNameLength, leafKindOf, leafType, fromEntry, fromMember, fromEnumMember}
 use Rattle.rows.specs.declared.Entry.{Entry}
 use Rattle.rows.specs.declared.Entry.the-variants.{Leaf, Compound, Enumeration, VariableLength, Array}
 use Rattle.rows.specs.declared.Member.{Member}

@@ -9,8 +9,8 @@ use lib.ListN.{length, getD}
 use lib.Dec.{leb, eqb}
 use borrow.Author.Tests.{leb-true, leb-false, le-leb, lt-leb}
 use Rattle.format.specs.Datatype.{leafClass, leafPool, Datatype, Members}
-use Rattle.format.specs.Table.{row, arrayRow, memberRow, enumMemberRow, Found, bad, Walk, kindOf, leafOf, membersAt, enumNamesAt, typeAt}
-use Rattle.rows.specs.Entries.{wordAt, rowIs, pick, pickMember, leafAt, leafEntry, entryOf, entryAt, memberAt, enumMemberAt, EntryInside, EntryIfKnown, MemberInside, MemberIfKnown, memberNameLength, enumMemberNameLength, fromEntry, fromMember, fromEnumMember}
+use Rattle.format.specs.Table.{wordAt, rowIs, row, arrayRow, memberRow, enumMemberRow, Found, bad, Walk, kindOf, leafOf, membersAt, enumNamesAt, typeAt}
+use Rattle.rows.specs.Entries.{pick, pickMember, leafAt, leafEntry, entryOf, entryAt, memberAt, enumMemberAt, EntryInside, EntryIfKnown, MemberInside, MemberIfKnown, memberNameLength, enumMemberNameLength, fromEntry, fromMember, fromEnumMember}
 use Rattle.rows.specs.declared.Entry.{Entry}
 use Rattle.rows.specs.declared.Entry.the-variants.{Leaf, Compound, Enumeration, VariableLength, Array, Unknown}
 use Rattle.rows.specs.declared.Member.{Member}

@@ -6,8 +6,8 @@ use mathlib.Core.List.{List}
 use lib.ListN.{length}
 use lib.Dec.{eqb}
 use Rattle.format.specs.Datatype.{Leaf as LeafType, leafClass, leafPool, refers, Datatype, leaf}
-use Rattle.format.specs.Table.{LeafKind, isFixedPoint, isFloatingPoint, isTime, isString, isBitField, isOpaque, isReference, Kind, isLeaf, isCompound, isEnumeration, isVariableLength, isArray, isUnknown, leafOf, kindOf}
-use Rattle.rows.specs.Entries.{wordAt, pick, leafAt, leafEntry, entryOf, entryAt, leafKindOf, leafType}
+use Rattle.format.specs.Table.{wordAt, LeafKind, isFixedPoint, isFloatingPoint, isTime, isString, isBitField, isOpaque, isReference, Kind, isLeaf, isCompound, isEnumeration, isVariableLength, isArray, isUnknown, leafOf, kindOf}
+use Rattle.rows.specs.Entries.{pick, leafAt, leafEntry, entryOf, entryAt, leafKindOf, leafType}
 use Rattle.rows.specs.declared.Entry.{Entry}
 use Rattle.rows.specs.declared.Entry.the-variants.{Leaf, Compound, Enumeration, VariableLength, Array, Unknown}
 

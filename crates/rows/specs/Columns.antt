@@ -5,7 +5,7 @@ use mathlib.Core.List.{List}
 use lib.ListN.{length, take, drop}
 use lib.Dec.{leb, ltb, eqb}
 use Rattle.format.specs.Bytes.{allZero}
-use Rattle.rows.specs.Entries.{wordAt}
+use Rattle.format.specs.Table.{wordAt}
 
 -- columns a up to b of row r are zero
 unfoldable pub clearColumns : (table : List ℕ) (r a b : ℕ) → Bool

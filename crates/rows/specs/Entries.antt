@@ -8,19 +8,11 @@ use lib.Dec.{leb, ltb}
 use Rattle.format.specs.Bytes.{dimensionsFrom}
 use Rattle.format.specs.Columns.{kindColumn, sizeColumn, memberOffsetColumn, lengthColumn, countColumn, valueLengthColumn, codeColumn, isStringColumn, variablePaddingColumn, variableCharsetColumn}
 use Rattle.format.specs.Datatype.{Leaf as LeafType, leafClass, leafPool, Datatype, leaf, compound, enumeration, variableLength, array, Members, member}
-use Rattle.format.specs.Table.{leafRow, compoundRow, enumerationRow, variableLengthRow, arrayRow, memberRow, enumMemberRow, leafKnown, Found, found, bad, Walk, andThen, wordsAt, sameWords, LeafKind, isFixedPoint, isFloatingPoint, isTime, isString, isBitField, isOpaque, isReference, Kind, isLeaf, isCompound, isEnumeration, isVariableLength, isArray, isUnknown, leafOf, kindOf, membersAt, enumNamesAt, enumValuesAt}
+use Rattle.format.specs.Table.{leafRow, compoundRow, enumerationRow, variableLengthRow, arrayRow, memberRow, enumMemberRow, leafKnown, Found, found, bad, Walk, andThen, wordAt, rowIs, LeafKind, isFixedPoint, isFloatingPoint, isTime, isString, isBitField, isOpaque, isReference, Kind, isLeaf, isCompound, isEnumeration, isVariableLength, isArray, isUnknown, leafOf, kindOf, membersAt, enumNamesAt, enumValuesAt}
 use Rattle.rows.specs.declared.Entry.{Entry}
 use Rattle.rows.specs.declared.Entry.the-variants.{Leaf, Compound, Enumeration, VariableLength, Array, Unknown}
 use Rattle.rows.specs.declared.Member.{Member}
 use Rattle.rows.specs.declared.Member.the-variants.{Named, Unnamed}
-
--- word c of row r
-abbrev pub wordAt : (table : List ℕ) (r c : ℕ) → ℕ
-wordAt table r c = getD table (r * 16 + c) 0
-
--- row r has exactly these words
-abbrev pub rowIs : (table : List ℕ) (r : ℕ) → List ℕ → Bool
-rowIs table r v = sameWords (wordsAt table r) v
 
 -- an entry, or a member, where the test holds
 unfoldable pub pick : Bool → Entry → Entry

@@ -21,10 +21,10 @@ use Rattle.writer_parts.specs.declared.Placed.the-variants.{Behind, Full
 use Rattle.writer_parts.specs.declared.Put.{Put}
 use Rattle.writer_parts.specs.declared.Put.the-variants.{At, Lost}
 use Rattle.writer_parts.proofs.Placing.{behind, full-behind, none-placed, stands, lost}
-use Rattle.format.specs.Table.{leafOf, isFixedPoint, isFloatingPoint, isTime, isString, isBitField, isOpaque, isReference, Kind, isLeaf, isCompound, isEnumeration, isVariableLength, isArray, isUnknown, kindOf}
+use Rattle.format.specs.Table.{wordAt, leafOf, isFixedPoint, isFloatingPoint, isTime, isString, isBitField, isOpaque, isReference, Kind, isLeaf, isCompound, isEnumeration, isVariableLength, isArray, isUnknown, kindOf}
 use Rattle.format.proofs.Facts.{StorableLeaf, Storable}
 use Rattle.format.proofs.Storable.{storable-fact}
-use Rattle.rows.specs.Entries.{wordAt, pick, leafAt, tagInside, leafEntry, entryOf, entryAt, leafKindOf, leafType}
+use Rattle.rows.specs.Entries.{pick, leafAt, tagInside, leafEntry, entryOf, entryAt, leafKindOf, leafType}
 use Rattle.rows.specs.declared.Entry.{Entry}
 use Rattle.rows.specs.declared.Entry.the-variants.{Leaf, Compound, Enumeration, VariableLength, Array, Unknown}
 

@@ -8,7 +8,7 @@ use lib.Dec.{eqb, ltb}
 use Rattle.format.specs.Bits.{fixedFlags, floatFlags, nibbles}
 use Rattle.format.specs.Bytes.{littleEndian, zeros, paddingTo8}
 use Rattle.format.specs.Message.{header}
-use Rattle.rows.specs.Entries.{wordAt}
+use Rattle.format.specs.Table.{wordAt}
 use Rattle.writer_parts.specs.Places.{Stands}
 use Rattle.writer_parts.specs.declared.Put.{Put}
 
