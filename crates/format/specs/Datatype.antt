@@ -32,7 +32,15 @@ floatNumbers y = y .offset ∷ y .precision ∷ y .exponentLocation ∷ y .expon
 -- a layout from numbers in that order
 unfoldable pub floatLayout : List ℕ → FloatLayout
 floatLayout x =
-    record { offset = getD x 0 0; precision = getD x 1 0; exponentLocation = getD x 2 0; exponentSize = getD x 3 0; mantissaLocation = getD x 4 0; mantissaSize = getD x 5 0; bias = getD x 6 0 }
+    record {
+      offset = getD x 0 0;
+      precision = getD x 1 0;
+      exponentLocation = getD x 2 0;
+      exponentSize = getD x 3 0;
+      mantissaLocation = getD x 4 0;
+      mantissaSize = getD x 5 0;
+      bias = getD x 6 0;
+    }
 
 -- a type that holds no other, but for its size
 pub data Leaf : Type 0 where

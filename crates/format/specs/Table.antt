@@ -253,15 +253,19 @@ classes =
 unfoldable pub kindOf : ℕ → Kind
 kindOf k = getD (isUnknown ∷ classes) k isUnknown
 
--- a leaf's pool bytes: only an opaque has some, as many as its row says. No other leaf looks at the pool
+-- only an opaque has a tag
+abbrev pub hasTag : LeafKind → Bool
+hasTag isFixedPoint = false
+hasTag isFloatingPoint = false
+hasTag isTime = false
+hasTag isString = false
+hasTag isBitField = false
+hasTag isOpaque = true
+hasTag isReference = false
+
+-- a leaf's tag, of so many pool bytes; a leaf that has none does not look at the pool
 unfoldable pub tagAt : (pool : List ℕ) (length : ℕ) → LeafKind → Walk (List ℕ)
-tagAt pool n isFixedPoint = give []
-tagAt pool n isFloatingPoint = give []
-tagAt pool n isTime = give []
-tagAt pool n isString = give []
-tagAt pool n isBitField = give []
-tagAt pool n isOpaque = nextPiece pool n
-tagAt pool n isReference = give []
+tagAt pool n k = cond (hasTag k) (nextPiece pool n) (give [])
 
 -- the leaf of a kind, by the words of its row and its tag
 unfoldable pub leafOf : (word : ℕ → ℕ) (tag : List ℕ) → LeafKind → Leaf

@@ -1,6 +1,6 @@
 -- What a row says, by its words: the same tests that `typeAt` makes of a row (proofs/Decode.antt: typeAt by entries).
 use Prim.Native.Nat.{ℕ, suc, _+_, _*_, _≤_, max}
-use mathlib.Core.Bool.{Bool, true, false, _&&_}
+use mathlib.Core.Bool.{Bool, true, false, not, _&&_, _||_}
 use mathlib.Core.Path.{_≡_}
 use mathlib.Core.List.{List, [], _∷_}
 use lib.ListN.{length, getD, take, drop}
@@ -8,7 +8,7 @@ use lib.Dec.{leb, ltb}
 use Rattle.format.specs.Bytes.{dimensionsFrom}
 use Rattle.format.specs.Columns.{kindColumn, sizeColumn, memberOffsetColumn, lengthColumn, countColumn, valueLengthColumn, codeColumn, isStringColumn, variablePaddingColumn, variableCharsetColumn}
 use Rattle.format.specs.Datatype.{Leaf as LeafType, leafClass, leafPool, Datatype, leaf, compound, enumeration, variableLength, array, Members, member}
-use Rattle.format.specs.Table.{leafRow, compoundRow, enumerationRow, variableLengthRow, arrayRow, memberRow, enumMemberRow, leafKnown, Found, found, bad, Walk, andThen, wordAt, rowIs, LeafKind, isFixedPoint, isFloatingPoint, isTime, isString, isBitField, isOpaque, isReference, Kind, isLeaf, isCompound, isEnumeration, isVariableLength, isArray, isUnknown, leafOf, kindOf, membersAt, enumNamesAt, enumValuesAt}
+use Rattle.format.specs.Table.{leafRow, compoundRow, enumerationRow, variableLengthRow, arrayRow, memberRow, enumMemberRow, leafKnown, Found, found, bad, Walk, andThen, wordAt, rowIs, LeafKind, isFixedPoint, isFloatingPoint, isTime, isString, isBitField, isOpaque, isReference, Kind, isLeaf, isCompound, isEnumeration, isVariableLength, isArray, isUnknown, hasTag, leafOf, kindOf, membersAt, enumNamesAt, enumValuesAt}
 use Rattle.rows.specs.declared.Entry.{Entry}
 use Rattle.rows.specs.declared.Entry.the-variants.{Leaf, Compound, Enumeration, VariableLength, Array, Unknown}
 use Rattle.rows.specs.declared.Member.{Member}
@@ -23,15 +23,9 @@ pick false e = Unknown
 unfoldable pub leafAt : (table pool : List ℕ) (r p : ℕ) → LeafKind → LeafType
 leafAt table pool r p k = leafOf (wordAt table r) (take (wordAt table r lengthColumn) (drop p pool)) k
 
--- its tag lies in the pool; only an opaque has one
+-- its tag, if it has one, lies in the pool
 unfoldable pub tagInside : (table pool : List ℕ) (r p : ℕ) → LeafKind → Bool
-tagInside table pool r p isFixedPoint = true
-tagInside table pool r p isFloatingPoint = true
-tagInside table pool r p isTime = true
-tagInside table pool r p isString = true
-tagInside table pool r p isBitField = true
-tagInside table pool r p isOpaque = leb (p + wordAt table r lengthColumn) (length pool)
-tagInside table pool r p isReference = true
+tagInside table pool r p k = not (hasTag k) || leb (p + wordAt table r lengthColumn) (length pool)
 
 -- the entry of a row that says leaf x: class, size, length of the tag, code
 unfoldable pub leafEntry : (table : List ℕ) (r : ℕ) → LeafType → Entry
