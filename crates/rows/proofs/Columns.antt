@@ -11,16 +11,15 @@ use mir.Syntax.{w64}
 use mir.Val.{Fits}
 use borrow.Author.Tests.{eq-eqb}
 use Rattle.format.specs.Bytes.{allZero}
-use Rattle.format.specs.Datatype.{leafClass, leafPool}
-use Rattle.format.specs.Table.{wordAt, row, columnsOf, leafRow, compoundRow, enumerationRow, variableLengthRow, arrayRow, memberRow, enumMemberRow, leafKnown, sameWords, isUnknown, kindOf, leafOf}
+use Rattle.format.specs.Table.{wordAt, row, compoundRow, enumerationRow, variableLengthRow, arrayRow, memberRow, enumMemberRow, sameWords, isUnknown, kindOf}
 use Rattle.format.proofs.TableSteps.{listAt, rowIs-words, take-listAt}
-use Rattle.rows.specs.Entries.{pick, pickMember, leafAt, tagInside, leafEntry, entryOf, entryAt, memberAt, enumMemberAt, EntryInside, MemberInside, memberNameLength, enumMemberNameLength}
+use Rattle.rows.specs.Entries.{pick, pickMember, entryOf, entryAt, memberAt, enumMemberAt, EntryInside, MemberInside, memberNameLength, enumMemberNameLength}
 use Rattle.rows.specs.Columns.{clearColumns, leafColumns, groupColumns, variableLengthColumns, pieceColumns}
 use Rattle.rows.specs.declared.Entry.{Entry}
 use Rattle.rows.specs.declared.Entry.the-variants.{Leaf, Compound, Enumeration, VariableLength, Array, Unknown}
 use Rattle.rows.specs.declared.Member.{Member}
 use Rattle.rows.specs.declared.Member.the-variants.{Named, Unnamed}
-use Rattle.rows.proofs.Decode.{entry-kind, opaque-picked, entry-inside, member-inside, enumMember-inside}
+use Rattle.rows.proofs.Decode.{leaf-entry, entry-kind, opaque-picked, entry-inside, member-inside, enumMember-inside}
 
 same-word : (n : ℕ) → eqb n n ≡ true
 same-word n = eq-eqb n n refl
@@ -39,23 +38,23 @@ module _ (table pool : List ℕ) (r p : ℕ) (h : r < length table / 16) where
   clear a b k = columns table r fits a b k
 
   pub fixedPoint-entry : getD table (r * 16) 0 ≡ 1 → entryAt table pool r p ≡ pick (leafColumns table r 6 9 3 && ltb (wordAt table r 6) 2) (Leaf 0 (wordAt table r 1) 0 (wordAt table r 5))
-  unfolding entryOf tagInside leafEntry leafAt leafOf leafClass leafPool leafKnown leafRow columnsOf row kindOf leafColumns allZero sameWords
+  unfolding leaf-entry row leafColumns allZero sameWords
   fixedPoint-entry e = entry-kind table pool r p e ∙ simp (rowIs-words table r fits, e, same-word, clear 2 5 (omega arith), clear 6 6 (omega arith), clear 9 16 (omega arith), and-assoc, and-true)
 
   pub floatingPoint-entry : getD table (r * 16) 0 ≡ 2 → entryAt table pool r p ≡ pick (leafColumns table r 7 14 3) (Leaf 1 (wordAt table r 1) 0 (wordAt table r 5))
-  unfolding entryOf tagInside leafEntry leafAt leafOf leafClass leafPool leafKnown leafRow columnsOf row kindOf leafColumns allZero sameWords
+  unfolding leaf-entry row leafColumns allZero sameWords
   floatingPoint-entry e = entry-kind table pool r p e ∙ simp (rowIs-words table r fits, e, same-word, clear 2 5 (omega arith), clear 6 7 (omega arith), clear 14 16 (omega arith), and-assoc, and-true)
 
   pub time-entry : getD table (r * 16) 0 ≡ 3 → entryAt table pool r p ≡ pick (leafColumns table r 8 9 3) (Leaf 2 (wordAt table r 1) 0 (wordAt table r 5))
-  unfolding entryOf tagInside leafEntry leafAt leafOf leafClass leafPool leafKnown leafRow columnsOf row kindOf leafColumns allZero sameWords
+  unfolding leaf-entry row leafColumns allZero sameWords
   time-entry e = entry-kind table pool r p e ∙ simp (rowIs-words table r fits, e, same-word, clear 2 5 (omega arith), clear 6 8 (omega arith), clear 9 16 (omega arith), and-assoc, and-true)
 
   pub string-entry : getD table (r * 16) 0 ≡ 4 → entryAt table pool r p ≡ pick (leafColumns table r 6 7 3 && ltb (wordAt table r 6) 2) (Leaf 3 (wordAt table r 1) 0 (wordAt table r 5))
-  unfolding entryOf tagInside leafEntry leafAt leafOf leafClass leafPool leafKnown leafRow columnsOf row kindOf leafColumns allZero sameWords
+  unfolding leaf-entry row leafColumns allZero sameWords
   string-entry e = entry-kind table pool r p e ∙ simp (rowIs-words table r fits, e, same-word, clear 2 5 (omega arith), clear 6 6 (omega arith), clear 7 16 (omega arith), and-assoc, and-true)
 
   pub bitField-entry : getD table (r * 16) 0 ≡ 5 → entryAt table pool r p ≡ pick (leafColumns table r 7 9 3) (Leaf 4 (wordAt table r 1) 0 (wordAt table r 5))
-  unfolding entryOf tagInside leafEntry leafAt leafOf leafClass leafPool leafKnown leafRow columnsOf row kindOf leafColumns allZero sameWords
+  unfolding leaf-entry row leafColumns allZero sameWords
   bitField-entry e = entry-kind table pool r p e ∙ simp (rowIs-words table r fits, e, same-word, clear 2 5 (omega arith), clear 6 7 (omega arith), clear 9 16 (omega arith), and-assoc, and-true)
 
   pub opaque-entry : getD table (r * 16) 0 ≡ 6 → entryAt table pool r p ≡ pick (pieceColumns table pool r p 4 1) (Leaf 5 (wordAt table r 1) (wordAt table r 3) (wordAt table r 5))
@@ -63,15 +62,15 @@ module _ (table pool : List ℕ) (r p : ℕ) (h : r < length table / 16) where
   opaque-entry e = entry-kind table pool r p e ∙ opaque-picked table pool r p ∙ simp (rowIs-words table r fits, e, same-word, clear 4 16 (omega arith), and-assoc, and-true, mul-one)
 
   pub compound-entry : getD table (r * 16) 0 ≡ 7 → entryAt table pool r p ≡ pick (groupColumns table r) (Compound (wordAt table r 1) (wordAt table r 4))
-  unfolding entryOf compoundRow enumerationRow row kindOf groupColumns allZero sameWords
+  unfolding entryOf compoundRow row kindOf groupColumns allZero sameWords
   compound-entry e = entry-kind table pool r p e ∙ simp (rowIs-words table r fits, e, same-word, clear 2 4 (omega arith), clear 5 16 (omega arith), and-assoc, and-true)
 
   pub reference-entry : getD table (r * 16) 0 ≡ 8 → entryAt table pool r p ≡ pick (leafColumns table r 6 6 2) (Leaf 7 (wordAt table r 1) 0 (wordAt table r 5))
-  unfolding entryOf tagInside leafEntry leafAt leafOf leafClass leafPool leafKnown leafRow columnsOf row kindOf leafColumns allZero sameWords
+  unfolding leaf-entry row leafColumns allZero sameWords
   reference-entry e = entry-kind table pool r p e ∙ simp (rowIs-words table r fits, e, same-word, clear 2 5 (omega arith), clear 6 6 (omega arith), clear 6 16 (omega arith), and-assoc, and-true)
 
   pub enumeration-entry : getD table (r * 16) 0 ≡ 9 → entryAt table pool r p ≡ pick (groupColumns table r) (Enumeration (wordAt table r 1) (wordAt table r 4))
-  unfolding entryOf compoundRow enumerationRow row kindOf groupColumns allZero sameWords
+  unfolding entryOf enumerationRow row kindOf groupColumns allZero sameWords
   enumeration-entry e = entry-kind table pool r p e ∙ simp (rowIs-words table r fits, e, same-word, clear 2 4 (omega arith), clear 5 16 (omega arith), and-assoc, and-true)
 
   pub variableLength-entry : getD table (r * 16) 0 ≡ 10 → entryAt table pool r p ≡ pick (variableLengthColumns table r) (VariableLength (wordAt table r 5) (wordAt table r 6) (wordAt table r 7))

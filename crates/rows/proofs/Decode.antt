@@ -22,6 +22,11 @@ use Rattle.rows.specs.declared.Entry.the-variants.{Leaf, Compound, Enume
 use Rattle.rows.specs.declared.Member.{Member}
 use Rattle.rows.specs.declared.Member.the-variants.{Named}
 
+-- all that a leaf's entry opens to, by its row's kind
+unfoldable pub leaf-entry : Unit {0}
+unfolding entryOf tagInside leafEntry leafAt leafOf leafClass leafPool leafKnown leafRow columnsOf kindOf
+leaf-entry = tt
+
 module _ (table pool : List ℕ) (r p : ℕ) where
   -- the entry of a row whose kind is known
   pub entry-kind : {k : ℕ} → getD table (r * 16) 0 ≡ k → entryAt table pool r p ≡ entryOf table pool r p (kindOf k)
@@ -31,7 +36,7 @@ module _ (table pool : List ℕ) (r p : ℕ) where
   -- an opaque's entry, by the length of its tag in its row
   pub opaque-picked : entryOf table pool r p (isLeaf isOpaque)
       ≡ pick (rowIs table r (row 6 ((1, wordAt table r 1) ∷ (2, p) ∷ (3, wordAt table r 3) ∷ [])) && leb (p + wordAt table r 3) (length pool)) (Leaf 5 (wordAt table r 1) (wordAt table r 3) (wordAt table r 5))
-  unfolding entryOf tagInside leafEntry leafAt leafOf leafClass leafPool leafKnown leafRow columnsOf
+  unfolding leaf-entry
   opaque-picked = go _ refl
     where
       go : (b : Bool) → leb (p + wordAt table r 3) (length pool) ≡ b

@@ -8,14 +8,14 @@ use native.Mathlib.Nat.{mul-one}
 use lib.ListN.{length, getD}
 use lib.Dec.{leb, eqb}
 use borrow.Author.Tests.{leb-true, leb-false, le-leb, lt-leb}
-use Rattle.format.specs.Datatype.{leafClass, leafPool, Datatype, Members}
-use Rattle.format.specs.Table.{wordAt, rowIs, row, arrayRow, memberRow, enumMemberRow, Found, bad, Walk, kindOf, leafOf, membersAt, enumNamesAt, typeAt}
-use Rattle.rows.specs.Entries.{pick, pickMember, leafAt, leafEntry, entryOf, entryAt, memberAt, enumMemberAt, EntryInside, EntryIfKnown, MemberInside, MemberIfKnown, memberNameLength, enumMemberNameLength, fromEntry, fromMember, fromEnumMember}
+use Rattle.format.specs.Datatype.{Datatype, Members}
+use Rattle.format.specs.Table.{wordAt, rowIs, row, arrayRow, memberRow, enumMemberRow, Found, bad, Walk, kindOf, membersAt, enumNamesAt, typeAt}
+use Rattle.rows.specs.Entries.{pick, pickMember, entryOf, entryAt, memberAt, enumMemberAt, EntryInside, EntryIfKnown, MemberInside, MemberIfKnown, memberNameLength, enumMemberNameLength, fromEntry, fromMember, fromEnumMember}
 use Rattle.rows.specs.declared.Entry.{Entry}
 use Rattle.rows.specs.declared.Entry.the-variants.{Leaf, Compound, Enumeration, VariableLength, Array, Unknown}
 use Rattle.rows.specs.declared.Member.{Member}
 use Rattle.rows.specs.declared.Member.the-variants.{Named, Unnamed}
-use Rattle.rows.proofs.Decode.{entry-kind, opaque-picked, typeAt-entry, membersAt-entry, enumNamesAt-entry}
+use Rattle.rows.proofs.Decode.{leaf-entry, entry-kind, opaque-picked, typeAt-entry, membersAt-entry, enumNamesAt-entry}
 
 known-itself : (e : Entry) → EntryIfKnown e e
 unfolding EntryIfKnown
@@ -75,23 +75,23 @@ module _ (table pool : List ℕ) (r p : ℕ) where
     kind = getD table (r * 16) 0
 
     pub known-fixedPoint : kind ≡ 1 → Answered (Leaf 0 (wordAt table r 1) 0 (wordAt table r 5))
-    unfolding entryOf leafEntry leafAt leafOf leafClass leafPool kindOf EntryInside
+    unfolding leaf-entry EntryInside
     known-fixedPoint e = (rw (entry-kind table pool r p e) (known-tested _ _), (omega arith, omega arith))
 
     pub known-floatingPoint : kind ≡ 2 → Answered (Leaf 1 (wordAt table r 1) 0 (wordAt table r 5))
-    unfolding entryOf leafEntry leafAt leafOf leafClass leafPool kindOf EntryInside
+    unfolding leaf-entry EntryInside
     known-floatingPoint e = (rw (entry-kind table pool r p e) (known-tested _ _), (omega arith, omega arith))
 
     pub known-time : kind ≡ 3 → Answered (Leaf 2 (wordAt table r 1) 0 (wordAt table r 5))
-    unfolding entryOf leafEntry leafAt leafOf leafClass leafPool kindOf EntryInside
+    unfolding leaf-entry EntryInside
     known-time e = (rw (entry-kind table pool r p e) (known-tested _ _), (omega arith, omega arith))
 
     pub known-string : kind ≡ 4 → Answered (Leaf 3 (wordAt table r 1) 0 (wordAt table r 5))
-    unfolding entryOf leafEntry leafAt leafOf leafClass leafPool kindOf EntryInside
+    unfolding leaf-entry EntryInside
     known-string e = (rw (entry-kind table pool r p e) (known-tested _ _), (omega arith, omega arith))
 
     pub known-bitField : kind ≡ 5 → Answered (Leaf 4 (wordAt table r 1) 0 (wordAt table r 5))
-    unfolding entryOf leafEntry leafAt leafOf leafClass leafPool kindOf EntryInside
+    unfolding leaf-entry EntryInside
     known-bitField e = (rw (entry-kind table pool r p e) (known-tested _ _), (omega arith, omega arith))
 
     pub known-compound : kind ≡ 7 → Answered (Compound (wordAt table r 1) (wordAt table r 4))
@@ -99,7 +99,7 @@ module _ (table pool : List ℕ) (r p : ℕ) where
     known-compound e = (rw (entry-kind table pool r p e) (known-tested _ _), omega arith)
 
     pub known-reference : kind ≡ 8 → Answered (Leaf 7 (wordAt table r 1) 0 (wordAt table r 5))
-    unfolding entryOf leafEntry leafAt leafOf leafClass leafPool kindOf EntryInside
+    unfolding leaf-entry EntryInside
     known-reference e = (rw (entry-kind table pool r p e) (known-tested _ _), (omega arith, omega arith))
 
     pub known-enumeration : kind ≡ 9 → Answered (Enumeration (wordAt table r 1) (wordAt table r 4))
@@ -112,7 +112,7 @@ module _ (table pool : List ℕ) (r p : ℕ) where
 
     -- a row with a piece of the pool, by the test that it lies there
     pub known-opaque : {x : Entry} {b : Bool} → kind ≡ 6 → x ≡ pick b (Leaf 5 (wordAt table r 1) (wordAt table r 3) (wordAt table r 5)) → b ≡ leb (p + wordAt table r 3 * 1) (length pool) → Answered x
-    unfolding entryOf kindOf EntryInside
+    unfolding kindOf EntryInside
     known-opaque e f g =
         let i : EntryInside (pick (leb (p + wordAt table r 3) (length pool)) (Leaf 5 (wordAt table r 1) (wordAt table r 3) (wordAt table r 5))) (length table) (length pool) r p = piece-inside _ _ _ _ _ _ (λ t. (omega arith, omega (arith, leb-true (p + wordAt table r 3) (length pool) t))) in
         rw (f, g, mul-one) (rw (entry-kind table pool r p e, opaque-picked) (known-part (rowIs table r (row 6 ((1, wordAt table r 1) ∷ (2, p) ∷ (3, wordAt table r 3) ∷ []))) _ _), i)
