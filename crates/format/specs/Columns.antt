@@ -26,9 +26,12 @@ countColumn = 4
 abbrev pub valueLengthColumn : ℕ
 valueLengthColumn = 4
 
--- a leaf's code, of whichever class
+-- a leaf's code and its second, whatever its class makes of them
 abbrev pub codeColumn : ℕ
 codeColumn = 5
+
+abbrev pub secondCodeColumn : ℕ
+secondCodeColumn = 6
 
 -- classes 0, 1, 2 and 4: order, the sign of class 0, where the bits are
 abbrev pub orderColumn : ℕ

@@ -16,12 +16,12 @@ use Rattle.format.proofs.Lists.{length-part}
 use Rattle.rows.specs.Entries.{pick, leafAt, tagInside, leafEntry, entryOf, entryAt, leafKindOf, leafType}
 use Rattle.rows.specs.declared.Entry.{Entry}
 use Rattle.rows.specs.declared.Entry.the-variants.{Leaf, Compound, Enumeration, VariableLength, Array, Unknown}
-use Rattle.measure.specs.Measure.{mostLength, measureOf, word, partsFit, leafStorable, leafLength, offsetFits}
+use Rattle.measure.specs.Measure.{mostLength, measureOf, partsFit, leafStorable, leafLength, offsetFits}
 use Rattle.measure.specs.declared.Measured.the-variants.{At}
 
 -- ---- the tests, class by class
 
-pub parts-made : (table : List ℕ) (r : ℕ) {x y z : Bool} → x ≡ (ltb (word table r 9) 256 && ltb (word table r 10) 256) → y ≡ (ltb (word table r 11) 256 && ltb (word table r 12) 256) → z ≡ (x && y) → z ≡ partsFit table r
+pub parts-made : (table : List ℕ) (r : ℕ) {x y z : Bool} → x ≡ (ltb (wordAt table r 9) 256 && ltb (wordAt table r 10) 256) → y ≡ (ltb (wordAt table r 11) 256 && ltb (wordAt table r 12) 256) → z ≡ (x && y) → z ≡ partsFit table r
 unfolding partsFit
 parts-made table r e f g = rw (g, e, f)
 
@@ -34,19 +34,19 @@ module _ (table : List ℕ) (r k n l : ℕ) where
     sized : ltb 0 n ≡ true
     sized = lt-ltb 0 n (omega arith)
 
-    pub leaf-fixed : {x z : Bool} → k ≡ 0 → x ≡ (ltb (word table r 7) 65536 && ltb (word table r 8) 65536) → z ≡ (ltb (word table r 5) 2 && x) → z ≡ leafStorable table r k n l
+    pub leaf-fixed : {x z : Bool} → k ≡ 0 → x ≡ (ltb (wordAt table r 7) 65536 && ltb (wordAt table r 8) 65536) → z ≡ (ltb (wordAt table r 5) 2 && x) → z ≡ leafStorable table r k n l
     unfolding leafStorable
     leaf-fixed h e f = rw (f, e, h, sized)
 
-    pub leaf-float : {w x y z : Bool} → k ≡ 1 → w ≡ partsFit table r → x ≡ (ltb (word table r 8) 65536 && w) → y ≡ (ltb (word table r 7) 65536 && x) → z ≡ (leb n 536870911 && y) → z ≡ leafStorable table r k n l
+    pub leaf-float : {w x y z : Bool} → k ≡ 1 → w ≡ partsFit table r → x ≡ (ltb (wordAt table r 8) 65536 && w) → y ≡ (ltb (wordAt table r 7) 65536 && x) → z ≡ (leb n 536870911 && y) → z ≡ leafStorable table r k n l
     unfolding leafStorable
     leaf-float h e f g i = rw (i, g, f, e, h, sized)
 
-    pub leaf-time : {z : Bool} → k ≡ 2 → z ≡ (ltb (word table r 5) 2 && ltb (word table r 8) 65536) → z ≡ leafStorable table r k n l
+    pub leaf-time : {z : Bool} → k ≡ 2 → z ≡ (ltb (wordAt table r 5) 2 && ltb (wordAt table r 8) 65536) → z ≡ leafStorable table r k n l
     unfolding leafStorable
     leaf-time h e = rw (e, h, sized)
 
-    pub leaf-bits : {x z : Bool} → k ≡ 4 → x ≡ (ltb (word table r 7) 65536 && ltb (word table r 8) 65536) → z ≡ (ltb (word table r 5) 2 && x) → z ≡ leafStorable table r k n l
+    pub leaf-bits : {x z : Bool} → k ≡ 4 → x ≡ (ltb (wordAt table r 7) 65536 && ltb (wordAt table r 8) 65536) → z ≡ (ltb (wordAt table r 5) 2 && x) → z ≡ leafStorable table r k n l
     unfolding leafStorable
     leaf-bits h e f = rw (f, e, h, sized)
 

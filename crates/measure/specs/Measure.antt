@@ -5,10 +5,11 @@ use mathlib.Core.List.{List, [], _∷_}
 use lib.ListN.{length, take, drop, getD}
 use lib.Dec.{leb, ltb, eqb}
 use Rattle.format.specs.Bytes.{paddingTo8}
+use Rattle.format.specs.Columns.{orderColumn, offsetColumn, precisionColumn, exponentLocationColumn, exponentSizeColumn, mantissaLocationColumn, mantissaSizeColumn}
 use Rattle.format.specs.Datatype.{Datatype, Members, EnumMember, enumValues, typeSize, product}
 use Rattle.format.specs.Message.{noNul, storable, storableMembers, storableEnum, storableVariable, carried, carriedMembers, messageLength, membersLength, enumNameLength, namePadding, offsetWidth, skippedBytes, reservedBytes, permutationBytes}
 use Rattle.format.specs.Utf8.{wellFormed}
-use Rattle.format.specs.Table.{Found, found, bad, andThen, enumNamesAt, enumValuesAt}
+use Rattle.format.specs.Table.{wordAt, Found, found, bad, andThen, enumNamesAt, enumValuesAt}
 use Rattle.measure.specs.declared.EnumNames.{EnumNames}
 use Rattle.measure.specs.declared.Measure.{Measure}
 use Rattle.measure.specs.declared.Measured.{Measured}
@@ -35,23 +36,19 @@ measureEnum e n bad = Lost
 unfoldable pub enumMeasureOf : (edition size : ℕ) (table pool : List ℕ) (count row place : ℕ) → Measured
 enumMeasureOf e n table pool k r p = measureEnum e n (andThen (enumNamesAt table pool k r p) (enumValuesAt pool))
 
--- word c of row r
-abbrev pub word : (table : List ℕ) (r c : ℕ) → ℕ
-word table r c = getD table (r * 16 + c) 0
-
 -- place and size of exponent and mantissa fit a byte each
 unfoldable pub partsFit : (table : List ℕ) (row : ℕ) → Bool
-partsFit table r = (ltb (word table r 9) 256 && ltb (word table r 10) 256) && (ltb (word table r 11) 256 && ltb (word table r 12) 256)
+partsFit table r = (ltb (wordAt table r exponentLocationColumn) 256 && ltb (wordAt table r exponentSizeColumn) 256) && (ltb (wordAt table r mantissaLocationColumn) 256 && ltb (wordAt table r mantissaSizeColumn) 256)
 
 -- the tests of Storable on a leaf's row whose codes are known
 unfoldable pub leafStorable : (table : List ℕ) (row class size length : ℕ) → Bool
 leafStorable table r c n l =
     ltb 0 n && getD
-    ((ltb (word table r 5) 2 && (ltb (word table r 7) 65536 && ltb (word table r 8) 65536))
-    ∷ (leb n 536870911 && (ltb (word table r 7) 65536 && (ltb (word table r 8) 65536 && partsFit table r)))
-    ∷ (ltb (word table r 5) 2 && ltb (word table r 8) 65536)
+    ((ltb (wordAt table r orderColumn) 2 && (ltb (wordAt table r offsetColumn) 65536 && ltb (wordAt table r precisionColumn) 65536))
+    ∷ (leb n 536870911 && (ltb (wordAt table r offsetColumn) 65536 && (ltb (wordAt table r precisionColumn) 65536 && partsFit table r)))
+    ∷ (ltb (wordAt table r orderColumn) 2 && ltb (wordAt table r precisionColumn) 65536)
     ∷ true
-    ∷ (ltb (word table r 5) 2 && (ltb (word table r 7) 65536 && ltb (word table r 8) 65536))
+    ∷ (ltb (wordAt table r orderColumn) 2 && (ltb (wordAt table r offsetColumn) 65536 && ltb (wordAt table r precisionColumn) 65536))
     ∷ ltb l 256
     ∷ [])
     c
