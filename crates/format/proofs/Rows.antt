@@ -9,7 +9,7 @@ use lib.Seq.{getD-take, getD-drop, drop-drop}
 use lib.Dec.{eqb}
 use borrow.Author.Tests.{eqb-true, eq-eqb}
 use Rattle.format.specs.Bytes.{dimensionBytes}
-use Rattle.format.specs.Datatype.{leafClass, Leaf, fixedPoint, floatingPoint, time, string, bitField, opaque, reference, Datatype, leaf, compound, enumeration, variableLength, array, Members, noMembers, member, EnumMember, memberCount, rowCount, memberRowCount, poolBytes, enumNames}
+use Rattle.format.specs.Datatype.{leafClass, Leaf, fixedPoint, floatingPoint, time, string, bitField, opaque, reference, Datatype, leaf, compound, enumeration, variableLength, array, Members, noMembers, member, EnumMember, rowCount, memberRowCount, poolBytes, enumNames}
 use Rattle.format.specs.Table.{row, leafRow, compoundRow, enumerationRow, variableLengthRow, arrayRow, memberRow, enumMemberRow, enumRows, rows, memberRows, wordsAt, sameWords, column}
 use Rattle.format.proofs.Booleans.{and-both}
 

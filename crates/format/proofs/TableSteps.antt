@@ -1,18 +1,17 @@
 -- One step of the walk at each kind of row, its words by their index in the table.
 use Prim.Native.Nat.{ℕ, zero, suc, _+_, _*_, _<_, _≤_}
 use mathlib.Core.Path.{_≡_, refl, ap, sym, _∙_}
-use mathlib.Core.Bool.{Bool, true, false, cond, _&&_, and-false}
+use mathlib.Core.Bool.{Bool, true, false, cond, _&&_}
 use mathlib.Core.List.{List, [], _∷_, _++_}
 use native.Mathlib.Omega.{arith}
 use native.Mathlib.Nat.{add-zero}
 use lib.ListN.{length, take, drop, getD, List·getD-eq-default}
 use lib.Seq.{drop-cons}
 use lib.Dec.{leb, ltb, eqb}
-use borrow.Author.Tests.{ltb-true, leb-true}
+use borrow.Author.Tests.{ltb-true}
 use Rattle.format.specs.Bytes.{zeros, allZero, dimensionsFrom}
-use Rattle.format.specs.Datatype.{opaque, leafClass, leafPool, Datatype, leaf, compound, enumeration, variableLength, array, member}
-use Rattle.format.specs.Table.{columnsOf, leafRow, compoundRow, enumerationRow, variableLengthRow, arrayRow, memberRow, enumMemberRow, leafKnown, LeafKind, isFixedPoint, isFloatingPoint, isTime, isString, isBitField, isOpaque, isReference, isLeaf, tagAt, leafOf, Found, found, bad, Walk, andThen, test, wordsAt, wordAt, rowIs, nextRow, nextPiece, sameWords, column, membersAt, enumNamesAt, enumValuesAt, isUnknown, kindOf, typeFrom, typeAt}
-use Rattle.format.proofs.Lists.{length-part}
+use Rattle.format.specs.Datatype.{Datatype, leaf, compound, enumeration, variableLength, array, member}
+use Rattle.format.specs.Table.{leafRow, compoundRow, enumerationRow, variableLengthRow, arrayRow, memberRow, enumMemberRow, leafKnown, LeafKind, isFixedPoint, isFloatingPoint, isTime, isString, isBitField, isOpaque, isReference, isLeaf, tagAt, leafOf, Found, found, bad, Walk, andThen, test, wordsAt, wordAt, rowIs, nextRow, nextPiece, sameWords, column, membersAt, enumNamesAt, enumValuesAt, isUnknown, kindOf, typeFrom, typeAt}
 use Rattle.format.proofs.Rows.{sameWords-true, length-wordsAt, column-at}
 
 -- n elements from at + i on
@@ -117,7 +116,7 @@ then-piece pool n f r p = go (leb (p + n) (length pool))
     go true = unfold andThen in refl
     go false = unfold andThen in refl
 
-pub cond-both : {A : Type 0} (a b : Bool) (x : Found A) → cond a (cond b x bad) bad ≡ cond (a && b) x bad
+cond-both : {A : Type 0} (a b : Bool) (x : Found A) → cond a (cond b x bad) bad ≡ cond (a && b) x bad
 cond-both true b x = refl
 cond-both false b x = refl
 

@@ -6,7 +6,7 @@ use mathlib.Core.List.{List, [], _∷_}
 use native.Mathlib.Omega.{arith}
 use native.Mathlib.Nat.{mul-one}
 use lib.ListN.{length, getD}
-use lib.Dec.{leb, eqb}
+use lib.Dec.{leb}
 use borrow.Author.Tests.{leb-true, leb-false, le-leb, lt-leb}
 use Rattle.format.specs.Datatype.{Datatype, Members}
 use Rattle.format.specs.Table.{wordAt, rowIs, row, arrayRow, memberRow, enumMemberRow, Found, bad, Walk, kindOf, membersAt, enumNamesAt, typeAt}

@@ -9,7 +9,7 @@ use mir.Syntax.{w64}
 use mir.Val.{Fits}
 use lib.Seq.{drop-at, drop-append-le, drop-drop, getD-drop}
 use Rattle.format.specs.Bytes.{dimensionBytes, padded, zeros}
-use Rattle.format.specs.Datatype.{Datatype, leaf, compound, enumeration, variableLength, array, Members, noMembers, member, EnumMember, memberCount, rowCount, memberRowCount, poolBytes, memberPool, enumNames, enumValues}
+use Rattle.format.specs.Datatype.{Datatype, leaf, compound, enumeration, variableLength, array, Members, noMembers, member, EnumMember, rowCount, memberRowCount, poolBytes, memberPool, enumNames, enumValues}
 use Rattle.format.specs.Table.{row, leafRow, compoundRow, enumerationRow, variableLengthRow, arrayRow, memberRow, enumMemberRow, rows, memberRows, enumRows, SetsOut}
 use Rattle.format.proofs.Bytes.{all-bytes}
 use Rattle.format.proofs.Rows.{leafClass-low, length-row, length-memberRow, length-enumMemberRow, length-rows}

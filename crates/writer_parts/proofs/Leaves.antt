@@ -1,24 +1,23 @@
 -- A leaf's message by the columns of its row: the flag bytes, the numbers behind the header, and that this is the message of its type.
 use Prim.Native.Nat.{ℕ, zero, suc, _+_, _-_, _*_, _%_, _<_, _≤_}
-use mathlib.Core.Path.{_≡_, refl, sym, ap, _∙_}
+use mathlib.Core.Path.{_≡_, refl, sym, _∙_}
 use mathlib.Core.Bool.{Bool, true, false, _&&_}
-use mathlib.Core.List.{List, [], _∷_, _++_, append-nil}
+use mathlib.Core.List.{List, [], _++_, append-nil}
 use native.Mathlib.Omega.{arith}
 use native.Mathlib.Numerals.{add-one}
 use lib.ListN.{length, getD, take, drop, length-drop}
 use lib.Seq.{length-take-le}
-use lib.Dec.{eqb, leb, ltb}
+use lib.Dec.{leb, ltb}
 use borrow.Author.Tests.{leb-true, ltb-true, lt-ltb, le-ltb, eq-eqb, ne-eqb}
 use Rattle.format.specs.Bits.{fixedFlags, floatFlags, nibbles}
-use Rattle.format.specs.Bytes.{littleEndian, zeros, paddingTo8, packNumbers}
+use Rattle.format.specs.Bytes.{littleEndian, packNumbers}
 use Rattle.format.specs.Datatype.{floatNumbers, leafClass, leafPool}
 use Rattle.format.specs.Message.{header, leafMessage, message, storable, carried}
 use Rattle.format.proofs.Booleans.{and-both}
-use Rattle.writer_parts.specs.Places.{Places, PlacesFrom, Inside, Stands}
+use Rattle.writer_parts.specs.Places.{Places, PlacesFrom, Inside}
 use Rattle.writer_parts.specs.Leaf.{leafCodes, leafFlags, leafBits, columnWidth, columnBytes, tagBytes, leafRest, leafBytes, PutsLeaf}
 use Rattle.writer_parts.specs.declared.Placed.{Placed}
 use Rattle.writer_parts.specs.declared.Placed.the-variants.{Behind, Full}
-use Rattle.writer_parts.specs.declared.Put.{Put}
 use Rattle.writer_parts.specs.declared.Put.the-variants.{At, Lost}
 use Rattle.writer_parts.proofs.Placing.{behind, full-behind, none-placed, stands, lost}
 use Rattle.format.specs.Table.{wordAt, leafOf, isFixedPoint, isFloatingPoint, isTime, isString, isBitField, isOpaque, isReference, Kind, isLeaf, isCompound, isEnumeration, isVariableLength, isArray, isUnknown, kindOf}
