@@ -105,10 +105,11 @@ pub layout-cases : answers (bothWays layouts) ≡ expected (bothWays layouts)
 unfolding answers expected bothWays layouts ask answer readHere onTable setOut computing
 layout-cases = refl
 
--- a table of one row, of a kind and a size, with a value in a further column
+-- a table of one row, of a kind and a size, with a value in a column; column 0 with the kind again adds nothing
 unfoldable pub oneRow : (kind size column value : ℕ) → List ℕ
 oneRow kind size c v = sets (kind ∷ size ∷ zeros 14) c (v ∷ [])
 
+-- n before the others, if something was given
 unfoldable pub ifGiven : {A : Type 0} → Outcome A → ℕ → List ℕ → List ℕ
 ifGiven (gives x) n ns = n ∷ ns
 ifGiven (refuses e) n ns = ns

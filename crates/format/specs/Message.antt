@@ -73,7 +73,7 @@ unfoldable pub variableCharset : (isString charset : ℕ) → ℕ
 variableCharset zero c = 0
 variableCharset (suc i) c = codeOf c
 
--- a leaf's message, in every edition of version 1
+-- a leaf's message: version 1 in every edition
 unfoldable pub leafMessage : (size : ℕ) → Leaf → List ℕ
 leafMessage n (fixedPoint order signed offset precision) = header 0 1 (fixedFlags order signed) 0 n ++ packNumbers bitWidths (offset ∷ precision ∷ [])
 leafMessage n (floatingPoint order layout) = header 1 1 (floatFlags order) ((n * 8 - 1) % 256) n ++ packNumbers floatWidths (floatNumbers layout)
