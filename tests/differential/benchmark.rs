@@ -12,7 +12,7 @@ mod flat;
 mod message_type;
 mod walk;
 
-use datatype::{CompoundMember, Datatype, DatatypeByteOrder};
+use datatype::{CharacterSet, CompoundMember, Datatype, DatatypeByteOrder, StringPadding};
 use datatype_message as library;
 use flat::Flat;
 use std::hint::black_box;
@@ -55,6 +55,11 @@ fn nested(members: usize, stride: u32) -> Datatype {
         at += u64::from(size);
     }
     Datatype::Compound { size: at as u32, members: groups }
+}
+
+/// 300 names of 4 to 12 letters in 16 bytes each, a NUL behind the name, and behind that what the memory had.
+fn names(leftover: u8) -> Vec<u8> {
+    (0..300).flat_map(|i| (0..16).map(move |k| if k < 4 + i % 9 { b'a' + ((i + k) % 26) as u8 } else if k == 4 + i % 9 { 0 } else { leftover })).collect()
 }
 
 /// Nanoseconds a call, of two calls timed in turn: the least of the batches of each.
@@ -111,9 +116,23 @@ fn main() {
                 assert_eq!(same, Ok(true));
                 let kind = format!("{of}, {records}");
                 line("same, plain walk", &kind, members, times(|| drop(black_box(library::same(&table, &pool, black_box(&a), &b))), || drop(black_box(walk::agree(&t, black_box(&a), &b)))));
-                line("same, checked plain walk", &kind, members, times(|| drop(black_box(library::same(&table, &pool, black_box(&a), &b))), || drop(black_box(walk::same(&t, black_box(&a), &b)))));
+                line("same, checked plain walk", &kind, members, times(|| drop(black_box(library::same(&table, &pool, black_box(&a), &b))), || drop(black_box(walk::checked_agree(&t, black_box(&a), &b)))));
             }
         }
+    }
+    // NUL-terminated names of 16 bytes, the bytes behind their NUL differing: as members and as one array
+    let name = Datatype::String { size: 16, padding: StringPadding::NullTerminate, charset: CharacterSet::Ascii };
+    let members = (0..300).map(|i| CompoundMember { name: format!("stop_{i}"), byte_offset: i * 16, datatype: name.clone() }).collect();
+    let array = Datatype::Array { base_type: Box::new(name), dimensions: vec![300] };
+    for (of, t) in [("300 names", Datatype::Compound { size: 4800, members }), ("array of 300 names", array)] {
+        let rows = Flat::of(&t);
+        let (table, pool) = (rows.words(), rows.pool.clone());
+        let (a, b) = (names(0x55), names(0x66));
+        assert_eq!(library::same(&table, &pool, &a, &b), Ok(true));
+        let (checks, _) = times(|| drop(black_box(library::type_size(black_box(&table), &pool))), || ());
+        let (whole, walked) = times(|| drop(black_box(library::same(&table, &pool, black_box(&a), &b))), || drop(black_box(walk::agree(&t, black_box(&a), &b))));
+        println!("| same, plain walk | {of} with leftovers | 300 | {whole:.0}, its checks {checks:.0} | {walked:.0} | {:.2}, without the checks {:.2} |", whole / walked, (whole - checks) / walked);
+        line("same, checked plain walk", &format!("{of} with leftovers"), 300, times(|| drop(black_box(library::same(&table, &pool, black_box(&a), &b))), || drop(black_box(walk::checked_agree(&t, black_box(&a), &b)))));
     }
     // equal packed records: what comparing costs beside the checks that type_size makes too
     for size in [4096, 1 << 20] {

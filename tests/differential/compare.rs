@@ -243,15 +243,31 @@ fn references(t: &Datatype, slots: &[u64], r: &mut Random, counts: &mut Counts) 
     }
 }
 
+/// Changes a record where that may or may not matter: anywhere, or only at bytes that no field counts, or at bytes that one field counts and
+/// a string that shares them does not.
+fn changed(t: &Datatype, a: &[u8], r: &mut Random) -> Vec<u8> {
+    let mut b = a.to_vec();
+    let how = if walk::not_admitted(t, a, a).is_some() { 0 } else { r.below(4) };
+    if how < 2 {
+        for _ in 0..r.below(4) {
+            if !b.is_empty() {
+                b[r.below(a.len() as u64) as usize] = r.below(3) as u8;
+            }
+        }
+        return b;
+    }
+    for (byte, of) in b.iter_mut().zip(walk::bytes(t, a)) {
+        if (of.past == of.owners || how == 3 && of.past > 0) && r.below(2) == 0 {
+            *byte = r.next() as u8;
+        }
+    }
+    b
+}
+
 fn records(t: &Datatype, table: &[u32], pool: &[u8], r: &mut Random, counts: &mut Counts) {
     let size = if t.type_size() > 4096 || r.below(16) == 0 { r.below(9) as usize } else { t.type_size() as usize };
     let a: Vec<u8> = (0..size).map(|_| r.below(3) as u8).collect();
-    let mut b = a.clone();
-    for _ in 0..r.below(4) {
-        if size > 0 {
-            b[r.below(size as u64) as usize] = r.below(3) as u8;
-        }
-    }
+    let mut b = changed(t, &a, r);
     if r.below(32) == 0 {
         b.push(0);
     }
@@ -261,6 +277,9 @@ fn records(t: &Datatype, table: &[u32], pool: &[u8], r: &mut Random, counts: &mu
         differs("same", &format!("{} and {} of {t:?}", hex(&a), hex(&b)), ours, theirs);
     }
     counts.compared(Call::Same, number(&ours));
+    if let Ok(same) = theirs {
+        counts.names(&walk::bytes(t, &a), &walk::bytes(t, &b), same);
+    }
 }
 
 /// A word or byte changed: every call says BadTable, or none does.

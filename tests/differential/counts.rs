@@ -1,4 +1,6 @@
 //! What was compared, and what document 01 leaves out of the comparison.
+use crate::walk::Byte;
+
 #[derive(Clone, Copy)]
 pub enum Call {
     Read,
@@ -13,6 +15,17 @@ pub enum Call {
 
 pub const CALLS: [&str; 8] = ["read", "write", "written and read by the Rust", "sizes", "predicates", "slots", "references", "same"];
 
+/// What pairs of compared records may have: see `Counts::names`.
+pub const NAMES: [&str; 7] = [
+    "leftovers behind a name",
+    "leftovers that no owner of several counts",
+    "same though owned bytes differ",
+    "bytes of two fields",
+    "bytes of a name past its end and of a field that counts them",
+    "differ in such bytes only",
+    "differ in where a name ends",
+];
+
 #[derive(Default)]
 pub struct Counts {
     pub compared: [u64; 8],
@@ -25,6 +38,8 @@ pub struct Counts {
     pub levels: Vec<u64>,
     /// Messages written, by edition.
     pub editions: [u64; 4],
+    /// Pairs of records, by `NAMES`.
+    pub names: [u64; 7],
 }
 
 impl Counts {
@@ -42,6 +57,25 @@ impl Counts {
         self.numbers[call as usize][number as usize] += 1;
     }
 
+    /// Two records that were compared, byte by byte, and whether they are the same.
+    pub fn names(&mut self, a: &[Byte], b: &[Byte], same: bool) {
+        let pairs = || a.iter().zip(b);
+        let either = |test: fn(&Byte) -> bool| pairs().any(|(x, y)| test(x) || test(y));
+        let shared = |x: &Byte| 0 < x.past && x.past < x.owners;
+        let met = [
+            either(|x| x.taken() == Some(0) && x.value != 0),
+            either(|x| x.taken() == Some(0) && x.value != 0 && x.owners > 1),
+            same && pairs().any(|(x, y)| x.owners > 0 && x.value != y.value),
+            either(|x| x.owners > 1),
+            either(|x| 0 < x.past && x.past < x.owners),
+            !same && pairs().filter(|(x, y)| x.taken() != y.taken()).all(|(x, y)| shared(x) && shared(y)),
+            !same && pairs().any(|(x, y)| x.past != y.past),
+        ];
+        for (n, met) in self.names.iter_mut().zip(met) {
+            *n += u64::from(met);
+        }
+    }
+
     pub fn total(&self) -> u64 {
         self.compared.iter().sum()
     }
@@ -55,6 +89,9 @@ impl Counts {
         println!("types read, by version {:?}", self.versions);
         println!("types read, by levels {:?}", &self.levels[1..]);
         println!("messages written, by edition {:?}", &self.editions[1..]);
+        for (what, n) in NAMES.iter().zip(self.names) {
+            println!("records compared, {what}: {n}");
+        }
     }
 
     /// What was tried less often than it must be.
@@ -91,6 +128,9 @@ impl Counts {
         }
         for (edition, n) in self.editions.iter().enumerate().skip(1) {
             want(*n, least, format!("edition {edition}"));
+        }
+        for (what, n) in NAMES.iter().zip(self.names) {
+            want(n, least * 10, format!("records, {what}"));
         }
         lacking
     }

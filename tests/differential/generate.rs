@@ -263,6 +263,33 @@ fn datatype(r: &mut Random, levels: u64) -> Datatype {
     }
 }
 
+/// A type of names: NUL-terminated strings, arrays of them, and what else they may share bytes with. Of a compound's members one in three begins
+/// inside what the others have.
+fn named(r: &mut Random, levels: u64) -> Datatype {
+    let size = 1 + r.below(8) as u32;
+    let name = Datatype::String { size, padding: StringPadding::NullTerminate, charset: charset(r) };
+    match r.below(if levels == 0 { 6 } else { 10 }) {
+        0..=2 => name,
+        3 => Datatype::String { size, padding: padding(r), charset: charset(r) },
+        4 => Datatype::FixedPoint { size: 1 + size % 4, byte_order: order(r), signed: false, bit_offset: 0, bit_precision: 8 },
+        5 => Datatype::Enumeration { size: 1 + r.below(4) as u32, base_type: Box::new(name), members: vec![] },
+        6 | 7 => {
+            let dimensions = (0..1 + r.below(2)).map(|_| 1 + r.below(3) as u32).collect();
+            Datatype::Array { base_type: Box::new(named(r, levels - 1)), dimensions }
+        }
+        _ => {
+            let (mut end, mut members) = (0, Vec::new());
+            for _ in 0..1 + r.below(5) {
+                let inner = named(r, levels - 1);
+                let offset = if r.below(3) == 0 { r.below(u64::from(end) + 1) as u32 } else { end + r.below(2) as u32 };
+                end = end.max(offset + inner.type_size());
+                members.push(CompoundMember { name: text(r), byte_offset: u64::from(offset), datatype: inner });
+            }
+            Datatype::Compound { size: end + r.below(2) as u32, members }
+        }
+    }
+}
+
 fn all_headers(r: &mut Random, counts: &mut Counts) {
     let tails: [&[u8]; 4] = [&[], &[0; 6], &[0, 0, 1, 0, 0, 0, 0, 0, 8, 0, 0, 0], &[0, 0, 4, 0, 0, 0, b'a', 0, 0, 0x10, 0, 0, 0, 1, 0, 0, 0, 0, 0, 8, 0, 0, 0, 0]];
     for first in 0..=255u8 {
@@ -332,6 +359,8 @@ pub fn run(seed: u64, rounds: u64, counts: &mut Counts) {
         }
         let levels = r.below(4);
         let t = datatype(r, levels);
+        compare::on_type(&t, r, counts);
+        let t = named(r, 3);
         compare::on_type(&t, r, counts);
     }
 }

@@ -1,5 +1,5 @@
-//! A plain walk over the oracle's type: what document 01 says of comparing and of Storable, which the Rust has no functions for.
-use crate::datatype::{Datatype, DatatypeByteOrder, ReferenceType};
+//! Plain walks over the oracle's type: what documents 01 and 02 say of comparing and of Storable, which the Rust has no functions for.
+use crate::datatype::{Datatype, DatatypeByteOrder, ReferenceType, StringPadding};
 
 /// The types directly inside a type.
 pub fn inside(t: &Datatype) -> Vec<&Datatype> {
@@ -42,25 +42,78 @@ fn heap_held(t: &Datatype) -> bool {
     matches!(t, Datatype::VariableLength { .. } | Datatype::Reference { ref_type: ReferenceType::DatasetRegion, .. })
 }
 
-/// Compares two records: the number of a refusal with its value, or whether they are the same.
-pub fn same(t: &Datatype, a: &[u8], b: &[u8]) -> Result<bool, (u32, u64)> {
+/// The number of a refusal with its value, where the type or a record's length is not admitted to comparison.
+pub fn not_admitted(t: &Datatype, a: &[u8], b: &[u8]) -> Option<(u32, u64)> {
     if let Some(class) = zero_class(t) {
-        return Err((12, class.into()));
+        return Some((12, class.into()));
     }
     if first(t, &outside).is_some() {
-        return Err((16, 0));
+        return Some((16, 0));
     }
     if first(t, &heap_held).is_some() {
-        return Err((17, 0));
+        return Some((17, 0));
     }
     let size = t.type_size() as usize;
-    if a.len() != size || b.len() != size {
-        return Err((18, 0));
-    }
-    Ok(agree(t, a, b))
+    (a.len() != size || b.len() != size).then_some((18, 0))
 }
 
-/// Whether two records of an admitted type agree on what its fields own: the walk that a Rust programmer would write.
+fn nul_terminated(t: &Datatype) -> bool {
+    matches!(t, Datatype::String { padding: StringPadding::NullTerminate, .. })
+}
+
+/// The fields of a type that begins at a place, reached through compounds and arrays only: place, type.
+fn fields<'a>(t: &'a Datatype, at: usize, found: &mut Vec<(usize, &'a Datatype)>) {
+    match t {
+        Datatype::Compound { members, .. } => members.iter().for_each(|m| fields(&m.datatype, at + m.byte_offset as usize, found)),
+        Datatype::Array { base_type, dimensions } => {
+            let entries: usize = dimensions.iter().map(|d| *d as usize).product();
+            (0..entries).for_each(|k| fields(base_type, at + k * base_type.type_size() as usize, found));
+        }
+        _ => found.push((at, t)),
+    }
+}
+
+/// A byte of a record: its value, how many fields own it, and how many of these are NUL-terminated strings that are past their end there.
+#[derive(Clone, Copy)]
+pub struct Byte {
+    pub value: u8,
+    pub owners: usize,
+    pub past: usize,
+}
+
+impl Byte {
+    /// The byte as document 02 takes it: "as zero only if every field that owns it is such a string and past its end there". None where no
+    /// field owns it.
+    pub fn taken(&self) -> Option<u8> {
+        (self.owners > 0).then_some(if self.past == self.owners { 0 } else { self.value })
+    }
+}
+
+/// The bytes of a record of an admitted type.
+pub fn bytes(t: &Datatype, record: &[u8]) -> Vec<Byte> {
+    let mut bytes: Vec<Byte> = record.iter().map(|b| Byte { value: *b, owners: 0, past: 0 }).collect();
+    let mut found = Vec::new();
+    fields(t, 0, &mut found);
+    for (place, field) in found {
+        let mut ended = false;
+        for byte in &mut bytes[place..place + field.type_size() as usize] {
+            byte.owners += 1;
+            byte.past += usize::from(ended);
+            ended = ended || nul_terminated(field) && byte.value == 0;
+        }
+    }
+    bytes
+}
+
+/// Compares two records by the bytes as they are taken: the number of a refusal with its value, or whether they are the same.
+pub fn same(t: &Datatype, a: &[u8], b: &[u8]) -> Result<bool, (u32, u64)> {
+    match not_admitted(t, a, b) {
+        Some(refusal) => Err(refusal),
+        None => Ok(bytes(t, a).iter().zip(&bytes(t, b)).all(|(x, y)| x.taken() == y.taken())),
+    }
+}
+
+/// Whether two records of an admitted type are the same, field by field: the walk that a Rust programmer would write. The benchmark's.
 pub fn agree(t: &Datatype, a: &[u8], b: &[u8]) -> bool {
     match t {
         Datatype::Compound { members, .. } => members.iter().all(|m| {
@@ -72,8 +125,24 @@ pub fn agree(t: &Datatype, a: &[u8], b: &[u8]) -> bool {
             let stride = base_type.type_size() as usize;
             a.chunks_exact(stride).zip(b.chunks_exact(stride)).all(|(a, b)| agree(base_type, a, b))
         }
+        Datatype::String { padding: StringPadding::NullTerminate, .. } => {
+            for (x, y) in a.iter().zip(b) {
+                if x != y {
+                    return false;
+                }
+                if *x == 0 {
+                    break;
+                }
+            }
+            true
+        }
         _ => a == b,
     }
+}
+
+/// The same, behind the tests of admission.
+pub fn checked_agree(t: &Datatype, a: &[u8], b: &[u8]) -> Result<bool, (u32, u64)> {
+    not_admitted(t, a, b).map_or_else(|| Ok(agree(t, a, b)), Err)
 }
 
 fn unstorable(t: &Datatype) -> bool {

@@ -1,6 +1,7 @@
-// Runs document 01's cases of comparing, and one of each refusal, and writes what each gives.
+// Runs document 01's cases of comparing, one of each refusal, and document 02's cases of names, and writes what each gives.
 mod calls;
 mod records;
+mod stop_names;
 
 fn main() {
     records::gap_cases();
@@ -8,4 +9,8 @@ fn main() {
     records::enumeration_cases();
     records::refused_cases();
     calls::bad_tables();
+    stop_names::array_cases();
+    stop_names::two_names_cases();
+    stop_names::whole_cases();
+    stop_names::end_cases();
 }

@@ -12,10 +12,13 @@ use mir.Val.{Fits}
 use Rattle.refusal.specs.declared.Refusal.the-variants.{BadTable, ZeroSize, OutsideRecord, HeapHeld, WrongLength}
 use Rattle.format.specs.Datatype.{Datatype, typeSize}
 use Rattle.format.specs.Outcome.{Outcome, gives, refuses, outcomeNumber, outcomeValues}
-use Rattle.format.specs.Ownership.{owned, outside, heapHeld, agree, comparing}
+use Rattle.format.specs.Image.{fieldsOf, agree, FieldsAgree, FieldsDiffer}
+use Rattle.format.specs.Ownership.{outside, heapHeld, comparing}
 use Rattle.format.specs.Slots.{firstZero}
 use Rattle.format.specs.Table.{Found, found, bad, typeAt}
-use Rattle.format.proofs.Ownership.{owned-inside, agree-holds, agree-differs, comparing-refused, comparing-zero, comparing-outside, comparing-heap, comparing-length, comparing-records}
+use Rattle.format.proofs.Ownership.{comparing-refused, comparing-zero, comparing-outside, comparing-heap, comparing-length, comparing-records}
+use Rattle.format.proofs.Same.{owned-agree}
+use Rattle.format.proofs.Walking.{moved-none, walked-same, walked-differs}
 use Rattle.table.specs.Survey.{zeroCode, Sets, Checks}
 use Rattle.table.specs.declared.Survey.{Survey}
 use Rattle.table.specs.declared.Checked.{Checked}
@@ -23,7 +26,7 @@ use Rattle.table.specs.declared.Checked.the-variants.{Bad}
 use Rattle.table.specs.declared.Spot.{Spot}
 use Rattle.table.proofs.Surveys.{Says, told, Told, zero-code}
 use Rattle.table.proofs.ZeroClass.{zero-low}
-use Rattle.compare.specs.Agreeing.{equalRange, Agreement, Apartness, Answers, Agrees, SameFields, comparisonNumber, comparisonValues, comparisonOf, sameOrDiffers, Compares}
+use Rattle.compare.specs.Agreeing.{equalRange, Answers, Agrees, SameFields, comparisonNumber, comparisonValues, comparisonOf, sameOrDiffers, Compares}
 use Rattle.compare.specs.declared.Agreed.{Agreed}
 use Rattle.compare.specs.declared.Agreed.the-variants.{Apart, Together, Lost}
 use Rattle.compare.specs.declared.Comparison.{Comparison}
@@ -39,12 +42,12 @@ some-zero (some c) h = let e : suc c - 1 ≡ c = omega arith in rw e
 
 module _ (y : Found Datatype) (a b : List ℕ) (got : Agreed) (w : Agrees y a b 0 got) where
   fields : (x : Comparison)
-      → ((t : Datatype) (next : Spot) → Answers (owned t) a b 0 next got → ((x ≡ Same) × Agreement (owned t) a b 0) ⊎ ((x ≡ Differs) × Apartness (owned t) a b 0))
+      → ((t : Datatype) (next : Spot) → Answers (fieldsOf t) a b next got → ((x ≡ Same) × FieldsAgree (fieldsOf t) a b) ⊎ ((x ≡ Differs) × FieldsDiffer (fieldsOf t) a b))
       → SameFields y a b x
   fields x h = go y w
     where
       go : (y : Found Datatype) → Agrees y a b 0 got → SameFields y a b x
-      go (found t r p) v = unfold SameFields Agrees in λ d l. h t (record { row = r; place = p }) (v d (omega arith))
+      go (found t r p) v = unfold SameFields Agrees in λ d l. h t (record { row = r; place = p }) (rw (moved-none (fieldsOf t)) at (v d (omega arith)))
       go bad v = unfold SameFields in tt
 
   pub fields-together : {next : Spot} → got ≡ Together next → SameFields y a b Same
@@ -125,22 +128,21 @@ module _ (table pool : List ℕ) {s : Survey} (g : Sets table pool s) where
             given : comparing table pool a b ≡ gives (agree (g .type) a b)
             given = comparing-records table pool a b (g .type) (g .is) sized (outside-is o) (heap-is p) (la ∙ size-is) (lb ∙ size-is)
 
-            same-if : ((i : ℕ) → i < typeSize (g .type) → owned (g .type) i ≡ true → getD a (0 + i) 0 ≡ getD b (0 + i) 0) → Compares (comparing table pool a b) Same
-            unfolding comparisonOf
-            same-if f = compares _ (rw (given, agree-holds (g .type) a b (λ i l w. let j : 0 + i ≡ i = omega arith in rw j at (f i l w))))
+            answered : (c : Bool) → agree (g .type) a b ≡ c → Compares (comparing table pool a b) (comparisonOf (gives c))
+            answered c e = compares _ (rw (given, e))
 
             pub same-equal : {r : Bool} → r ≡ equalRange a b 0 (s .size) → r ≡ true → Compares (comparing table pool a b) Same
-            same-equal q t = same-if (λ i l w. range-says a b 0 (s .size) (sym q ∙ t) i (omega (arith, size-is)))
+            unfolding comparisonOf
+            same-equal q t =
+                answered true (owned-agree (g .type) a b (λ i l w.
+                let j : 0 + i ≡ i = omega arith in
+                rw j at (range-says a b 0 (s .size) (sym q ∙ t) i (omega (arith, size-is)))))
 
             -- by the walk over its fields
             pub same-walked : {r : Comparison} → SameFields (typeAt 32 table pool 0 0) a b r → Compares (comparing table pool a b) r
-            unfolding SameFields Agreement comparisonOf
+            unfolding SameFields comparisonOf
             same-walked w =
                 ⊎-elim
-                (λ u. rw (u .0) (same-if (λ i l v. u .1 i v)))
-                (λ u.
-                let d = u .1 in
-                let j : 0 + d .place ≡ d .place = omega arith in
-                rw (u .0)
-                (compares _ (rw (given, agree-differs (g .type) a b (record { place = d .place; inside = owned-inside (g .type) (d .place) (outside-is o) (d .is-owned); is-owned = d .is-owned; differs = rw j at (d .differs) })))))
+                (λ u. rw (u .0) (answered true (walked-same (g .type) a b (u .1))))
+                (λ u. rw (u .0) (answered false (walked-differs (g .type) a b (outside-is o) (u .1))))
                 (rw (g .stands) at w (record { sized = sized; inside = outside-is o; plain = heap-is p }) (omega (arith, size-is)))

@@ -1,12 +1,13 @@
--- Types that own all their bytes: a leaf's row, an enumeration's.
-use Prim.Native.Nat.{ℕ, zero, suc}
+-- Types that are one field: a leaf's row, an enumeration's.
+use Prim.Native.Nat.{ℕ, zero, suc, _+_}
 use mathlib.Core.Path.{_≡_, refl, sym, ap, _∙_}
-use mathlib.Core.Bool.{Bool, true, false}
-use mathlib.Core.List.{List}
+use mathlib.Core.Bool.{Bool, true, false, false≢true}
+use mathlib.Core.List.{List, [], _∷_}
 use native.Mathlib.Omega.{arith}
-use lib.Dec.{ltb}
+use lib.Dec.{eqb}
+use borrow.Author.Tests.{ne-eqb}
 use Rattle.format.specs.Datatype.{Datatype, enumeration, EnumMember, typeSize}
-use Rattle.format.specs.Ownership.{owned}
+use Rattle.format.specs.Image.{ends, fieldOf, moveField, moveFields, fieldsOf}
 use Rattle.format.specs.Table.{Found, found, bad, Walk, andThen, typeAt, enumNamesAt, enumValuesAt}
 use Rattle.rows.specs.Entries.{entryAt, leafType, fromEntry, EntryIfKnown}
 use Rattle.rows.specs.declared.Entry.{Entry}
@@ -14,9 +15,8 @@ use Rattle.rows.specs.declared.Entry.the-variants.{Leaf, Compound, Enumeration,
 use Rattle.rows.proofs.Known.{claim-of-type}
 use Rattle.rows.proofs.Leaves.{leaf-law}
 use Rattle.table.specs.declared.Spot.{Spot}
-use Rattle.compare.specs.Agreeing.{isField, Admitted, Agrees, AgreesBytes}
+use Rattle.compare.specs.Agreeing.{nulTerminated, fieldAt, isField, isString, Agrees, AgreesField}
 use Rattle.compare.specs.declared.Agreed.{Agreed}
-use Rattle.compare.proofs.Ranges.{answers-as}
 
 -- ---- the rows that are a field's
 
@@ -45,65 +45,100 @@ module _ {e : Entry} where
   unfolding isField
   unknown-is-not h = ap isField (sym h)
 
--- ---- all n bytes are owned
+  pub leaf-string : {c n l y : ℕ} {x : Bool} → e ≡ Leaf c n l y → x ≡ nulTerminated c y → x ≡ isString e
+  unfolding isString
+  leaf-string h v = v ∙ ap isString (sym h)
 
-pub record OwnsAll (t : Datatype) (n : ℕ) : Type 0 where
+  pub enumeration-no-string : {n k : ℕ} → e ≡ Enumeration n k → false ≡ isString e
+  unfolding isString
+  enumeration-no-string h = ap isString (sym h)
+
+  pub compound-no-string : {n k : ℕ} → e ≡ Compound n k → false ≡ isString e
+  unfolding isString
+  compound-no-string h = ap isString (sym h)
+
+  pub variableLength-no-string : {i a c : ℕ} → e ≡ VariableLength i a c → false ≡ isString e
+  unfolding isString
+  variableLength-no-string h = ap isString (sym h)
+
+  pub array-no-string : {k : ℕ} → e ≡ Array k → false ≡ isString e
+  unfolding isString
+  array-no-string h = ap isString (sym h)
+
+  pub unknown-no-string : e ≡ Unknown → false ≡ isString e
+  unfolding isString
+  unknown-no-string h = ap isString (sym h)
+
+pub other-class : (c x : ℕ) → (c ≡ 3 → ⊥) → false ≡ nulTerminated c x
+unfolding nulTerminated
+other-class c x n = rw (ne-eqb c 3 n)
+
+pub string-code : (c x : ℕ) → c ≡ 3 → eqb x 0 ≡ nulTerminated c x
+unfolding nulTerminated
+string-code c x e = rw e
+
+-- ---- one field
+
+-- the type is one field of a size
+pub record IsField (t : Datatype) (n : ℕ) (e : Bool) : Type 0 where
   pub size : typeSize t ≡ n
-  pub places : (i : ℕ) → owned t i ≡ ltb i n
+  pub fields : fieldsOf t ≡ fieldAt 0 n e ∷ []
 
-pub owns-agrees : (t : Datatype) (r p n : ℕ) (a b : List ℕ) (at : ℕ) (next : Spot) (x : Agreed) → (Admitted t → OwnsAll t n) → next ≡ record { row = r; place = p }
-    → AgreesBytes n a b at next x → Agrees (found t r p) a b at x
-unfolding Agrees AgreesBytes
-owns-agrees t r p n a b at next x w e h d l =
-    let v = w d in
-    rw (← e) (answers-as (v .places) (h (omega (arith, v .size))))
+field-moved : (at n : ℕ) (e : Bool) → moveFields at (fieldAt 0 n e ∷ []) ≡ fieldAt at n e ∷ []
+unfolding moveFields moveField
+field-moved at n e = let q : at + 0 ≡ at = omega arith in rw q
+
+pub field-agrees : (t : Datatype) (r p n : ℕ) (e : Bool) (a b : List ℕ) (at : ℕ) (next : Spot) (x : Agreed) → IsField t n e → next ≡ record { row = r; place = p }
+    → AgreesField n e a b at next x → Agrees (found t r p) a b at x
+unfolding Agrees AgreesField
+field-agrees t r p n e a b at next x w q h d l = rw (← q, w .fields, field-moved at n e) (h (omega (arith, w .size)))
 
 module _ (table pool : List ℕ) (r p : ℕ) where
   -- what a leaf's row says of its type
-  pub leaf-owns : {k n l x : ℕ} {e : Entry} → e ≡ entryAt table pool r p → e ≡ Leaf k n l x → OwnsAll (leafType table pool r p k) n
-  unfolding typeSize owned
-  leaf-owns q e = let h = leaf-law table pool r p q e in rw (h .is) (record { size = refl; places = λ i. refl })
+  pub leaf-field : {k n l x : ℕ} {e : Entry} → e ≡ entryAt table pool r p → e ≡ Leaf k n l x → IsField (leafType table pool r p k) n (nulTerminated k x)
+  unfolding typeSize fieldsOf fieldOf ends nulTerminated
+  leaf-field q e = let h = leaf-law table pool r p q e in rw (h .is) (record { size = refl; fields = rw (h .ends-by) })
 
--- a type, where one is found, that owns all its bytes
-unfoldable pub Solid : Found Datatype → Type 0
-Solid (found t r p) = OwnsAll t (typeSize t)
-Solid bad = Unit {0}
+-- a type, where one is found, that is one field
+unfoldable pub OneField : (e : Bool) → Found Datatype → Type 0
+OneField e (found t r p) = IsField t (typeSize t) e
+OneField e bad = Unit {0}
+
+one-field : (t : Datatype) (n : ℕ) (e : Bool) → IsField t n e → IsField t (typeSize t) e
+one-field t n e w = record { size = refl; fields = w .fields ∙ rw (← w .size) }
 
 module _ (n : ℕ) (t : Datatype) where
-  pub enumeration-owns : (ms : List EnumMember) → OwnsAll (enumeration n t ms) n
-  unfolding typeSize owned
-  enumeration-owns ms = record { size = refl; places = λ i. refl }
+  pub enumeration-field : (ms : List EnumMember) → IsField (enumeration n t ms) n false
+  unfolding typeSize fieldsOf fieldOf ends
+  enumeration-field ms = record { size = refl; fields = refl }
 
-  members-solid : (x : Found (List EnumMember)) → Solid (andThen x (λ ms r p. found (enumeration n t ms) r p))
-  unfolding Solid andThen typeSize
-  members-solid (found ms r p) = enumeration-owns ms
-  members-solid bad = tt
+  members-field : (x : Found (List EnumMember)) → OneField false (andThen x (λ ms r p. found (enumeration n t ms) r p))
+  unfolding OneField andThen
+  members-field (found ms r p) = one-field (enumeration n t ms) n false (enumeration-field ms)
+  members-field bad = tt
 
-  names-solid : (pool : List ℕ) (x : Found (List (List ℕ × ℕ)))
-      → Solid (andThen x (λ ns r₂ p₂. andThen (enumValuesAt pool ns r₂ p₂) (λ ms r₃ p₃. found (enumeration n t ms) r₃ p₃)))
-  unfolding Solid andThen
-  names-solid pool (found ns r p) = members-solid (enumValuesAt pool ns r p)
-  names-solid pool bad = tt
+  names-field : (pool : List ℕ) (x : Found (List (List ℕ × ℕ)))
+      → OneField false (andThen x (λ ns r₂ p₂. andThen (enumValuesAt pool ns r₂ p₂) (λ ms r₃ p₃. found (enumeration n t ms) r₃ p₃)))
+  unfolding OneField andThen
+  names-field pool (found ns r p) = members-field (enumValuesAt pool ns r p)
+  names-field pool bad = tt
 
 module _ (rd : Walk Datatype) (table pool : List ℕ) (r p : ℕ) where
-  entry-solid : (e : Entry) → e ≡ entryAt table pool r p → isField e ≡ true → Solid (fromEntry rd table pool r p e)
-  unfolding fromEntry isField Solid
-  entry-solid (Leaf c n l x) q h =
-      let v = leaf-owns table pool r p q refl in
-      rw (v .size) v
-  entry-solid (Enumeration n k) q h = go (rd (suc r) p)
+  entry-field : (e : Entry) → e ≡ entryAt table pool r p → isField e ≡ true → OneField (isString e) (fromEntry rd table pool r p e)
+  unfolding fromEntry isField isString OneField
+  entry-field (Leaf c n l x) q h = one-field (leafType table pool r p c) n (nulTerminated c x) (leaf-field table pool r p q refl)
+  entry-field (Enumeration n k) q h = go (rd (suc r) p)
     where
       go : (x : Found Datatype)
-          → Solid (andThen x (λ t r₁ p₁. andThen (enumNamesAt table pool k r₁ p₁) (λ ns r₂ p₂. andThen (enumValuesAt pool ns r₂ p₂) (λ ms r₃ p₃. found (enumeration n t ms) r₃ p₃))))
-      go (found t r₁ p₁) = unfold andThen in names-solid n t pool (enumNamesAt table pool k r₁ p₁)
-      go bad = unfold andThen Solid in tt
-  entry-solid (Compound n k) q h = let z : _≡_ {A = ℕ} 0 1 = cc in absurd (omega arith)
-  entry-solid (VariableLength i a c) q h = let z : _≡_ {A = ℕ} 0 1 = cc in absurd (omega arith)
-  entry-solid (Array k) q h = let z : _≡_ {A = ℕ} 0 1 = cc in absurd (omega arith)
-  entry-solid Unknown q h = let z : _≡_ {A = ℕ} 0 1 = cc in absurd (omega arith)
+          → OneField false (andThen x (λ t r₁ p₁. andThen (enumNamesAt table pool k r₁ p₁) (λ ns r₂ p₂. andThen (enumValuesAt pool ns r₂ p₂) (λ ms r₃ p₃. found (enumeration n t ms) r₃ p₃))))
+      go (found t r₁ p₁) = unfold andThen in names-field n t pool (enumNamesAt table pool k r₁ p₁)
+      go bad = unfold andThen OneField in tt
+  entry-field (Compound n k) q h = absurd (false≢true h)
+  entry-field (VariableLength i a c) q h = absurd (false≢true h)
+  entry-field (Array k) q h = absurd (false≢true h)
+  entry-field Unknown q h = absurd (false≢true h)
 
-pub field-solid : (levels : ℕ) (table pool : List ℕ) (r p : ℕ) {x : Bool} (e : Entry) → EntryIfKnown (entryAt table pool r p) e → x ≡ isField e → x ≡ true
-    → Solid (typeAt levels table pool r p)
-unfolding Solid typeAt
-field-solid zero table pool r p e i q h = tt
-field-solid (suc k) table pool r p e i q h = claim-of-type table pool r p Solid tt k e i (λ is. entry-solid (typeAt k table pool) table pool r p e is (sym q ∙ h))
+pub type-field : (levels : ℕ) (table pool : List ℕ) (r p : ℕ) (e : Entry) → EntryIfKnown (entryAt table pool r p) e → isField e ≡ true → OneField (isString e) (typeAt levels table pool r p)
+unfolding OneField typeAt
+type-field zero table pool r p e i h = tt
+type-field (suc k) table pool r p e i h = claim-of-type table pool r p (OneField (isString e)) tt k e i (λ is. entry-field (typeAt k table pool) table pool r p e is h)

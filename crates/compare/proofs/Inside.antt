@@ -13,11 +13,12 @@ use types.Run.{OneOf}
 use denote.Enum.Declared.{tagOf}
 use borrow.Author.Tests.{leb-true, le-leb, ltb-false}
 use Rattle.format.specs.Datatype.{Datatype, Members, member, typeSize}
-use Rattle.format.specs.Ownership.{inEntries, owned, memberOwned, outside, memberOutside, heapHeld, memberHeapHeld}
+use Rattle.format.specs.Image.{moveFields, fieldEntries, fieldsOf, memberFields, FieldsAgree, FieldsDiffer}
+use Rattle.format.specs.Ownership.{outside, memberOutside, heapHeld, memberHeapHeld}
 use Rattle.format.specs.Slots.{firstZero, memberFirstZero}
 use Rattle.format.specs.Table.{Found, found, bad, Walk, andThen, typeAt, membersAt}
 use Rattle.format.proofs.Booleans.{and-both, or-either, or-neither, or-second}
-use Rattle.format.proofs.Ownership.{entry-complete}
+use Rattle.format.proofs.Walking.{agree-none, agree-both, differ-first, differ-second, member-walked, entry-walked, entry-differs}
 use Rattle.format.proofs.Slots.{or-else-none}
 use Rattle.rows.specs.Entries.{memberAt, MemberIfKnown, fromMember}
 use Rattle.rows.specs.declared.Member.{Member}
@@ -25,7 +26,7 @@ use Rattle.rows.specs.declared.Member.the-variants.{Named, Unnamed}
 use Rattle.rows.proofs.Decode.{membersAt-entry}
 use Rattle.rows.proofs.Known.{claim-of-members}
 use Rattle.table.specs.declared.Spot.{Spot}
-use Rattle.compare.specs.Agreeing.{Admitted, AdmittedIn, Agreement, Apartness, Answers, Agrees, AgreesIn, AgreesEach}
+use Rattle.compare.specs.Agreeing.{Admitted, AdmittedIn, Answers, Agrees, AgreesIn, AgreesEach}
 use Rattle.compare.specs.declared.Agreed.{Agreed}
 use Rattle.compare.specs.declared.Agreed.the-variants.{Apart, Together, Lost}
 use Rattle.compare.proofs.Agreed.{the-type}
@@ -53,37 +54,21 @@ first-of size name offset t ms d =
     }
 
 module _ (name : List ℕ) (o : ℕ) (t : Datatype) (ms : Members) (a b : List ℕ) (at : ℕ) where
-  first-place : (i : ℕ) → o ≤ i → at + o + (i - o) ≡ at + i
-  first-place i h = omega arith
-
-  join : {next : Spot} {x : Agreed} → Agreement (owned t) a b (at + o) → Answers (memberOwned ms) a b at next x → Answers (memberOwned (member name o t ms)) a b at next x
-  unfolding Agreement owned
+  join : {next : Spot} {x : Agreed} → FieldsAgree (moveFields (at + o) (fieldsOf t)) a b → Answers (moveFields at (memberFields ms)) a b next x
+      → Answers (moveFields at (memberFields (member name o t ms))) a b next x
   join h w =
-      record {
-        together = λ s e. (
-          λ i v.
-              ⊎-elim
-              (λ p. let q = and-both (leb o i) (owned t (i - o)) p in
-              rw (first-place i (leb-true o i (q .0))) at (h (i - o) (q .1)))
-              (λ p. w .together s e .0 i p)
-              (or-either (leb o i && owned t (i - o)) (memberOwned ms i) v),
-          w .together s e .1,
-        );
-        apart = λ e.
-            let d = w .apart e in
-            record { place = d .place; is-owned = or-second (leb o (d .place) && owned t (d .place - o)) (memberOwned ms (d .place)) (d .is-owned); differs = d .differs };
+      rw (member-walked at name o t ms)
+      (record {
+        together = λ s e. let u = w .together s e in (agree-both (moveFields (at + o) (fieldsOf t)) (moveFields at (memberFields ms)) h (u .0), u .1);
+        apart = λ e. differ-second (moveFields (at + o) (fieldsOf t)) (moveFields at (memberFields ms)) (w .apart e);
         kept = w .kept;
-      }
+      })
 
-  first-apart : {next : Spot} → Apartness (owned t) a b (at + o) → Answers (memberOwned (member name o t ms)) a b at next Apart
-  unfolding owned
-  first-apart d =
-      let e : o + d .place - o ≡ d .place = omega arith in
-      let f : at + (o + d .place) ≡ at + o + d .place = omega arith in
-      answers-apart (record { place = o + d .place; is-owned = rw (le-leb o (o + d .place) (omega arith), e, d .is-owned); differs = rw f (d .differs) })
+  first-apart : {next : Spot} → FieldsDiffer (moveFields (at + o) (fieldsOf t)) a b → Answers (moveFields at (memberFields (member name o t ms))) a b next Apart
+  first-apart d = rw (member-walked at name o t ms) (answers-apart (differ-first _ _ d))
 
 others-answer : (a b : List ℕ) (at : ℕ) (z : Agreed) (y : Found Members) (ms : Members) (r p n : ℕ) → y ≡ found ms r p → AgreesIn y a b at z → AdmittedIn n ms → at + n ≤ length a
-    → Answers (memberOwned ms) a b at (record { row = r; place = p }) z
+    → Answers (moveFields at (memberFields ms)) a b (record { row = r; place = p }) z
 unfolding AgreesIn
 others-answer a b at z y ms r p n u v d l = rw u at v n d l
 
@@ -95,7 +80,7 @@ module _ (name : List ℕ) (o : ℕ) (rest : Walk Members) (a b : List ℕ) (at 
   -- what is to be shown where a first member and others are found
   behind : (z : Agreed) (x : Found Datatype)
       → ((t : Datatype) (r p : ℕ) (ms : Members) (r′ p′ n : ℕ) → x ≡ found t r p → rest r p ≡ found ms r′ p′ → First n o t ms → at + n ≤ length a
-      → Answers (memberOwned (member name o t ms)) a b at (record { row = r′; place = p′ }) z)
+      → Answers (moveFields at (memberFields (member name o t ms))) a b (record { row = r′; place = p′ }) z)
       → AgreesIn (Behind x) a b at z
   unfolding andThen
   behind z (found t r p) h = go (rest r p) refl
@@ -110,7 +95,7 @@ module _ (name : List ℕ) (o : ℕ) (rest : Walk Members) (a b : List ℕ) (at 
 
   module _ (x : Found Datatype) (got : Agreed) (h : Agrees x a b (at + o) got) where
     -- the first member's answer
-    answer : (t : Datatype) (r p : ℕ) (ms : Members) (n : ℕ) → x ≡ found t r p → First n o t ms → at + n ≤ length a → Answers (owned t) a b (at + o) (record { row = r; place = p }) got
+    answer : (t : Datatype) (r p : ℕ) (ms : Members) (n : ℕ) → x ≡ found t r p → First n o t ms → at + n ≤ length a → Answers (moveFields (at + o) (fieldsOf t)) a b (record { row = r; place = p }) got
     unfolding Agrees
     answer t r p ms n e f l = rw e at h (f .type) (omega (arith, f .ends))
 
@@ -143,7 +128,7 @@ module _ (table pool : List ℕ) (depth r p left : ℕ) (a b : List ℕ) (at : �
   unfolding Leads
   members-end e =
       let k : left ≡ 0 = omega arith in
-      inv _ (rw k (unfold membersAt AgreesIn in λ n d l. answers-together (unfold Agreement owned in λ i o. absurd (false≢true o))))
+      inv _ (rw k (unfold membersAt AgreesIn in λ n d l. answers-together (unfold fieldsOf moveFields in agree-none)))
 
   module _ (some-left : 0 < left) where
     members-as : (z : Agreed) → AgreesIn (membersAt (typeAt (32 - depth) table pool) table pool (suc (left - 1)) r p) a b at z → AgreesIn y a b at z
@@ -202,7 +187,7 @@ stopped Lost h = inr refl
 
 -- the first k entries agree
 unfoldable pub Done : Found Datatype → (stride k : ℕ) (a b : List ℕ) (at : ℕ) → Type 0
-Done (found t r p) stride k a b at = Admitted t → stride ≡ typeSize t → Agreement (inEntries (owned t) stride k) a b at
+Done (found t r p) stride k a b at = Admitted t → stride ≡ typeSize t → FieldsAgree (moveFields at (fieldEntries stride (fieldsOf t) 0 k)) a b
 Done bad stride k a b at = Unit {0}
 
 -- k of so many entries are done, and the next begins at `start`
@@ -216,7 +201,7 @@ pub entries-start : (x : Found Datatype) (stride count : ℕ) (a b : List ℕ) (
 entries-start x stride count a b at h = record { within = omega arith; here = omega arith; begins = h; done = go x }
   where
     go : (x : Found Datatype) → Done x stride 0 a b at
-    go (found t r p) = unfold Done Agreement inEntries in λ d e i o. absurd (false≢true o)
+    go (found t r p) = unfold Done fieldEntries moveFields in λ d e. agree-none
     go bad = unfold Done in tt
 
 pub entries-end : (x : Found Datatype) (stride count k start : ℕ) (a b : List ℕ) (at : ℕ) (next : Spot) → Going x stride count k start a b at → count ≤ k
@@ -245,29 +230,16 @@ module _ (stride count k start : ℕ) (a b : List ℕ) (at : ℕ) (some-left : k
       let w = v d (omega (arith, ends (g .here) l)) in
       ⊎-elim (λ h. rw h (apart-here (w .apart h))) (λ h. absurd (w .kept h)) (stopped got f)
     where
-      apart-here : Apartness (owned t) a b start → Answers (inEntries (owned t) stride count) a b at next Apart
-      apart-here w =
-          let i : k * stride + w .place - k * stride ≡ w .place = omega arith in
-          let j : at + (k * stride + w .place) ≡ start + w .place = omega arith in
-          answers-apart (record {
-            place = k * stride + w .place;
-            is-owned = entry-complete (owned t) stride count (k * stride + w .place) k some-left (omega arith) (rw i (w .is-owned));
-            differs = rw j (w .differs);
-          })
+      apart-here : FieldsDiffer (moveFields start (fieldsOf t)) a b → Answers (moveFields at (fieldEntries stride (fieldsOf t) 0 count)) a b next Apart
+      apart-here w = answers-apart (entry-differs a b at stride (fieldsOf t) k count some-left (rw (g .here) at w))
   entries-stop bad next got g v f = tt
 
   done-next : (x : Found Datatype) {got : Agreed} {s : Spot} → Going x stride count k start a b at → stride ≤ length a - start → Agrees x a b start got → got ≡ Together s → Done x stride (k + 1) a b at
-  unfolding Agrees Done Agreement
+  unfolding Agrees Done
   done-next (found t r p) {s = s} g l v f =
       λ d e.
       let w = v d (omega arith) .together s f .0 in
-      rw (add-one k) (unfold inEntries in λ i o.
-      ⊎-elim
-      (λ q. let u = and-both (leb (k * stride) i) (owned t (i - k * stride)) q in
-      let j : start + (i - k * stride) ≡ at + i = omega (arith, leb-true (k * stride) i (u .0)) in
-      rw j at (w (i - k * stride) (u .1)))
-      (λ q. g .done d e i q)
-      (or-either (leb (k * stride) i && owned t (i - k * stride)) (inEntries (owned t) stride k i) o))
+      rw (add-one k, entry-walked at stride (fieldsOf t) k) (agree-both _ _ (g .done d e) (rw (g .here) at w))
   done-next bad g l v f = tt
 
   pub entries-next : (x : Found Datatype) {got : Agreed} {s : Spot} (k′ start′ : ℕ) → Going x stride count k start a b at → k′ ≡ k + 1 → start′ ≡ start + stride → stride ≤ length a - start → Agrees x a b start got → got ≡ Together s

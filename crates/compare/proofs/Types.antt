@@ -1,8 +1,8 @@
 -- The walk's ways out at a type's row, but for what its members and entries answer.
 use Prim.Native.Nat.{ℕ, zero, suc, _+_, _-_, _*_, _/_, _%_, _<_, _≤_, min}
 use mathlib.Core.Path.{_≡_, refl, sym, ap, _∙_}
-use mathlib.Core.Bool.{Bool, true, _&&_, false≢true, and-true}
-use mathlib.Core.List.{List}
+use mathlib.Core.Bool.{Bool, true, false, _&&_, false≢true, and-true}
+use mathlib.Core.List.{List, [], _∷_}
 use native.Mathlib.Omega.{arith}
 use native.Mathlib.Numerals.{add-one}
 use native.Mathlib.Nat.{mul-comm, mul-div-cancel-left, mod-lt}
@@ -11,11 +11,13 @@ use lib.Dec.{ltb}
 use borrow.Author.Tests.{ltb-false, lt-ltb}
 use Rattle.format.specs.Bytes.{dimensionsFrom}
 use Rattle.format.specs.Datatype.{Datatype, compound, enumeration, variableLength, array, Members, EnumMember, product, typeSize, maxSize}
-use Rattle.format.specs.Ownership.{owned, outside, heapHeld}
+use Rattle.format.specs.Image.{ownedBy, countedIn, moveFields, fieldsOf}
+use Rattle.format.specs.Ownership.{outside, heapHeld}
 use Rattle.format.specs.Slots.{firstZero}
 use Rattle.format.specs.Table.{Found, found, bad, andThen, typeAt, membersAt, enumNamesAt, enumValuesAt}
 use Rattle.format.proofs.Booleans.{or-neither}
-use Rattle.format.proofs.Ownership.{array-size, owned-remainder}
+use Rattle.format.proofs.Ownership.{array-size}
+use Rattle.format.proofs.Walking.{counted-one, counted-whole, whole-entries}
 use Rattle.format.proofs.Slots.{first-zero-size, or-else-none}
 use Rattle.format.proofs.TableSteps.{then-found}
 use Rattle.rows.specs.Entries.{entryAt, fromEntry, EntryInside, EntryIfKnown}
@@ -31,21 +33,22 @@ use Rattle.table.specs.declared.Found.{Found as Walked}
 use Rattle.table.specs.declared.Found.the-variants.{At, Lost as Astray}
 use Rattle.table.proofs.Surveys.{Told, told, untold}
 use Rattle.table.specs.Path.{topOf}
-use Rattle.compare.specs.Agreeing.{Read, isField, Admitted, Agrees, AgreesIn, AgreesEach, AgreesBytes, BaseIs, BaseIn, Standing}
+use Rattle.compare.specs.Agreeing.{Read, nulTerminated, fieldAt, isField, isString, Admitted, Agrees, AgreesIn, AgreesEach, AgreesField, AgreesStrings, AgreesFields, BaseIs, BaseIn, Standing}
 use Rattle.table.specs.declared.Path.{Path}
 use Rattle.compare.specs.declared.Agreed.{Agreed}
 use Rattle.compare.specs.declared.Base.{Base}
 use Rattle.compare.specs.declared.Based.{Based}
 use Rattle.compare.specs.declared.Based.the-variants.{At as BasedAt, Lost as BasedLost}
-use Rattle.compare.proofs.Fields.{OwnsAll, owns-agrees, leaf-owns, enumeration-owns, Solid, field-solid}
+use Rattle.compare.proofs.Fields.{IsField, field-agrees, leaf-field, enumeration-field, OneField, type-field}
+use Rattle.compare.proofs.Ranges.{answers-as}
 
 -- ---- an enumeration
 
 module _ (table pool : List ℕ) (n k : ℕ) (a b : List ℕ) (at : ℕ) (x : Agreed) where
-  values-agree : (t : Datatype) (y : Found (List EnumMember)) (end : Spot) → At end ≡ spotOf y → AgreesBytes n a b at end x
+  values-agree : (t : Datatype) (y : Found (List EnumMember)) (end : Spot) → At end ≡ spotOf y → AgreesField n false a b at end x
       → Agrees (andThen y (λ ms r p. found (enumeration n t ms) r p)) a b at x
   unfolding spotOf andThen
-  values-agree t (found ms r p) end e h = owns-agrees (enumeration n t ms) r p n a b at end x (λ d. enumeration-owns n t ms) (cc) h
+  values-agree t (found ms r p) end e h = field-agrees (enumeration n t ms) r p n false a b at end x (enumeration-field n t ms) (cc) h
   values-agree t bad end e h = let z : _≡_ {A = ℕ} 0 1 = cc in absurd (omega arith)
 
   values-astray : (t : Datatype) (y : Found (List EnumMember)) → Astray ≡ spotOf y → Agrees (andThen y (λ ms r p. found (enumeration n t ms) r p)) a b at x
@@ -85,7 +88,7 @@ module _ (table pool : List ℕ) (n k : ℕ) (a b : List ℕ) (at : ℕ) (x : Ag
       unfolding fromEntry enumSpotOf
       enumeration-lost f = rw (← add-one row) (below-enumeration _ (told _ s g e) (λ t. values-astray t _ (sym f ∙ v)))
 
-      pub enumeration-agrees : {end : Spot} → w ≡ At end → AgreesBytes n a b at end x
+      pub enumeration-agrees : {end : Spot} → w ≡ At end → AgreesField n false a b at end x
           → Agrees (fromEntry (typeAt levels table pool) table pool row place (Enumeration n k)) a b at x
       unfolding fromEntry enumSpotOf
       enumeration-agrees {end = end} f h = rw (← add-one row) (below-enumeration _ (told _ s g e) (λ t. values-agree t _ end (sym f ∙ v) h))
@@ -116,20 +119,15 @@ module _ (ds : List ℕ) (t : Datatype) (d : Admitted (array ds t)) where
   count-is : {size total : ℕ} → size ≡ typeSize t → total ≡ min (size * product ds) 4294967296 → total / size ≡ product ds
   count-is e h = rw (total-is e h, e) (mul-div-cancel-left (product ds) base-sized)
 
-  solid-array : {size total : ℕ} → size ≡ typeSize t → total ≡ min (size * product ds) 4294967296 → OwnsAll t (typeSize t) → OwnsAll (array ds t) total
-  solid-array e h w =
-      let f = total-is e h in
-      let g = array-size ds t (d .inside) in
-      let m = mul-comm (typeSize t) (product ds) in
-      let q : typeSize (array ds t) ≡ _ = g ∙ sym m ∙ sym f in
-      record {
-        size = q;
-        places = λ i.
-            owned-remainder ds t (d .inside) base-sized i
-            ∙ ap (λ (u : Bool). ltb i (typeSize (array ds t)) && u) (w .places (i % typeSize t) ∙ lt-ltb (i % typeSize t) (typeSize t) (mod-lt i base-sized))
-            ∙ and-true (ltb i (typeSize (array ds t)))
-            ∙ ap (ltb i) q;
-      }
+  -- an array of a field that counts whole counts what one field of its size does
+  solid-array : {size total : ℕ} → size ≡ typeSize t → total ≡ min (size * product ds) 4294967296 → IsField t (typeSize t) false → (at : ℕ) (r : List ℕ) (i : ℕ)
+      → countedIn (moveFields at (fieldsOf (array ds t))) r i ≡ countedIn (fieldAt at total false ∷ []) r i
+  unfolding fieldsOf
+  solid-array {total = total} e h w at r i =
+      let n : at + (0 + product ds) * typeSize t ≡ at + total = omega (arith, total-is e h, mul-comm (typeSize t) (product ds)) in
+      let z : at + 0 * typeSize t ≡ at = omega arith in
+      rw (w .fields, whole-entries at (typeSize t) (fieldAt 0 (typeSize t) false) (record { first = refl; long = refl; not-ended = refl }) r i 0 (product ds), n, z)
+      (sym (counted-one (fieldAt at total false) r i ∙ counted-whole (fieldAt at total false) r i refl ∙ unfold ownedBy in refl))
 
 module _ (ds : List ℕ) (s : Survey) (a b : List ℕ) (at : ℕ) (x : Agreed) where
   array-zero : (y : Found Datatype) → Told y s → s .size ≡ 0 → Agrees (andThen y (λ t r p. found (array ds t) r p)) a b at x
@@ -141,19 +139,20 @@ module _ (ds : List ℕ) (s : Survey) (a b : List ℕ) (at : ℕ) (x : Agreed) w
   array-zero bad h e = tt
 
   module _ {total : ℕ} (ht : total ≡ min (s .size * product ds) 4294967296) where
-    array-solid : (y : Found Datatype) → Told y s → Solid y → AgreesBytes total a b at (record { row = s .row; place = s .place }) x
+    array-solid : (y : Found Datatype) → Told y s → OneField false y → AgreesField total false a b at (record { row = s .row; place = s .place }) x
         → Agrees (andThen y (λ t r p. found (array ds t) r p)) a b at x
-    unfolding Told Solid andThen
+    unfolding Told OneField andThen Agrees AgreesField
     array-solid (found t r p) h w v =
+        λ d l.
         let f : s .size ≡ typeSize t = ap (λ (u : Survey). u .size) (h .is) in
         let fr : s .row ≡ r = ap (λ (u : Survey). u .row) (h .is) in
         let fp : s .place ≡ p = ap (λ (u : Survey). u .place) (h .is) in
-        owns-agrees (array ds t) r p total a b at (record { row = s .row; place = s .place }) x (λ d. solid-array ds t d f ht w) (rw (fr, fp)) v
-    array-solid bad h w v = unfold Agrees in tt
+        rw (← fr, ← fp) (answers-as (solid-array ds t d f ht w at) (v (omega (arith, total-is ds t d f ht, array-size ds t (d .inside), mul-comm (typeSize t) (product ds)))))
+    array-solid bad h w v = tt
 
     array-each : (y : Found Datatype) → Told y s → AgreesEach y (s .size) (total / s .size) a b at (record { row = s .row; place = s .place }) x
         → Agrees (andThen y (λ t r p. found (array ds t) r p)) a b at x
-    unfolding Told andThen Agrees AgreesEach owned
+    unfolding Told andThen Agrees AgreesEach fieldsOf
     array-each (found t r p) h v =
         λ d l.
         let f : s .size ≡ typeSize t = ap (λ (u : Survey). u .size) (h .is) in
@@ -162,6 +161,20 @@ module _ (ds : List ℕ) (s : Survey) (a b : List ℕ) (at : ℕ) (x : Agreed) w
         let k = count-is ds t d f ht in
         rw (fr, fp, k, f) at v (base-admitted ds t d) refl (omega (arith, array-size ds t (d .inside), l))
     array-each bad h v = tt
+
+    -- strings one behind the other are the entries of an array of them
+    strings-each : (y : Found Datatype) → OneField true y → AgreesStrings (s .size) (total / s .size) a b at (record { row = s .row; place = s .place }) x
+        → AgreesEach y (s .size) (total / s .size) a b at (record { row = s .row; place = s .place }) x
+    unfolding OneField AgreesEach AgreesStrings
+    strings-each (found t r p) w v = λ d e l. rw (w .fields, ← e) (v l)
+    strings-each bad w v = tt
+
+    array-fields : (string : Bool) (y : Found Datatype) → Told y s → OneField string y
+        → AgreesFields string (record { stride = s .size; bytes = total; count = total / s .size; next = record { row = s .row; place = s .place } }) a b at x
+        → Agrees (andThen y (λ t r p. found (array ds t) r p)) a b at x
+    unfolding AgreesFields
+    array-fields true y h w v = array-each y h (strings-each y w v)
+    array-fields false y h w v = array-solid y h w v
 
 -- ---- an array's base, at the array's row
 
@@ -189,7 +202,7 @@ module _ (table pool : List ℕ) (row place k levels : ℕ) {y : Surveyed} (g : 
     base-found ht =
         record {
           deep = base-deep;
-          solid = λ e i f a b at x v. rw (← add-one row) (array-solid _ s a b at x ht _ (told _ s g u) (field-solid _ table pool (row + 1) _ e i (sym f) refl) v);
+          fields = λ e i f a b at x v. rw (← add-one row) (array-fields _ s a b at x ht (isString e) _ (told _ s g u) (type-field _ table pool (row + 1) _ e i f) v);
           each = λ a b at x v. rw (← add-one row) (array-each _ s a b at x ht _ (told _ s g u) v);
         }
 
@@ -214,11 +227,11 @@ module _ (table pool : List ℕ) (depth row place : ℕ) (a b : List ℕ) (at : 
       go (found t r′ p′) = unfold andThen Agrees heapHeld in λ d l. absurd (false≢true (sym (d .plain)))
       go bad = unfold andThen Agrees in tt
 
-  pub type-leaf : (x : Agreed) {k n l y : ℕ} → e ≡ Leaf k n l y → AgreesBytes n a b at (record { row = row + 1; place = place + l }) x
+  pub type-leaf : (x : Agreed) {k n l y : ℕ} → e ≡ Leaf k n l y → AgreesField n (nulTerminated k y) a b at (record { row = row + 1; place = place + l }) x
       → Agrees (typeAt (33 - depth) table pool row place) a b at x
   unfolding fromEntry
-  type-leaf x {k = k} {n = n} {l = l} h v =
-      by-row x h (λ q. owns-agrees _ _ _ n a b at (record { row = row + 1; place = place + l }) x (λ d. leaf-owns table pool row place q h) (rw (add-one row)) v)
+  type-leaf x {k = k} {n = n} {l = l} {y = y} h v =
+      by-row x h (λ q. field-agrees _ _ _ n (nulTerminated k y) a b at (record { row = row + 1; place = place + l }) x (leaf-field table pool row place q h) (rw (add-one row)) v)
 
   -- an enumeration or an array, by what is answered at its row
   pub type-entry : (x : Agreed) {f : Entry} → e ≡ f → Agrees (fromEntry (typeAt (32 - depth) table pool) table pool row place f) a b at x → Agrees (typeAt (33 - depth) table pool row place) a b at x
@@ -231,7 +244,7 @@ module _ (table pool : List ℕ) (depth row place : ℕ) (a b : List ℕ) (at : 
     where
       go : (y : Found Members) → AgreesIn y a b at x → Agrees (andThen y (λ ms r′ p′. found (compound n ms) r′ p′)) a b at x
       go (found ms r p) w =
-          unfold andThen Agrees AgreesIn owned typeSize in
+          unfold andThen Agrees AgreesIn fieldsOf typeSize in
           λ d l. w n (unfold firstZero outside heapHeld in record { sized = or-else-none _ _ (d .sized) .1; inside = d .inside; plain = d .plain }) l
       go bad w = unfold andThen Agrees in tt
 
@@ -247,9 +260,9 @@ module _ (table pool : List ℕ) (depth row place k : ℕ) {y : Based} (g : Base
     unfolding BaseIn
     base-is = rw u at g
 
-    pub array-field : (a b : List ℕ) (at : ℕ) (x : Agreed) {solid : Bool} (i : Entry) → EntryIfKnown (entryAt table pool (row + 1) (place + k * 4)) i → solid ≡ isField i → solid ≡ true
-        → AgreesBytes (v .bytes) a b at (v .next) x → Agrees (fromEntry (typeAt (32 - depth) table pool) table pool row place (Array k)) a b at x
-    array-field a b at x i n f w z = base-is .solid i n (sym f ∙ w) a b at x z
+    pub array-of-field : (a b : List ℕ) (at : ℕ) (x : Agreed) {c : Bool} (i : Entry) → EntryIfKnown (entryAt table pool (row + 1) (place + k * 4)) i → c ≡ isField i → c ≡ true
+        → AgreesFields (isString i) v a b at x → Agrees (fromEntry (typeAt (32 - depth) table pool) table pool row place (Array k)) a b at x
+    array-of-field a b at x i n f w z = base-is .fields i n (sym f ∙ w) a b at x z
 
     pub array-entries : (a b : List ℕ) (at : ℕ) (x : Agreed) (inner : Path) → inner .depth ≡ depth + 1 → topOf inner ≡ row + 1
         → AgreesEach (typeAt (33 - inner .depth) table pool (topOf inner) (place + k * 4)) (v .stride) (v .count) a b at (v .next) x
@@ -273,7 +286,7 @@ read-entered inner hr q i = rw hr (record { is = q; inside = i })
 
 module _ (table pool : List ℕ) (depth row place : ℕ) (a b : List ℕ) (at : ℕ) (x : Agreed) where
   module _ {e : Entry} (d : depth < 32) (known : EntryIfKnown (entryAt table pool row place) e) where
-    pub member-leaf : {k n l y : ℕ} → e ≡ Leaf k n l y → AgreesBytes n a b at (record { row = row + 1; place = place + l }) x → Agrees (typeAt (32 - depth) table pool row place) a b at x
+    pub member-leaf : {k n l y : ℕ} → e ≡ Leaf k n l y → AgreesField n (nulTerminated k y) a b at (record { row = row + 1; place = place + l }) x → Agrees (typeAt (32 - depth) table pool row place) a b at x
     member-leaf h v =
         let i : 33 - (depth + 1) ≡ 32 - depth = omega arith in
         rw i at (type-leaf table pool (depth + 1) row place a b at (omega arith) known x h v)

@@ -6,11 +6,12 @@ use mathlib.Core.List.{List, [], _∷_}
 use mathlib.Core.Logic.{_⊎_}
 use mathlib.Core.Option.{none}
 use lib.ListN.{length, getD}
-use lib.Dec.{ltb, eqb}
+use lib.Dec.{eqb}
 use Rattle.refusal.specs.Refusal.{numberOf, valuesOf}
 use Rattle.format.specs.Datatype.{Datatype, Members, typeSize}
 use Rattle.format.specs.Outcome.{Outcome, gives, refuses, outcomeNumber, outcomeValues}
-use Rattle.format.specs.Ownership.{inEntries, owned, memberOwned, outside, memberOutside, heapHeld, memberHeapHeld}
+use Rattle.format.specs.Image.{Field, moveFields, fieldEntries, fieldsOf, memberFields, FieldsAgree, FieldsDiffer}
+use Rattle.format.specs.Ownership.{outside, memberOutside, heapHeld, memberHeapHeld}
 use Rattle.format.specs.Slots.{firstZero, memberFirstZero}
 use Rattle.format.specs.Table.{Found, found, bad, typeAt}
 use Rattle.rows.specs.Entries.{entryAt, EntryInside, EntryIfKnown, fromEntry}
@@ -43,7 +44,21 @@ unfoldable pub equalRange : (a b : List ℕ) (at n : ℕ) → Bool
 equalRange a b at zero = true
 equalRange a b at (suc n) = eqb (getD a at 0) (getD b at 0) && equalRange a b (suc at) n
 
--- the row's type is other than a compound or an array, and of its row's size
+-- k of n bytes from at on are equal
+pub record Equal (a b : List ℕ) (at n k : ℕ) : Type 0 where
+  pub within : k ≤ n
+  pub equal : (j : ℕ) → at ≤ j → j < at + k → getD a j 0 ≡ getD b j 0
+
+-- and the next one differs
+pub record Common (a b : List ℕ) (at n k : ℕ) : Type 0 where
+  pub so-far : Equal a b at n k
+  pub differs : k < n → getD a (at + k) 0 ≡ getD b (at + k) 0 → ⊥
+
+-- a NUL-terminated string is class 3 with padding 0, its row's column 5
+unfoldable pub nulTerminated : (class code : ℕ) → Bool
+nulTerminated c x = eqb c 3 && eqb x 0
+
+-- the row's type is a field, and of its row's size
 unfoldable pub isField : Entry → Bool
 isField (Leaf c n l x) = true
 isField (Compound n k) = false
@@ -51,6 +66,15 @@ isField (Enumeration n k) = true
 isField (VariableLength i p c) = false
 isField (Array k) = false
 isField Unknown = false
+
+-- the row's type is a NUL-terminated string
+unfoldable pub isString : Entry → Bool
+isString (Leaf c n l x) = nulTerminated c x
+isString (Compound n k) = false
+isString (Enumeration n k) = false
+isString (VariableLength i p c) = false
+isString (Array k) = false
+isString Unknown = false
 
 -- "A type is admitted to comparison": it has no size 0, nothing outside and nothing heap-held
 pub record Admitted (t : Datatype) : Type 0 where
@@ -64,50 +88,55 @@ pub record AdmittedIn (size : ℕ) (ms : Members) : Type 0 where
   pub inside : memberOutside size ms ≡ false
   pub plain : memberHeapHeld ms ≡ false
 
--- two records, of which a type's begins at a place, agree at each place that f says is owned
-unfoldable pub Agreement : (ℕ → Bool) → (a b : List ℕ) (at : ℕ) → Type 0
-Agreement f a b at = (i : ℕ) → f i ≡ true → getD a (at + i) 0 ≡ getD b (at + i) 0
-
--- an owned place at which they differ
-pub record Apartness (f : ℕ → Bool) (a b : List ℕ) (at : ℕ) : Type 0 where
-  pub place : ℕ
-  pub is-owned : f place ≡ true
-  pub differs : getD a (at + place) 0 ≡ getD b (at + place) 0 → ⊥
-
--- by what is answered, of the places that f says are owned; never lost
-pub record Answers (f : ℕ → Bool) (a b : List ℕ) (at : ℕ) (next : Spot) (x : Agreed) : Type 0 where
-  pub together : (s : Spot) → x ≡ Together s → Agreement f a b at × (s ≡ next)
-  pub apart : x ≡ Apart → Apartness f a b at
+-- by what is answered of fields; never lost
+pub record Answers (fs : List Field) (a b : List ℕ) (next : Spot) (x : Agreed) : Type 0 where
+  pub together : (s : Spot) → x ≡ Together s → FieldsAgree fs a b × (s ≡ next)
+  pub apart : x ≡ Apart → FieldsDiffer fs a b
   pub kept : x ≡ Lost → ⊥
 
 -- of an admitted type whose record lies within both
 unfoldable pub Agrees : Found Datatype → (a b : List ℕ) (at : ℕ) → Agreed → Type 0
-Agrees (found t r p) a b at x = Admitted t → at + typeSize t ≤ length a → Answers (owned t) a b at (record { row = r; place = p }) x
+Agrees (found t r p) a b at x = Admitted t → at + typeSize t ≤ length a → Answers (moveFields at (fieldsOf t)) a b (record { row = r; place = p }) x
 Agrees bad a b at x = Unit {0}
 
 -- of the members of an admitted compound, whatever its size
 unfoldable pub AgreesIn : Found Members → (a b : List ℕ) (at : ℕ) → Agreed → Type 0
 AgreesIn (found ms r p) a b at x =
-    (n : ℕ) → AdmittedIn n ms → at + n ≤ length a → Answers (memberOwned ms) a b at (record { row = r; place = p }) x
+    (n : ℕ) → AdmittedIn n ms → at + n ≤ length a → Answers (moveFields at (memberFields ms)) a b (record { row = r; place = p }) x
 AgreesIn bad a b at x = Unit {0}
 
 -- of n entries of an admitted base, its size apart
 unfoldable pub AgreesEach : Found Datatype → (stride n : ℕ) (a b : List ℕ) (at : ℕ) → Spot → Agreed → Type 0
 AgreesEach (found t r p) stride n a b at next x =
-    Admitted t → stride ≡ typeSize t → at + n * stride ≤ length a → Answers (inEntries (owned t) stride n) a b at next x
+    Admitted t → stride ≡ typeSize t → at + n * stride ≤ length a → Answers (moveFields at (fieldEntries stride (fieldsOf t) 0 n)) a b next x
 AgreesEach bad stride n a b at next x = Unit {0}
 
--- of n bytes that are all owned
-abbrev pub below : (n i : ℕ) → Bool
-below n i = ltb i n
+-- a field of n bytes at a place
+abbrev pub fieldAt : (at n : ℕ) (ended : Bool) → Field
+fieldAt at n e = record { place = at; size = n; ended = e }
 
-unfoldable pub AgreesBytes : (n : ℕ) (a b : List ℕ) (at : ℕ) → Spot → Agreed → Type 0
-AgreesBytes n a b at next x = at + n ≤ length a → Answers (below n) a b at next x
+-- of one field
+unfoldable pub AgreesField : (n : ℕ) (ended : Bool) (a b : List ℕ) (at : ℕ) → Spot → Agreed → Type 0
+AgreesField n e a b at next x = at + n ≤ length a → Answers (fieldAt at n e ∷ []) a b next x
 
--- what an array's base, with so many levels left below the array, gives for its fields: either all bytes are owned, or entry by entry
+-- of so many strings of n bytes, one behind the other
+unfoldable pub AgreesStrings : (n count : ℕ) (a b : List ℕ) (at : ℕ) → Spot → Agreed → Type 0
+AgreesStrings n count a b at next x = at + count * n ≤ length a → Answers (moveFields at (fieldEntries n (fieldAt 0 n true ∷ []) 0 count)) a b next x
+
+-- of a string of n bytes
+pub record StringSame (a b : List ℕ) (at n : ℕ) (r : Bool) : Type 0 where
+  pub same : r ≡ true → FieldsAgree (fieldAt at n true ∷ []) a b
+  pub differs : r ≡ false → FieldsDiffer (fieldAt at n true ∷ []) a b
+
+-- of an array of a field, by its base: strings, or one range
+unfoldable pub AgreesFields : (string : Bool) → Base → (a b : List ℕ) (at : ℕ) → Agreed → Type 0
+AgreesFields true v a b at x = AgreesStrings (v .stride) (v .count) a b at (v .next) x
+AgreesFields false v a b at x = AgreesField (v .bytes) false a b at (v .next) x
+
+-- what an array's base, with so many levels left below the array, gives for its fields: at once where it is a field, or entry by entry
 pub record BaseIs (table pool : List ℕ) (row place rank levels : ℕ) (v : Base) : Type 0 where
   pub deep : 0 < levels
-  pub solid : (e : Entry) → EntryIfKnown (entryAt table pool (row + 1) (place + rank * 4)) e → isField e ≡ true → (a b : List ℕ) (at : ℕ) (x : Agreed) → AgreesBytes (v .bytes) a b at (v .next) x
+  pub fields : (e : Entry) → EntryIfKnown (entryAt table pool (row + 1) (place + rank * 4)) e → isField e ≡ true → (a b : List ℕ) (at : ℕ) (x : Agreed) → AgreesFields (isString e) v a b at x
       → Agrees (fromEntry (typeAt levels table pool) table pool row place (Array rank)) a b at x
   pub each : (a b : List ℕ) (at : ℕ) (x : Agreed) → AgreesEach (typeAt levels table pool (row + 1) (place + rank * 4)) (v .stride) (v .count) a b at (v .next) x
       → Agrees (fromEntry (typeAt levels table pool) table pool row place (Array rank)) a b at x
@@ -137,7 +166,7 @@ comparisonOf (refuses e) = Refused e
 -- what the walk over the fields of an admitted type answers of two records of its size
 unfoldable pub SameFields : Found Datatype → (a b : List ℕ) → Comparison → Type 0
 SameFields (found t r p) a b x =
-    Admitted t → typeSize t ≤ length a → ((x ≡ Same) × Agreement (owned t) a b 0) ⊎ ((x ≡ Differs) × Apartness (owned t) a b 0)
+    Admitted t → typeSize t ≤ length a → ((x ≡ Same) × FieldsAgree (fieldsOf t) a b) ⊎ ((x ≡ Differs) × FieldsDiffer (fieldsOf t) a b)
 SameFields bad a b x = Unit {0}
 
 -- 0 for same, 1 for differs

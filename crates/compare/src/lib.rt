@@ -1,4 +1,4 @@
-// Whether two records are the same: they agree on each byte that a field owns.
+// Whether two records are the same: they agree on each byte that a field owns, as it is taken.
 use refusal::Refusal;
 use rows::Entry;
 use rows::Member;
@@ -16,16 +16,17 @@ use table::scaled;
 use table::skip_enum_members;
 use table::survey_type;
 ghost use mathlib.Core.Path.{_≡_};
-ghost use mathlib.Core.Bool.{true, false};
+ghost use mathlib.Core.Bool.{true, false, not};
 ghost use Prim.Native.Nat.{_+_, _*_, _-_, _≤_, _<_};
 ghost use lib.ListN.{length};
+ghost use Rattle.format.specs.Image.{noNulBetween};
 ghost use Rattle.format.specs.Ownership.{comparing};
 ghost use Rattle.format.specs.Table.{typeAt, membersAt};
 ghost use Rattle.rows.specs.Entries.{fromEntry};
 ghost use Rattle.rows.specs.declared.Entry.the-variants.{Array, Enumeration};
 ghost use Rattle.table.specs.Path.{topOf};
 ghost use Rattle.table.specs.Survey.{Sets};
-ghost use Rattle.compare.specs.Agreeing.{equalRange, isField, Standing, Read, Agrees, AgreesIn, AgreesEach, AgreesBytes, BaseIn, SameFields, Compares};
+ghost use Rattle.compare.specs.Agreeing.{equalRange, Equal, Common, nulTerminated, isField, isString, Standing, Read, Agrees, AgreesIn, AgreesEach, AgreesField, AgreesStrings, AgreesFields, StringSame, BaseIn, SameFields, Compares};
 
 // What a walk over a type's fields finds: two bytes of a field differ, or none do, with the next row and pool place.
 pub enum Agreed {
@@ -91,10 +92,68 @@ fn equal_range(a: &[u8], b: &[u8], at: usize, n: usize) -> bool
     true
 }
 
-// A field owns all its bytes: n of them from `at` on.
+// How many of n bytes from `at` on are equal, looking at whole blocks only: the first that is not ends it.
+fn equal_blocks(a: &[u8], b: &[u8], at: usize, n: usize) -> usize
+    requires { ⌜ (at + n ≤ length (now a)) × (at + n ≤ length (now b)) ⌝ }
+    ensures { λ r. ⌜ Equal (now (a .entry)) (now (b .entry)) at n r ⌝ }
+{
+    let mut i = 0;
+    while 128 <= n - i {
+        if equal_block(a, b, at + i) {
+            i += 128;
+        } else {
+            return i;
+        }
+    }
+    i
+}
+
+// How many of n bytes from `at` on are equal, up to the first that differs.
+fn common(a: &[u8], b: &[u8], at: usize, n: usize) -> usize
+    requires { ⌜ (at + n ≤ length (now a)) × (at + n ≤ length (now b)) ⌝ }
+    ensures { λ r. ⌜ Common (now (a .entry)) (now (b .entry)) at n r ⌝ }
+{
+    let mut i = equal_blocks(a, b, at, n);
+    while i < n {
+        if a[at + i] != b[at + i] {
+            return i;
+        }
+        i += 1;
+    }
+    n
+}
+
+// Whether a NUL is among the n bytes from `at` on. From their end, where a name's NUL most often is if what follows it differs.
+fn has_nul(s: &[u8], at: usize, n: usize) -> bool
+    requires { ⌜ at + n ≤ length (now s) ⌝ }
+    ensures { λ r. ⌜ r ≡ not (noNulBetween (now (s .entry)) at (at + n)) ⌝ }
+{
+    let mut i = at + n;
+    while i > at {
+        i -= 1;
+        if s[i] == 0 {
+            return true;
+        }
+    }
+    false
+}
+
+// Whether a NUL-terminated string of n bytes from `at` on is the same in both: they are equal, or as far as they are there is a NUL.
+fn equal_string(a: &[u8], b: &[u8], at: usize, n: usize) -> bool
+    requires { ⌜ (at + n ≤ length (now a)) × (at + n ≤ length (now b)) ⌝ }
+    ensures { λ r. ⌜ StringSame (now (a .entry)) (now (b .entry)) at n r ⌝ }
+{
+    let equal = common(a, b, at, n);
+    if equal == n {
+        return true;
+    }
+    has_nul(a, at, equal)
+}
+
+// A field of n bytes from `at` on that counts whole.
 fn agree_field(a: &[u8], b: &[u8], at: usize, n: usize, next: Spot) -> Agreed
     requires { ⌜ (at ≤ length (now a)) × (length (now b) ≡ length (now a)) ⌝ }
-    ensures { λ r. ⌜ AgreesBytes n (now (a .entry)) (now (b .entry)) at next r ⌝ }
+    ensures { λ r. ⌜ AgreesField n false (now (a .entry)) (now (b .entry)) at next r ⌝ }
 {
     if a.len() - at < n {
         return Agreed::Lost;
@@ -104,6 +163,58 @@ fn agree_field(a: &[u8], b: &[u8], at: usize, n: usize, next: Spot) -> Agreed
     } else {
         Agreed::Apart
     }
+}
+
+// Whether a leaf of a class and a code, its row's column 5, is a NUL-terminated string.
+fn nul_terminated(class: u32, code: u32) -> bool
+    ensures { λ r. ⌜ r ≡ nulTerminated class code ⌝ }
+{
+    if class != 3 {
+        return false;
+    }
+    code == 0
+}
+
+// A leaf of a size, a class and a code, from `at` on. What it is matters only where its bytes differ.
+fn agree_leaf(a: &[u8], b: &[u8], at: usize, size: u32, class: u32, code: u32, next: Spot) -> Agreed
+    requires { ⌜ (at ≤ length (now a)) × (length (now b) ≡ length (now a)) ⌝ }
+    ensures { λ r. ⌜ AgreesField size (nulTerminated class code) (now (a .entry)) (now (b .entry)) at next r ⌝ }
+{
+    let n = size as usize;
+    if a.len() - at < n {
+        return Agreed::Lost;
+    }
+    let equal = common(a, b, at, n);
+    if equal == n {
+        return Agreed::Together(next);
+    }
+    if nul_terminated(class, code) {
+        if has_nul(a, at, equal) {
+            return Agreed::Together(next);
+        }
+    }
+    Agreed::Apart
+}
+
+// So many strings of n bytes, one behind the other from `at` on, each of which ends at its own first NUL.
+fn agree_strings(a: &[u8], b: &[u8], at: usize, n: usize, count: usize, next: Spot) -> Agreed
+    requires { ⌜ (at ≤ length (now a)) × (length (now b) ≡ length (now a)) ⌝ }
+    ensures { λ r. ⌜ AgreesStrings n count (now (a .entry)) (now (b .entry)) at next r ⌝ }
+{
+    let mut start = at;
+    let mut done: usize = 0;
+    while done < count {
+        if a.len() - start < n {
+            return Agreed::Lost;
+        }
+        if equal_string(a, b, start, n) {
+            start += n;
+            done += 1;
+        } else {
+            return Agreed::Apart;
+        }
+    }
+    Agreed::Together(next)
 }
 
 // An enumeration's row, with so many levels left below it.
@@ -147,6 +258,31 @@ fn is_field(entry: Entry) -> bool
         Entry::Array(_) => false,
         Entry::Unknown => false,
     }
+}
+
+// Whether a row's type is a NUL-terminated string.
+fn is_string(entry: Entry) -> bool
+    ensures { λ r. ⌜ r ≡ isString entry ⌝ }
+{
+    match entry {
+        Entry::Leaf(class, _, _, code) => nul_terminated(class, code),
+        Entry::Enumeration(_, _) => false,
+        Entry::Compound(_, _) => false,
+        Entry::VariableLength(_, _, _) => false,
+        Entry::Array(_) => false,
+        Entry::Unknown => false,
+    }
+}
+
+// An array of a field, of which `entry` is the row: strings each by itself, every other field as one range.
+fn agree_fields(a: &[u8], b: &[u8], at: usize, base: Base, entry: Entry) -> Agreed
+    requires { ⌜ (at ≤ length (now a)) × (length (now b) ≡ length (now a)) ⌝ }
+    ensures { λ r. ⌜ AgreesFields (isString entry) base (now (a .entry)) (now (b .entry)) at r ⌝ }
+{
+    if is_string(entry) {
+        return agree_strings(a, b, at, base.stride, base.count, base.next);
+    }
+    agree_field(a, b, at, base.bytes, base.next)
 }
 
 // The base of an array at a row, with so many levels left below it: Lost where there is none, or one of size 0.
@@ -205,11 +341,13 @@ fn agree_type(
     match entry {
         Entry::Unknown => Agreed::Lost,
         Entry::VariableLength(_, _, _) => Agreed::Lost,
-        Entry::Leaf(_, size, length, _) => agree_field(
+        Entry::Leaf(class, size, length, code) => agree_leaf(
             a,
             b,
             at,
-            size as usize,
+            size,
+            class,
+            code,
             Spot {
                 row: row + 1,
                 place: place + length as usize,
@@ -242,7 +380,8 @@ fn agree_type(
     }
 }
 
-// The fields of an array whose row is the top of the path, and whose record begins at `at`. Where the base is a field the array is one range.
+// The fields of an array whose row is the top of the path, and whose record begins at `at`. The path is copied only
+// for a base that has fields below it.
 fn agree_array(
     table: &[u32],
     pool: &[u8],
@@ -266,7 +405,7 @@ fn agree_array(
             let inner = place + (rank as usize) * 4;
             let entry = known_entry_at(table, pool, below, inner);
             if is_field(entry) {
-                return agree_field(a, b, at, base.bytes, base.next);
+                return agree_fields(a, b, at, base, entry);
             }
             agree_entries(
                 table,
@@ -360,11 +499,13 @@ fn agree_member(
     let depth = path.depth;
     let entry = known_entry_at(table, pool, row, place);
     match entry {
-        Entry::Leaf(_, size, length, _) => agree_field(
+        Entry::Leaf(class, size, length, code) => agree_leaf(
             a,
             b,
             at,
-            size as usize,
+            size,
+            class,
+            code,
             Spot {
                 row: row + 1,
                 place: place + length as usize,

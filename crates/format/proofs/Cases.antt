@@ -1,25 +1,26 @@
 -- Document 01's starred cases, as one table, by computation.
 use Prim.Native.Nat.{ℕ, zero, suc, _+_, _*_}
 use mathlib.Core.Path.{_≡_, refl}
-use mathlib.Core.Bool.{cond}
+use mathlib.Core.Bool.{Bool, true, false, cond}
 use mathlib.Core.List.{List, [], _∷_, _++_}
 use lib.ListN.{length}
 use Rattle.refusal.specs.Refusal.{numberOf, valuesOf}
 use Rattle.format.specs.Bytes.{littleEndian, numberFrom, zeros, padded, allZero, paddingTo8, oneMore, firstNul, totalWidth, packNumbers, unpackNumbers, dimensionBytes, dimensionsFrom}
 use Rattle.format.specs.Bits.{lowBits, highBits, joinBits, bitAt, classAndVersion, fixedFlags, floatFlags, floatOrder, nibbles}
 use Rattle.format.specs.Utf8.{upTo, leads, replacement, begin, broken, going, step, atEnd, mendedFrom, mended, isReady, wellFormedFrom, wellFormed}
-use Rattle.format.specs.Datatype.{floatNumbers, floatLayout, fixedPoint, opaque, reference, leafClass, leafPool, refers, Datatype, leaf, compound, variableLength, array, noMembers, member, memberCount, product, typeSize, classNumber, rowCount, enumNames, enumValues, poolBytes}
+use Rattle.format.specs.Datatype.{floatNumbers, floatLayout, fixedPoint, string, opaque, reference, leafClass, leafPool, refers, Datatype, leaf, compound, enumeration, variableLength, array, noMembers, member, memberCount, product, typeSize, classNumber, rowCount, enumNames, enumValues, poolBytes}
 use Rattle.format.specs.Outcome.{Outcome, gives, refuses, whenGiven, unless, needed}
 use Rattle.format.specs.Table.{row, compoundRow, enumerationRow, variableLengthRow, arrayRow, memberRow, enumMemberRow, enumRows, columnsOf, leafRow, rows, leafKnown, allBelow, andThen, test, wordsAt, nextRow, nextPiece, sameWords, membersAt, enumNamesAt, enumValuesAt, kindOf, tagAt, leafOf, typeFrom, typeAt, wholeType, typeOf, tableOf, poolOf}
 use Rattle.format.specs.Message.{header, namePadding, offsetWidth, skippedBytes, reservedBytes, permutationBytes, nameBytes, enumNameBytes, arrayBytes, codeOf, variableFlags, variableCharset, leafMessage, message, nameLength, enumNameLength, leafMessageLength, messageLength, all, noNul, fit, storableEnum, storableVariable, storableLeaf, storable, carried, writingType, writing}
 use Rattle.format.specs.Reading.{Read, then, require, bytes, skip, number, numbers, nameTo, name, takeRow, piece, moved, inner, headerOf, readHeader, classKind, layoutVersion, countOf, readName, readMembers, readNames, readValues, readVariable, readArray, leafProperties, readProperties, sized, readType, readOutcome, readingInto, reading}
 use Rattle.format.specs.Sizes.{sizing, holdsObjectAddress}
 use Rattle.format.specs.Slots.{isSlot, shifted, entries, slots, holdsOtherReference, holdsHiddenReference, someOutside, unmapped, orElse, zeroClass, firstZero, unlessZero, slotting, findingSlots}
-use Rattle.format.specs.Ownership.{inEntries, owned, outside, heapHeld, agreeFrom, agree, admitting, comparingRecords, comparing}
+use Rattle.format.specs.Image.{leafEnds, ends, fieldOf, moveField, moveFields, fieldEntries, fieldsOf, noNulBetween, ownedBy, countedBy, someField, countedIn, takenIn, imageFrom, counts as countsAt, taken, image, agree}
+use Rattle.format.specs.Ownership.{inEntries, owned, outside, heapHeld, admitting, comparingRecords, comparing}
 
 -- all definitions that a computed case opens
 unfoldable pub computing : Unit {0}
-unfolding littleEndian numberFrom zeros padded allZero paddingTo8 oneMore firstNul totalWidth packNumbers unpackNumbers dimensionBytes dimensionsFrom lowBits highBits joinBits bitAt classAndVersion fixedFlags floatFlags floatOrder nibbles upTo leads replacement begin broken going step atEnd mendedFrom mended isReady wellFormedFrom wellFormed memberCount product typeSize classNumber rowCount enumNames enumValues floatNumbers floatLayout leafClass leafPool refers poolBytes whenGiven unless needed row compoundRow enumerationRow variableLengthRow arrayRow memberRow enumMemberRow enumRows columnsOf leafRow rows leafKnown allBelow andThen test wordsAt nextRow nextPiece sameWords membersAt enumNamesAt enumValuesAt kindOf tagAt leafOf typeFrom typeAt wholeType typeOf tableOf poolOf header namePadding offsetWidth skippedBytes reservedBytes permutationBytes nameBytes enumNameBytes arrayBytes codeOf variableFlags variableCharset leafMessage message nameLength enumNameLength leafMessageLength messageLength all noNul fit storableEnum storableVariable storableLeaf storable carried writingType writing then require bytes skip number numbers nameTo name takeRow piece moved inner headerOf readHeader classKind layoutVersion countOf readName readMembers readNames readValues readVariable readArray leafProperties readProperties sized readType readOutcome readingInto reading sizing holdsObjectAddress isSlot shifted entries slots holdsOtherReference holdsHiddenReference someOutside unmapped orElse zeroClass firstZero unlessZero slotting findingSlots inEntries owned outside heapHeld agreeFrom agree admitting comparingRecords comparing
+unfolding littleEndian numberFrom zeros padded allZero paddingTo8 oneMore firstNul totalWidth packNumbers unpackNumbers dimensionBytes dimensionsFrom lowBits highBits joinBits bitAt classAndVersion fixedFlags floatFlags floatOrder nibbles upTo leads replacement begin broken going step atEnd mendedFrom mended isReady wellFormedFrom wellFormed memberCount product typeSize classNumber rowCount enumNames enumValues floatNumbers floatLayout leafClass leafPool refers poolBytes whenGiven unless needed row compoundRow enumerationRow variableLengthRow arrayRow memberRow enumMemberRow enumRows columnsOf leafRow rows leafKnown allBelow andThen test wordsAt nextRow nextPiece sameWords membersAt enumNamesAt enumValuesAt kindOf tagAt leafOf typeFrom typeAt wholeType typeOf tableOf poolOf header namePadding offsetWidth skippedBytes reservedBytes permutationBytes nameBytes enumNameBytes arrayBytes codeOf variableFlags variableCharset leafMessage message nameLength enumNameLength leafMessageLength messageLength all noNul fit storableEnum storableVariable storableLeaf storable carried writingType writing then require bytes skip number numbers nameTo name takeRow piece moved inner headerOf readHeader classKind layoutVersion countOf readName readMembers readNames readValues readVariable readArray leafProperties readProperties sized readType readOutcome readingInto reading sizing holdsObjectAddress isSlot shifted entries slots holdsOtherReference holdsHiddenReference someOutside unmapped orElse zeroClass firstZero unlessZero slotting findingSlots inEntries owned outside heapHeld leafEnds ends fieldOf moveField moveFields fieldEntries fieldsOf noNulBetween ownedBy countedBy someField countedIn takenIn imageFrom countsAt taken image agree admitting comparingRecords comparing
 computing = tt
 
 -- what is asked. All but the first are asked of the type that a message gives
@@ -151,3 +152,47 @@ reasonable =
 pub reasonable-cases : answers reasonable ≡ expected reasonable
 unfolding answers expected reasonable ask answer readHere onTable setOut computing
 reasonable-cases = refl
+
+-- Document 02, N2: two records of a type, and whether they are the same
+pub record Pair : Type 0 where
+  pub type : Datatype
+  pub first : List ℕ
+  pub second : List ℕ
+  pub same : Bool
+
+unfoldable pub agreements : List Pair → List Bool
+agreements [] = []
+agreements (x ∷ xs) = agree (x .type) (x .first) (x .second) ∷ agreements xs
+
+unfoldable pub saidSame : List Pair → List Bool
+saidSame [] = []
+saidSame (x ∷ xs) = x .same ∷ saidSame xs
+
+-- a NUL-terminated string, and a compound of two members
+abbrev pub nulString : ℕ → Datatype
+nulString n = leaf n (string 0 0)
+
+abbrev pub twoMembers : (size o : ℕ) (t : Datatype) (p : ℕ) (u : Datatype) → Datatype
+twoMembers n o t p u = compound n (member (0x61 ∷ []) o t (member (0x62 ∷ []) p u noMembers))
+
+-- entries of an array by themselves; strings that overlap; a string and a number; an enumeration over a string, and a NUL-padded one;
+-- strings without a NUL, and with one at the start
+unfoldable pub names : List Pair
+names =
+    record { type = array (2 ∷ []) (nulString 2); first = 0x00 ∷ 0x58 ∷ 0x62 ∷ 0x00 ∷ []; second = 0x00 ∷ 0x59 ∷ 0x62 ∷ 0x00 ∷ []; same = true }
+    ∷ record { type = array (2 ∷ []) (nulString 2); first = 0x00 ∷ 0x58 ∷ 0x62 ∷ 0x00 ∷ []; second = 0x00 ∷ 0x58 ∷ 0x63 ∷ 0x00 ∷ []; same = false }
+    ∷ record { type = twoMembers 6 0 (nulString 4) 2 (nulString 4); first = 0x41 ∷ 0x00 ∷ 0x42 ∷ 0x00 ∷ 0x55 ∷ 0x66 ∷ []; second = 0x41 ∷ 0x00 ∷ 0x42 ∷ 0x00 ∷ 0x77 ∷ 0x88 ∷ []; same = true }
+    ∷ record { type = twoMembers 6 0 (nulString 4) 2 (nulString 4); first = 0x41 ∷ 0x00 ∷ 0x42 ∷ 0x43 ∷ 0x55 ∷ 0x66 ∷ []; second = 0x41 ∷ 0x00 ∷ 0x42 ∷ 0x44 ∷ 0x55 ∷ 0x66 ∷ []; same = false }
+    ∷ record { type = twoMembers 6 0 (nulString 4) 2 (nulString 4); first = 0x41 ∷ 0x00 ∷ 0x00 ∷ 0x43 ∷ 0x55 ∷ 0x66 ∷ []; second = 0x41 ∷ 0x00 ∷ 0x00 ∷ 0x99 ∷ 0x98 ∷ 0x97 ∷ []; same = true }
+    ∷ record { type = twoMembers 4 0 (nulString 4) 3 (leaf 1 (fixedPoint 0 0 0 8)); first = 0x41 ∷ 0x00 ∷ 0x42 ∷ 0x01 ∷ []; second = 0x41 ∷ 0x00 ∷ 0x43 ∷ 0x01 ∷ []; same = true }
+    ∷ record { type = twoMembers 4 0 (nulString 4) 3 (leaf 1 (fixedPoint 0 0 0 8)); first = 0x41 ∷ 0x00 ∷ 0x42 ∷ 0x01 ∷ []; second = 0x41 ∷ 0x00 ∷ 0x43 ∷ 0x02 ∷ []; same = false }
+    ∷ record { type = enumeration 4 (nulString 4) []; first = 0x41 ∷ 0x00 ∷ 0x42 ∷ 0x01 ∷ []; second = 0x41 ∷ 0x00 ∷ 0x43 ∷ 0x01 ∷ []; same = false }
+    ∷ record { type = leaf 4 (string 1 0); first = 0x41 ∷ 0x00 ∷ 0x42 ∷ 0x01 ∷ []; second = 0x41 ∷ 0x00 ∷ 0x43 ∷ 0x01 ∷ []; same = false }
+    ∷ record { type = nulString 2; first = 0x41 ∷ 0x42 ∷ []; second = 0x41 ∷ 0x43 ∷ []; same = false }
+    ∷ record { type = nulString 2; first = 0x41 ∷ 0x42 ∷ []; second = 0x41 ∷ 0x00 ∷ []; same = false }
+    ∷ record { type = nulString 4; first = 0x00 ∷ 0x42 ∷ 0x43 ∷ 0x44 ∷ []; second = 0x00 ∷ 0x00 ∷ 0x00 ∷ 0x00 ∷ []; same = true }
+    ∷ []
+
+pub names-compared : agreements names ≡ saidSame names
+unfolding agreements saidSame names computing
+names-compared = refl

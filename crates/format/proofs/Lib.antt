@@ -16,6 +16,10 @@ pub mod Ownership
 pub mod Slots
 pub mod Zeros
 pub mod Rows
+pub mod Fields
+pub mod Image
+pub mod Same
+pub mod Walking
 pub mod TableSound
 pub mod TableComplete
 pub mod Table

@@ -1,23 +1,24 @@
--- Which places a field owns, and that two records of an admitted type are the same exactly when they agree on every one of them.
+-- Which places a field owns, and the comparison of two records, refusal by refusal.
 use Prim.Native.Nat.{ℕ, zero, suc, _+_, _-_, _*_, _/_, _%_, _<_, _≤_}
-use mathlib.Core.Path.{_≡_, refl, sym, ap, subst, _∙_}
-use mathlib.Core.Logic.{_⊎_, inl, inr, ⊎-elim}
-use mathlib.Core.Bool.{Bool, true, false, not, _&&_, _||_, false≢true}
+use mathlib.Core.Path.{_≡_, refl, ap, subst, _∙_}
+use mathlib.Core.Logic.{inl, inr, ⊎-elim}
+use mathlib.Core.Bool.{Bool, true, false, _&&_, _||_, false≢true}
 use mathlib.Core.List.{List}
 use mathlib.Core.Option.{none, some}
 use native.Mathlib.Nat.{mul-comm, suc-mul, mul-le-mul-right, mul-add-mod-self-right, mod-eq-of-lt, div-add-mod', lt-of-mul-lt-mul-right, eq-or-lt-of-le}
 use native.Mathlib.Omega.{arith}
-use lib.ListN.{length, getD}
+use lib.ListN.{length}
 use lib.Dec.{leb, ltb, eqb}
-use borrow.Author.Tests.{ltb-true, ltb-false, lt-ltb, leb-true, le-leb, eqb-true, eqb-false, eq-eqb}
+use borrow.Author.Tests.{ltb-true, ltb-false, lt-ltb, leb-true, le-leb, eqb-true, eq-eqb}
 use Rattle.refusal.specs.declared.Refusal.{Refusal}
 use Rattle.refusal.specs.declared.Refusal.the-variants.{ZeroSize, OutsideRecord, HeapHeld, WrongLength}
 use Rattle.format.specs.Datatype.{Datatype, leaf, compound, enumeration, variableLength, array, Members, noMembers, member, typeSize, product, maxSize}
+use Rattle.format.specs.Image.{agree}
 use Rattle.format.specs.Outcome.{Outcome, gives, refuses, whenGiven, unless}
 use Rattle.format.specs.Slots.{firstZero, unlessZero}
 use Rattle.format.specs.Table.{typeOf}
-use Rattle.format.specs.Ownership.{FieldAt, MemberFieldAt, Owned, inEntries, owned, memberOwned, outside, memberOutside, heapHeld, agreeFrom, agree, admitting, comparingRecords, comparing}
-use Rattle.format.proofs.Booleans.{and-both, and-either, or-either, or-neither, or-second, not-true-false, true-or-false, same-test}
+use Rattle.format.specs.Ownership.{FieldAt, MemberFieldAt, Owned, inEntries, owned, memberOwned, outside, memberOutside, heapHeld, admitting, comparingRecords, comparing}
+use Rattle.format.proofs.Booleans.{and-both, or-either, or-neither, or-second, not-true-false, same-test}
 
 -- an entry in which a test holds
 pub record Entry (f : ℕ → Bool) (stride n i : ℕ) : Type 0 where
@@ -179,71 +180,6 @@ module _ (ds : List ℕ) (t : Datatype) (h : outside (array ds t) ≡ false) (z 
   pub owned-remainder : owned (array ds t) i ≡ (ltb i (typeSize (array ds t)) && owned t (i % typeSize t))
   owned-remainder = same-test (owned (array ds t) i) (ltb i (typeSize (array ds t)) && owned t (i % typeSize t)) by-remainder from-remainder
 
--- what agreement at places says of the bytes there
-byte-says : (w : Bool) (x y : ℕ) → (not w || eqb x y) ≡ true → w ≡ true → x ≡ y
-byte-says true x y h e = eqb-true x y h
-byte-says false x y h e = cc
-
-byte-agrees : (w : Bool) (x y : ℕ) → (w ≡ true → x ≡ y) → (not w || eqb x y) ≡ true
-byte-agrees true x y h = eq-eqb x y (h refl)
-byte-agrees false x y h = refl
-
-byte-differs : (w : Bool) (x y : ℕ) → (not w || eqb x y) ≡ false → (w ≡ true) × (x ≡ y → ⊥)
-byte-differs true x y h = (refl, eqb-false x y h)
-byte-differs false x y h = (sym h, λ e. false≢true (sym h))
-
--- a place that is owned and at which the records differ
-pub record Difference (t : Datatype) (a b : List ℕ) : Type 0 where
-  pub place : ℕ
-  pub inside : place < typeSize t
-  pub is-owned : owned t place ≡ true
-  pub differs : getD a place 0 ≡ getD b place 0 → ⊥
-
-module _ (t : Datatype) (a b : List ℕ) where
-  pub agree-from-says : (i n : ℕ) → agreeFrom t a b i n ≡ true → (k : ℕ) → i ≤ k → k < i + n → owned t k ≡ true → getD a k 0 ≡ getD b k 0
-  unfolding agreeFrom
-  agree-from-says i zero h k l m w = absurd (omega arith)
-  agree-from-says i (suc n) h k l m w =
-      let e = and-both (not (owned t i) || eqb (getD a i 0) (getD b i 0)) (agreeFrom t a b (suc i) n) h in
-      ⊎-elim
-      (λ q. subst (λ (j : ℕ). owned t j ≡ true → getD a j 0 ≡ getD b j 0) q (byte-says (owned t i) (getD a i 0) (getD b i 0) (e .0)) w)
-      (λ q. agree-from-says (suc i) n (e .1) k (omega arith) (omega arith) w)
-      (eq-or-lt-of-le l)
-
-  pub agree-from-holds : (i n : ℕ) → ((k : ℕ) → i ≤ k → k < i + n → owned t k ≡ true → getD a k 0 ≡ getD b k 0) → agreeFrom t a b i n ≡ true
-  unfolding agreeFrom
-  agree-from-holds i zero h = refl
-  agree-from-holds i (suc n) h =
-      rw (byte-agrees (owned t i) (getD a i 0) (getD b i 0) (h i (omega arith) (omega arith)))
-      (agree-from-holds (suc i) n (λ k l m. h k (omega arith) (omega arith)))
-
-  differ-from : (i n : ℕ) → i + n ≤ typeSize t → agreeFrom t a b i n ≡ false → Difference t a b
-  unfolding agreeFrom
-  differ-from i zero g h = absurd (false≢true (sym h))
-  differ-from i (suc n) g h =
-      ⊎-elim
-      (λ p. let q = byte-differs (owned t i) (getD a i 0) (getD b i 0) p in record { place = i; inside = omega arith; is-owned = q .0; differs = q .1 })
-      (λ p. differ-from (suc i) n (omega arith) p)
-      (and-either (not (owned t i) || eqb (getD a i 0) (getD b i 0)) (agreeFrom t a b (suc i) n) h)
-
-  pub agree-says : agree t a b ≡ true → (i : ℕ) → i < typeSize t → owned t i ≡ true → getD a i 0 ≡ getD b i 0
-  unfolding agree
-  agree-says h i l w = agree-from-says 0 (typeSize t) h i (omega arith) (omega arith) w
-
-  pub agree-holds : ((i : ℕ) → i < typeSize t → owned t i ≡ true → getD a i 0 ≡ getD b i 0) → agree t a b ≡ true
-  unfolding agree
-  agree-holds h = agree-from-holds 0 (typeSize t) (λ k l m w. h k (omega arith) w)
-
-  pub agree-differs : Difference t a b → agree t a b ≡ false
-  agree-differs d = not-true-false (agree t a b) (λ h. d .differs (agree-says h (d .place) (d .inside) (d .is-owned)))
-
-  pub differ-somewhere : agree t a b ≡ false → Difference t a b
-  unfolding agree
-  differ-somewhere h = differ-from 0 (typeSize t) (omega arith) h
-
-  pub agree-equal : a ≡ b → agree t a b ≡ true
-  agree-equal e = agree-holds (λ i l w. ap (λ (s : List ℕ). getD s i 0) e)
-
 -- the refusals of an admission in their order, for every answer that waits behind them
 module _ {A : Type 0} (t : Datatype) (x : Outcome A) where
   pub admitting-zero : (c : ℕ) → firstZero t ≡ some c → admitting t x ≡ refuses (ZeroSize c)
@@ -304,30 +240,3 @@ module _ (table pool a b : List ℕ) where
     pub comparing-records : firstZero t ≡ none → outside t ≡ false → heapHeld t ≡ false → length a ≡ typeSize t → length b ≡ typeSize t
         → comparing table pool a b ≡ gives (agree t a b)
     comparing-records z o p la lb = comparing-given ∙ records-given t a b z o p la lb
-
--- The second half of demand 3: records of an admitted type are the same exactly when they agree on every byte that a field owns.
-pub record SameExactly (t : Datatype) (a b : List ℕ) : Type 0 where
-  pub same-then : comparingRecords a b t ≡ gives true → (i : ℕ) → Owned t i → getD a i 0 ≡ getD b i 0
-  pub same-if : ((i : ℕ) → Owned t i → getD a i 0 ≡ getD b i 0) → comparingRecords a b t ≡ gives true
-  pub differs-then : comparingRecords a b t ≡ gives false → (i : ℕ) × Owned t i × (getD a i 0 ≡ getD b i 0 → ⊥)
-  pub differs-if : (i : ℕ) → Owned t i → (getD a i 0 ≡ getD b i 0 → ⊥) → comparingRecords a b t ≡ gives false
-  pub one-of-two : (comparingRecords a b t ≡ gives true) ⊎ (comparingRecords a b t ≡ gives false)
-
-module _ (t : Datatype) (a b : List ℕ) (z : firstZero t ≡ none) (o : outside t ≡ false) (p : heapHeld t ≡ false) (la : length a ≡ typeSize t) (lb : length b ≡ typeSize t) where
-  given : comparingRecords a b t ≡ gives (agree t a b)
-  given = records-given t a b z o p la lb
-
-  given-is : (c : Bool) → comparingRecords a b t ≡ gives c → agree t a b ≡ c
-  given-is c h = let e = given in cc
-
-  pub same-exactly : SameExactly t a b
-  same-exactly =
-      record {
-        same-then = λ h i w. let v = owned-complete t i w in agree-says t a b (given-is true h) i (owned-inside t i o v) v;
-        same-if = λ h. given ∙ ap gives (agree-holds t a b (λ i l v. h i (owned-sound t i v)));
-        differs-then = λ h. let d = differ-somewhere t a b (given-is false h) in (d .place, owned-sound t (d .place) (d .is-owned), d .differs);
-        differs-if = λ i w n.
-            let v = owned-complete t i w in
-            given ∙ ap gives (agree-differs t a b (record { place = i; inside = owned-inside t i o v; is-owned = v; differs = n }));
-        one-of-two = ⊎-elim (λ h. inl (given ∙ ap gives h)) (λ h. inr (given ∙ ap gives h)) (true-or-false (agree t a b));
-      }

@@ -9,4 +9,5 @@ pub mod Message
 pub mod Reading
 pub mod Sizes
 pub mod Slots
+pub mod Image
 pub mod Ownership

@@ -7,7 +7,8 @@ use mathlib.Core.List.{List}
 use lib.ListN.{length, getD}
 use lib.Dec.{leb, ltb, eqb}
 use Rattle.refusal.specs.declared.Refusal.the-variants.{OutsideRecord, HeapHeld, WrongLength}
-use Rattle.format.specs.Datatype.{refers, Datatype, leaf, compound, enumeration, variableLength, array, Members, noMembers, member, typeSize, product, maxSize}
+use Rattle.format.specs.Datatype.{string, refers, Datatype, leaf, compound, enumeration, variableLength, array, Members, noMembers, member, typeSize, product, maxSize}
+use Rattle.format.specs.Image.{agree}
 use Rattle.format.specs.Outcome.{Outcome, gives, whenGiven, unless}
 use Rattle.format.specs.Slots.{firstZero, unlessZero}
 use Rattle.format.specs.Table.{typeOf}
@@ -33,6 +34,25 @@ pub record Owned (t : Datatype) (i : ℕ) : Type 0 where
   pub reached : FieldAt t field place
   pub from : place ≤ i
   pub below : i < place + typeSize field
+
+-- the field at place p is "such a string and past its end" at place i of a record
+pub record PastEnd (r : List ℕ) (field : Datatype) (p i : ℕ) : Type 0 where
+  pub size : ℕ
+  pub charset : ℕ
+  pub is-string : field ≡ leaf size (string 0 charset)
+  pub nul : ℕ
+  pub from : p ≤ nul
+  pub before : nul < i
+  pub is-nul : getD r nul 0 ≡ 0
+
+-- "a byte is taken as zero only if every field that owns it is such a string and past its end there"
+pub record TakenAsZero (t : Datatype) (r : List ℕ) (i : ℕ) : Type 0 where
+  pub is-owned : Owned t i
+  pub every : (x : Datatype) (p : ℕ) → FieldAt t x p → p ≤ i → i < p + typeSize x → PastEnd r x p i
+
+-- what an owned byte is taken as: 0 there, and what the record has elsewhere
+unfoldable pub TakenAs : Datatype → List ℕ → ℕ → (byte : ℕ) → Type 0
+TakenAs t r i x = (TakenAsZero t r i × (x ≡ 0)) ⊎ ((TakenAsZero t r i → ⊥) × (x ≡ getD r i 0))
 
 -- a test holds at a place behind the start of one of the first n entries
 unfoldable pub inEntries : (ℕ → Bool) → (stride n i : ℕ) → Bool
@@ -77,15 +97,6 @@ unfoldable mutual
   pub memberHeapHeld : Members → Bool
   memberHeapHeld noMembers = false
   memberHeapHeld (member b o t ms) = heapHeld t || memberHeapHeld ms
-
--- the records agree at each of n places from i on that a field owns
-unfoldable pub agreeFrom : Datatype → (a b : List ℕ) (i n : ℕ) → Bool
-agreeFrom t a b i zero = true
-agreeFrom t a b i (suc n) = (not (owned t i) || eqb (getD a i 0) (getD b i 0)) && agreeFrom t a b (suc i) n
-
--- "both records are looked at in the same places"
-unfoldable pub agree : Datatype → (a b : List ℕ) → Bool
-agree t a b = agreeFrom t a b 0 (typeSize t)
 
 -- "A type is admitted to comparison if none of refusals 1, 12, 16 and 17 meets it"
 unfoldable pub admitting : {A : Type 0} → Datatype → Outcome A → Outcome A

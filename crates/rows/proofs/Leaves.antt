@@ -6,6 +6,7 @@ use mathlib.Core.List.{List}
 use lib.ListN.{length}
 use lib.Dec.{eqb}
 use Rattle.format.specs.Datatype.{Leaf as LeafType, leafClass, leafPool, refers, Datatype, leaf}
+use Rattle.format.specs.Image.{leafEnds}
 use Rattle.format.specs.Table.{wordAt, LeafKind, isFixedPoint, isFloatingPoint, isTime, isString, isBitField, isOpaque, isReference, Kind, isLeaf, isCompound, isEnumeration, isVariableLength, isArray, isUnknown, leafOf, kindOf}
 use Rattle.rows.specs.Entries.{pick, leafAt, leafEntry, entryOf, entryAt, leafKindOf, leafType}
 use Rattle.rows.specs.declared.Entry.{Entry}
@@ -18,6 +19,7 @@ pub record LeafTells (c n l x : ℕ) (t : Datatype) : Type 0 where
   pub class : leafClass of ≡ c
   pub tag : length (leafPool of) ≡ l
   pub refers-by : (test : ℕ → Bool) → refers test of ≡ (eqb c 7 && test x)
+  pub ends-by : leafEnds of ≡ (eqb c 3 && eqb x 0)
 
 module _ (table pool : List ℕ) (r p : ℕ) where
   unfoldable OfEntry : Entry → Type 0
@@ -34,14 +36,14 @@ module _ (table pool : List ℕ) (r p : ℕ) where
   of-pick false e h = tt
 
   leaf-tells : (k : LeafKind) → OfEntry (leafEntry table r (leafAt table pool r p k))
-  unfolding OfEntry leafEntry leafAt leafType leafKindOf leafOf leafClass leafPool refers
-  leaf-tells isFixedPoint = record { of = _; is = refl; class = refl; tag = refl; refers-by = λ f. refl }
-  leaf-tells isFloatingPoint = record { of = _; is = refl; class = refl; tag = refl; refers-by = λ f. refl }
-  leaf-tells isTime = record { of = _; is = refl; class = refl; tag = refl; refers-by = λ f. refl }
-  leaf-tells isString = record { of = _; is = refl; class = refl; tag = refl; refers-by = λ f. refl }
-  leaf-tells isBitField = record { of = _; is = refl; class = refl; tag = refl; refers-by = λ f. refl }
-  leaf-tells isOpaque = record { of = _; is = refl; class = refl; tag = refl; refers-by = λ f. refl }
-  leaf-tells isReference = record { of = _; is = refl; class = refl; tag = refl; refers-by = λ f. refl }
+  unfolding OfEntry leafEntry leafAt leafType leafKindOf leafOf leafClass leafPool refers leafEnds
+  leaf-tells isFixedPoint = record { of = _; is = refl; class = refl; tag = refl; refers-by = λ f. refl; ends-by = refl }
+  leaf-tells isFloatingPoint = record { of = _; is = refl; class = refl; tag = refl; refers-by = λ f. refl; ends-by = refl }
+  leaf-tells isTime = record { of = _; is = refl; class = refl; tag = refl; refers-by = λ f. refl; ends-by = refl }
+  leaf-tells isString = record { of = _; is = refl; class = refl; tag = refl; refers-by = λ f. refl; ends-by = refl }
+  leaf-tells isBitField = record { of = _; is = refl; class = refl; tag = refl; refers-by = λ f. refl; ends-by = refl }
+  leaf-tells isOpaque = record { of = _; is = refl; class = refl; tag = refl; refers-by = λ f. refl; ends-by = refl }
+  leaf-tells isReference = record { of = _; is = refl; class = refl; tag = refl; refers-by = λ f. refl; ends-by = refl }
 
   of-kind : (k : Kind) → OfEntry (entryOf table pool r p k)
   unfolding entryOf OfEntry

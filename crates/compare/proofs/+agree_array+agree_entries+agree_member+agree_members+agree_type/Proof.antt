@@ -3,7 +3,7 @@ use borrow.Author.Needs.{needs}
 use Rattle.format.specs.Table.{typeAt, membersAt}
 use Rattle.rows.proofs.Decode.{enumeration-inside, array-piece, array-row, compound-next, leaf-behind, leaf-next, named-behind, named-next}
 use Rattle.table.specs.Path.{topOf}
-use Rattle.compare.proofs.Types.{type-unknown, type-variableLength, type-leaf, type-entry, type-compound, array-lost, array-field, array-entries, base-deeper, standing-entered, read-entered, member-leaf, member-enumeration, member-entered}
+use Rattle.compare.proofs.Types.{type-unknown, type-variableLength, type-leaf, type-entry, type-compound, array-lost, array-of-field, array-entries, base-deeper, standing-entered, read-entered, member-leaf, member-enumeration, member-entered}
 use Rattle.compare.proofs.Inside.{Leads, leads-same, members-end, members-deep, members-unnamed, members-past, members-lost, members-apart, members-next, Going, entries-end, entries-start, entries-past, entries-stop, entries-next}
 use borrow.Fn.Kinds.{In}
 use borrow.Fn.PlainCycle.{Measures, is, falls, and}
@@ -23,8 +23,9 @@ use Rattle.compare.proofs.agree_type.Reads as agree-type
 use Rattle.compare.proofs.agree_type.Kinds as agree-type-kinds
 use Rattle.compare.proofs.+agree_array+agree_entries+agree_member+agree_members+agree_type.Lts-agree_type as agree-type-lts
 use Rattle.compare.proofs.agree_enumeration.Reads as agree-enumeration-reads
-use Rattle.compare.proofs.agree_field.Reads as agree-field-reads
+use Rattle.compare.proofs.agree_leaf.Reads as agree-leaf-reads
 use Rattle.compare.proofs.array_base.Reads as array-base-reads
+use Rattle.compare.proofs.agree_fields.Reads as agree-fields-reads
 use Rattle.compare.proofs.is_field.Reads as is-field-reads
 use Rattle.rows.proofs.known_entry_at.Reads as known-entry-at-reads
 use Rattle.rows.proofs.known_member_at.Reads as known-member-at-reads
@@ -112,22 +113,22 @@ abbrev agree-members-μ-loop : agree-members-lts.MeasureT-loop
 agree-members-μ-loop table pool path row place count a b at depth r₀ p₀ left₀ r p left = left
 
 abbrev agree-array-calls : ℕ → agree-array-lts.Claims
-agree-array-calls t = (array-base-reads.Asked, array-base-reads.Learnt, known-entry-at-reads.Asked, known-entry-at-reads.Learnt, is-field-reads.Asked, is-field-reads.Learnt, agree-field-reads.Asked, agree-field-reads.Learnt, enter-reads.Asked, enter-reads.Learnt, agree-entries-below t, agree-entries.Post)
+agree-array-calls t = (array-base-reads.Asked, array-base-reads.Learnt, known-entry-at-reads.Asked, known-entry-at-reads.Learnt, is-field-reads.Asked, is-field-reads.Learnt, agree-fields-reads.Asked, agree-fields-reads.Learnt, enter-reads.Asked, enter-reads.Learnt, agree-entries-below t, agree-entries.Post)
 
 abbrev agree-entries-calls : ℕ → agree-entries-lts.Claims
 agree-entries-calls t = (agree-type-below t, agree-type.Post)
 
 abbrev agree-member-calls : ℕ → agree-member-lts.Claims
-agree-member-calls t = (known-entry-at-reads.Asked, known-entry-at-reads.Learnt, agree-field-reads.Asked, agree-field-reads.Learnt, agree-enumeration-reads.Asked, agree-enumeration-reads.Learnt, enter-reads.Asked, enter-reads.Learnt, agree-type-below t, agree-type.Post)
+agree-member-calls t = (known-entry-at-reads.Asked, known-entry-at-reads.Learnt, agree-leaf-reads.Asked, agree-leaf-reads.Learnt, agree-enumeration-reads.Asked, agree-enumeration-reads.Learnt, enter-reads.Asked, enter-reads.Learnt, agree-type-below t, agree-type.Post)
 
 abbrev agree-members-calls : ℕ → agree-members-lts.Claims
 agree-members-calls t = (known-member-at-reads.Asked, known-member-at-reads.Learnt, agree-member-below t, agree-member.Post)
 
 abbrev agree-type-calls : ℕ → agree-type-lts.Claims
-agree-type-calls t = (agree-field-reads.Asked, agree-field-reads.Learnt, agree-enumeration-reads.Asked, agree-enumeration-reads.Learnt, agree-members-below t, agree-members.Post, agree-array-below t, agree-array.Post)
+agree-type-calls t = (agree-leaf-reads.Asked, agree-leaf-reads.Learnt, agree-enumeration-reads.Asked, agree-enumeration-reads.Learnt, agree-members-below t, agree-members.Post, agree-array-below t, agree-array.Post)
 
 agree-array-returns : (t : ℕ) → agree-array-lts.Need-returns (agree-array-calls t) (agree-array-at t) agree-array.Post
-agree-array-returns t c = search array-field
+agree-array-returns t c = search array-of-field
 
 agree-array-enter-requires : (t : ℕ) → agree-array-lts.Need-enter-requires (agree-array-calls t) (agree-array-at t) agree-array.Post
 agree-array-enter-requires t c κs = search base-deeper
@@ -156,11 +157,11 @@ agree-entries-loop-again t c = search entries-next
 agree-entries-returns-3 : (t : ℕ) → agree-entries-lts.Need-returns-3 (agree-entries-calls t) (agree-entries-at t) agree-entries.Post agree-entries-Inv-loop agree-entries-μ-loop
 agree-entries-returns-3 t c = search entries-end
 
-agree-member-add-t17 : (t : ℕ) → agree-member-lts.Need-add-t17 (agree-member-calls t) (agree-member-at t) agree-member.Post
-agree-member-add-t17 t c = search (leaf-next, leaf-behind, needs)
+agree-member-add-t18 : (t : ℕ) → agree-member-lts.Need-add-t18 (agree-member-calls t) (agree-member-at t) agree-member.Post
+agree-member-add-t18 t c = search (leaf-next, leaf-behind, needs)
 
-agree-member-add-t19 : (t : ℕ) → agree-member-lts.Need-add-t19 (agree-member-calls t) (agree-member-at t) agree-member.Post
-agree-member-add-t19 t c = search (leaf-next, leaf-behind, needs)
+agree-member-add-t20 : (t : ℕ) → agree-member-lts.Need-add-t20 (agree-member-calls t) (agree-member-at t) agree-member.Post
+agree-member-add-t20 t c = search (leaf-next, leaf-behind, needs)
 
 agree-member-agree-enumeration-requires : (t : ℕ) → agree-member-lts.Need-agree-enumeration-requires (agree-member-calls t) (agree-member-at t) agree-member.Post
 agree-member-agree-enumeration-requires t c κs = search enumeration-inside
@@ -207,11 +208,11 @@ agree-members-loop-again t c = search members-next
 agree-members-returns-6 : (t : ℕ) → agree-members-lts.Need-returns-6 (agree-members-calls t) (agree-members-at t) agree-members.Post agree-members-Inv-loop agree-members-μ-loop
 agree-members-returns-6 t c = search members-end
 
-agree-type-add-t25 : (t : ℕ) → agree-type-lts.Need-add-t25 (agree-type-calls t) (agree-type-at t) agree-type.Post
-agree-type-add-t25 t c = search (leaf-next, leaf-behind, needs)
+agree-type-add-t26 : (t : ℕ) → agree-type-lts.Need-add-t26 (agree-type-calls t) (agree-type-at t) agree-type.Post
+agree-type-add-t26 t c = search (leaf-next, leaf-behind, needs)
 
-agree-type-add-t27 : (t : ℕ) → agree-type-lts.Need-add-t27 (agree-type-calls t) (agree-type-at t) agree-type.Post
-agree-type-add-t27 t c = search (leaf-next, leaf-behind, needs)
+agree-type-add-t28 : (t : ℕ) → agree-type-lts.Need-add-t28 (agree-type-calls t) (agree-type-at t) agree-type.Post
+agree-type-add-t28 t c = search (leaf-next, leaf-behind, needs)
 
 agree-type-agree-enumeration-requires : (t : ℕ) → agree-type-lts.Need-agree-enumeration-requires (agree-type-calls t) (agree-type-at t) agree-type.Post
 agree-type-agree-enumeration-requires t c κs = search enumeration-inside
@@ -262,7 +263,7 @@ pub +agree-array+agree-entries+agree-member+agree-members+agree-type-spec :
     (λ c. search needs)  -- agree-array-add-inner
     (λ c κs. search needs)  -- agree-array-known-entry-at-requires
     (λ c κs. search needs)  -- agree-array-is-field-requires
-    (λ c κs. search needs)  -- agree-array-agree-field-requires
+    (λ c κs. search needs)  -- agree-array-agree-fields-requires
     (agree-array-returns t)
     (agree-array-enter-requires t)
     (agree-array-agree-entries-requires t)
@@ -291,11 +292,10 @@ pub +agree-array+agree-entries+agree-member+agree-members+agree-type-spec :
     agree-member.Post
     (λ c κs. search needs)  -- agree-member-known-entry-at-requires
     (λ c. search needs)  -- agree-member-enum-known-entry
-    (λ c. search needs)  -- agree-member-cast-agree-field
-    (agree-member-add-t17 t)
-    (λ c. search needs)  -- agree-member-cast-t18
-    (agree-member-add-t19 t)
-    (λ c κs. search needs)  -- agree-member-agree-field-requires
+    (agree-member-add-t18 t)
+    (λ c. search needs)  -- agree-member-cast-t19
+    (agree-member-add-t20 t)
+    (λ c κs. search needs)  -- agree-member-agree-leaf-requires
     (λ c. search needs)  -- agree-member-enum-known-entry-2
     (λ c. search needs)  -- agree-member-sub-agree-enumeration
     (agree-member-agree-enumeration-requires t)
@@ -340,15 +340,14 @@ pub +agree-array+agree-entries+agree-member+agree-members+agree-type-spec :
     agree-type.Post
     (λ c. search needs)  -- agree-type-sub-row
     (λ c. search needs)  -- agree-type-mul-row
-    (λ c. search needs)  -- agree-type-element-copy-out-row
+    (λ c. search needs)  -- agree-type-array-read-row
     (λ c. search needs)  -- agree-type-enum-told
     (λ c. search needs)  -- agree-type-enum-told-2
     (λ c. search needs)  -- agree-type-enum-known-entry
-    (λ c. search needs)  -- agree-type-cast-agree-field
-    (agree-type-add-t25 t)
-    (λ c. search needs)  -- agree-type-cast-t26
-    (agree-type-add-t27 t)
-    (λ c κs. search needs)  -- agree-type-agree-field-requires
+    (agree-type-add-t26 t)
+    (λ c. search needs)  -- agree-type-cast-t27
+    (agree-type-add-t28 t)
+    (λ c κs. search needs)  -- agree-type-agree-leaf-requires
     (λ c. search needs)  -- agree-type-enum-known-entry-2
     (λ c. search needs)  -- agree-type-sub-agree-enumeration
     (agree-type-agree-enumeration-requires t)

@@ -13,7 +13,8 @@ returns-3 : tie.Need-returns-3
 returns-3 c = search field-differs
 
 pub agree-field-spec : {M : Type 1} → statement M
-agree-field-spec = tie.close
+agree-field-spec =
+    tie.close
     (tie.spec
     (λ c. search needs)  -- sub-if1
     returns
