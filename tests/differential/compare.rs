@@ -264,6 +264,14 @@ fn changed(t: &Datatype, a: &[u8], r: &mut Random) -> Vec<u8> {
     b
 }
 
+/// Many pairs of records of a type of names.
+pub fn names(t: &Datatype, r: &mut Random, counts: &mut Counts) {
+    let flat = Flat::of(t);
+    for _ in 0..12 {
+        records(t, &flat.words(), &flat.pool, r, counts);
+    }
+}
+
 fn records(t: &Datatype, table: &[u32], pool: &[u8], r: &mut Random, counts: &mut Counts) {
     let size = if t.type_size() > 4096 || r.below(16) == 0 { r.below(9) as usize } else { t.type_size() as usize };
     let a: Vec<u8> = (0..size).map(|_| r.below(3) as u8).collect();

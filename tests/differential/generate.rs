@@ -362,5 +362,6 @@ pub fn run(seed: u64, rounds: u64, counts: &mut Counts) {
         compare::on_type(&t, r, counts);
         let t = named(r, 3);
         compare::on_type(&t, r, counts);
+        compare::names(&t, r, counts);
     }
 }
