@@ -51,7 +51,8 @@ uint32_t datatype_read(const uint8_t *data, size_t data_length, uint32_t limit, 
 uint32_t datatype_write(const uint32_t *table, size_t table_length, const uint8_t *pool, size_t pool_length, uint32_t edition, uint8_t *out,
                         size_t out_length, uint64_t *first, uint64_t *second);
 
-/* Whether two records agree on each byte that a field owns. first: 0 same, 1 differs. */
+/* Whether two records agree on each byte that a field owns; behind the first NUL of a NUL-terminated string a byte counts only if another
+   field counts it. first: 0 same, 1 differs. */
 uint32_t datatype_compare(const uint32_t *table, size_t table_length, const uint8_t *pool, size_t pool_length, const uint8_t *a,
                           size_t a_length, const uint8_t *b, size_t b_length, uint64_t *first, uint64_t *second);
 

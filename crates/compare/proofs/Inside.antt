@@ -2,22 +2,22 @@
 use Prim.Native.Nat.{ℕ, suc, _+_, _-_, _*_, _<_, _≤_}
 use mathlib.Core.Path.{_≡_, refl}
 use mathlib.Core.Logic.{_⊎_, inl, inr, ⊎-elim}
-use mathlib.Core.Bool.{_&&_, _||_, false≢true}
+use mathlib.Core.Bool.{_||_}
 use mathlib.Core.List.{List, [], _∷_}
 use native.Mathlib.Omega.{arith}
 use native.Mathlib.Numerals.{add-one}
 use native.Mathlib.Nat.{suc-mul, mul-le-mul-right}
 use lib.ListN.{length, take, drop}
-use lib.Dec.{leb, ltb}
+use lib.Dec.{ltb}
 use types.Run.{OneOf}
 use denote.Enum.Declared.{tagOf}
-use borrow.Author.Tests.{leb-true, le-leb, ltb-false}
+use borrow.Author.Tests.{ltb-false}
 use Rattle.format.specs.Datatype.{Datatype, Members, member, typeSize}
 use Rattle.format.specs.Image.{moveFields, fieldEntries, fieldsOf, memberFields, FieldsAgree, FieldsDiffer}
 use Rattle.format.specs.Ownership.{outside, memberOutside, heapHeld, memberHeapHeld}
 use Rattle.format.specs.Slots.{firstZero, memberFirstZero}
 use Rattle.format.specs.Table.{Found, found, bad, Walk, andThen, typeAt, membersAt}
-use Rattle.format.proofs.Booleans.{and-both, or-either, or-neither, or-second}
+use Rattle.format.proofs.Booleans.{or-neither}
 use Rattle.format.proofs.Walking.{agree-none, agree-both, differ-first, differ-second, member-walked, entry-walked, entry-differs}
 use Rattle.format.proofs.Slots.{or-else-none}
 use Rattle.rows.specs.Entries.{memberAt, MemberIfKnown, fromMember}

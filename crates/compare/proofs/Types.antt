@@ -1,14 +1,14 @@
 -- The walk's ways out at a type's row, but for what its members and entries answer.
-use Prim.Native.Nat.{ℕ, zero, suc, _+_, _-_, _*_, _/_, _%_, _<_, _≤_, min}
+use Prim.Native.Nat.{ℕ, zero, suc, _+_, _-_, _*_, _/_, _<_, _≤_, min}
 use mathlib.Core.Path.{_≡_, refl, sym, ap, _∙_}
-use mathlib.Core.Bool.{Bool, true, false, _&&_, false≢true, and-true}
+use mathlib.Core.Bool.{Bool, true, false, false≢true}
 use mathlib.Core.List.{List, [], _∷_}
 use native.Mathlib.Omega.{arith}
 use native.Mathlib.Numerals.{add-one}
-use native.Mathlib.Nat.{mul-comm, mul-div-cancel-left, mod-lt}
+use native.Mathlib.Nat.{mul-comm, mul-div-cancel-left}
 use lib.ListN.{length, take, drop}
 use lib.Dec.{ltb}
-use borrow.Author.Tests.{ltb-false, lt-ltb}
+use borrow.Author.Tests.{ltb-false}
 use Rattle.format.specs.Bytes.{dimensionsFrom}
 use Rattle.format.specs.Datatype.{Datatype, compound, enumeration, variableLength, array, Members, EnumMember, product, typeSize, maxSize}
 use Rattle.format.specs.Image.{ownedBy, countedIn, moveFields, fieldsOf}

@@ -249,7 +249,8 @@ pub fn write(table: &[u32], pool: &[u8], edition: u32, out: &mut [u8]) -> Result
     ask(|first, second| unsafe { abi::datatype_write(table.as_ptr(), table.len(), pool.as_ptr(), pool.len(), edition, out.as_mut_ptr(), out.len(), first, second) }).map(count)
 }
 
-/// Whether two records agree on each byte that a field owns.
+/// Whether two records agree on each byte that a field owns. Behind the first NUL of a NUL-terminated string a byte counts only if another
+/// field counts it.
 pub fn same(table: &[u32], pool: &[u8], a: &[u8], b: &[u8]) -> Result<bool, Refusal> {
     // SAFETY: as for `read`.
     ask(|first, second| unsafe { abi::datatype_compare(table.as_ptr(), table.len(), pool.as_ptr(), pool.len(), a.as_ptr(), a.len(), b.as_ptr(), b.len(), first, second) }).map(|n| n == 0)
