@@ -1,4 +1,5 @@
-// Calls each exported function once from C, through include/datatype.h, on document 01's P and on an array of two references.
+// Calls each exported function once from C, through include/datatype.h, on document 01's P, on an array of two references
+// and on a NUL-terminated string.
 #include <inttypes.h>
 #include <stdio.h>
 #include <string.h>
@@ -7,6 +8,7 @@
 
 static const uint8_t P[38] = {0x36, 2, 0, 0, 4, 0, 0, 0, 'a', 0, 0, 0x10, 0, 0, 0, 1, 0, 0, 0, 0, 0, 8, 0, 'b', 0, 2, 0x10, 0, 0, 0, 2, 0, 0, 0, 0, 0, 16, 0};
 static const uint8_t TWO[21] = {0x3A, 0, 0, 0, 0, 0, 0, 0, 1, 2, 0, 0, 0, 0x17, 0, 0, 0, 8, 0, 0, 0};
+static const uint8_t NAME[8] = {0x13, 0, 0, 0, 4, 0, 0, 0};
 static uint32_t table[8 * 16];
 static uint8_t pool[32], out[64];
 static uint64_t first, second;
@@ -45,6 +47,9 @@ int main(void) {
     answers("datatype_references", datatype_references(block, 40, 16, slots, 2, places, 4, values, 4, &first, &second), 0, 4, 0);
     if (places[3] != 24 || values[1] != UINT64_C(0x0F0E0D0C0B0A0908)) failed = 1;
     answers("datatype_references", datatype_references(block, 40, 15, slots, 2, places, 4, values, 4, &first, &second), DATATYPE_SLOT_OUTSIDE, 0, 0);
+    answers("datatype_read", datatype_read(NAME, 8, 15, table, words, pool, 32, &first, &second), 0, 8, 0);
+    answers("datatype_compare", datatype_compare(table, words, pool, 32, (const uint8_t *)"A\0xy", 4, (const uint8_t *)"A\0zz", 4, &first, &second), 0, 0, 0);
+    answers("datatype_compare", datatype_compare(table, words, pool, 32, (const uint8_t *)"A\0xy", 4, (const uint8_t *)"AB\0y", 4, &first, &second), 0, 1, 0);
     if (class_may_hold_object_address(0x16) != 1 || class_may_hold_object_address(0x1B) != 0) failed = 1;
     puts(failed ? "C host: a call answers otherwise" : "C host: each exported function called, all as expected");
     return failed;

@@ -1,16 +1,11 @@
-// Runs document 01's cases of comparing, one of each refusal, and document 02's cases of names, and writes what each gives.
-mod calls;
+// Runs document 01's cases of comparing, and one of each refusal, and writes what each gives.
 mod records;
-mod stop_names;
+mod tables;
 
 fn main() {
     records::gap_cases();
     records::overlap_cases();
     records::enumeration_cases();
     records::refused_cases();
-    calls::bad_tables();
-    stop_names::array_cases();
-    stop_names::two_names_cases();
-    stop_names::whole_cases();
-    stop_names::end_cases();
+    tables::bad_tables();
 }

@@ -1,5 +1,5 @@
 // Document 01's cases of comparing, and one for each refusal of it. P is document 01's.
-use crate::calls::comparing;
+use show_comparison::comparing;
 
 // Records of P.
 pub fn gap_cases() {

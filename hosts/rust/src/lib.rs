@@ -251,6 +251,16 @@ pub fn write(table: &[u32], pool: &[u8], edition: u32, out: &mut [u8]) -> Result
 
 /// Whether two records agree on each byte that a field owns. Behind the first NUL of a NUL-terminated string a byte counts only if another
 /// field counts it.
+///
+/// ```
+/// use datatype_message::{read, same, ROW};
+///
+/// // a NUL-terminated string of 4 bytes
+/// let (mut table, mut pool) = ([0; ROW], []);
+/// assert_eq!(read(&[0x13, 0, 0, 0, 4, 0, 0, 0], 15, &mut table, &mut pool), Ok(8));
+/// assert_eq!(same(&table, &pool, b"A\0xy", b"A\0zz"), Ok(true));
+/// assert_eq!(same(&table, &pool, b"A\0xy", b"AB\0y"), Ok(false));
+/// ```
 pub fn same(table: &[u32], pool: &[u8], a: &[u8], b: &[u8]) -> Result<bool, Refusal> {
     // SAFETY: as for `read`.
     ask(|first, second| unsafe { abi::datatype_compare(table.as_ptr(), table.len(), pool.as_ptr(), pool.len(), a.as_ptr(), a.len(), b.as_ptr(), b.len(), first, second) }).map(|n| n == 0)

@@ -1,5 +1,5 @@
 // Document 02, N2: NUL-terminated names with leftovers after their end.
-use crate::calls::comparing;
+use show_comparison::comparing;
 
 // Entries of an array of names, each by itself.
 pub fn array_cases() {

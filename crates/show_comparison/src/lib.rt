@@ -1,10 +1,11 @@
-// Comparing two records of a type that is read first, at limit 15, into 64 rows and 256 pool bytes; and what it gives.
+// For the programs that run cases of comparing: two records of a type that is read first, at limit 15, into 64 rows and 256 pool bytes.
 use compare::Comparison;
 use reading::Reading;
 use show::refusal_line;
 use show::text;
 
-fn comparison_line(answer: Comparison) {
+// The answer as a line.
+pub fn comparison_line(answer: Comparison) {
     match answer {
         Comparison::Refused(e) => refusal_line(e),
         Comparison::Same => text(b"same\n"),
@@ -23,15 +24,4 @@ pub fn comparing(label: &[u8], message: &[u8], a: &[u8], b: &[u8]) {
         Reading::Refused(e) => refusal_line(e),
         Reading::Read(_) => comparison_line(compare::same(&table, &pool, a, b)),
     }
-}
-
-// By a table that sets out no type, and of a fixed type of size 0, which no message gives.
-pub fn bad_tables() {
-    let mut table = [0u32; 16];
-    let pool = [0u8; 8];
-    text(b"no type: ");
-    comparison_line(compare::same(&table, &pool, b"", b""));
-    table[0] = 1;
-    text(b"a fixed type of size 0: ");
-    comparison_line(compare::same(&table, &pool, b"", b""));
 }
