@@ -175,8 +175,8 @@ nulString n = leaf n (string 0 0)
 abbrev pub twoMembers : (size o : ℕ) (t : Datatype) (p : ℕ) (u : Datatype) → Datatype
 twoMembers n o t p u = compound n (member (0x61 ∷ []) o t (member (0x62 ∷ []) p u noMembers))
 
--- entries of an array by themselves; strings that overlap; a string and a number; an enumeration over a string, and a NUL-padded one;
--- strings without a NUL, and with one at the start
+-- entries of an array by themselves; strings that overlap; a string and a number; a string and an array of strings; an enumeration over a
+-- string, and a NUL-padded one; strings without a NUL, and with one at the start
 unfoldable pub names : List Pair
 names =
     record { type = array (2 ∷ []) (nulString 2); first = 0x00 ∷ 0x58 ∷ 0x62 ∷ 0x00 ∷ []; second = 0x00 ∷ 0x59 ∷ 0x62 ∷ 0x00 ∷ []; same = true }
@@ -186,6 +186,8 @@ names =
     ∷ record { type = twoMembers 6 0 (nulString 4) 2 (nulString 4); first = 0x41 ∷ 0x00 ∷ 0x00 ∷ 0x43 ∷ 0x55 ∷ 0x66 ∷ []; second = 0x41 ∷ 0x00 ∷ 0x00 ∷ 0x99 ∷ 0x98 ∷ 0x97 ∷ []; same = true }
     ∷ record { type = twoMembers 4 0 (nulString 4) 3 (leaf 1 (fixedPoint 0 0 0 8)); first = 0x41 ∷ 0x00 ∷ 0x42 ∷ 0x01 ∷ []; second = 0x41 ∷ 0x00 ∷ 0x43 ∷ 0x01 ∷ []; same = true }
     ∷ record { type = twoMembers 4 0 (nulString 4) 3 (leaf 1 (fixedPoint 0 0 0 8)); first = 0x41 ∷ 0x00 ∷ 0x42 ∷ 0x01 ∷ []; second = 0x41 ∷ 0x00 ∷ 0x43 ∷ 0x02 ∷ []; same = false }
+    ∷ record { type = twoMembers 6 0 (nulString 4) 2 (array (2 ∷ []) (nulString 2)); first = 0x41 ∷ 0x00 ∷ 0x00 ∷ 0x58 ∷ 0x62 ∷ 0x00 ∷ []; second = 0x41 ∷ 0x00 ∷ 0x00 ∷ 0x59 ∷ 0x62 ∷ 0x00 ∷ []; same = true }
+    ∷ record { type = twoMembers 6 0 (nulString 4) 2 (array (2 ∷ []) (nulString 2)); first = 0x41 ∷ 0x00 ∷ 0x42 ∷ 0x58 ∷ 0x62 ∷ 0x00 ∷ []; second = 0x41 ∷ 0x00 ∷ 0x42 ∷ 0x59 ∷ 0x62 ∷ 0x00 ∷ []; same = false }
     ∷ record { type = enumeration 4 (nulString 4) []; first = 0x41 ∷ 0x00 ∷ 0x42 ∷ 0x01 ∷ []; second = 0x41 ∷ 0x00 ∷ 0x43 ∷ 0x01 ∷ []; same = false }
     ∷ record { type = leaf 4 (string 1 0); first = 0x41 ∷ 0x00 ∷ 0x42 ∷ 0x01 ∷ []; second = 0x41 ∷ 0x00 ∷ 0x43 ∷ 0x01 ∷ []; same = false }
     ∷ record { type = nulString 2; first = 0x41 ∷ 0x42 ∷ []; second = 0x41 ∷ 0x43 ∷ []; same = false }
