@@ -605,8 +605,9 @@ fn same_checked(table: &[u32], pool: &[u8], a: &[u8], b: &[u8], s: Survey) -> Co
     same_fields(table, pool, a, b)
 }
 
-// Whether two records of the type that a table and pool set out agree on each byte that a field owns. Refused, in this order: BadTable,
-// ZeroSize, OutsideRecord, HeapHeld, WrongLength. Cost: the check of the table and, where the records differ at all, one walk over the fields.
+// Whether two records of the type that a table and pool set out agree on each byte that a field owns; behind the first NUL of a
+// NUL-terminated string a byte counts only if another field counts it. Refused, in this order: BadTable, ZeroSize, OutsideRecord, HeapHeld,
+// WrongLength. Cost: the check of the table and, where the records differ at all, one walk over the fields.
 pub fn same(table: &[u32], pool: &[u8], a: &[u8], b: &[u8]) -> Comparison
     ensures { λ r. ⌜ Compares (comparing (now (table .entry)) (now (pool .entry)) (now (a .entry)) (now (b .entry))) r ⌝ }
 {
