@@ -257,17 +257,17 @@ module _ (n : ℕ) (a b : List ℕ) (at k : ℕ) (w : Common a b at n k) where
 -- ---- strings one behind the other
 
 -- k of so many are the same, and the next begins at `start`
-pub record Reading (n count : ℕ) (a b : List ℕ) (at k start : ℕ) : Type 0 where
+pub record SameTo (n count : ℕ) (a b : List ℕ) (at k start : ℕ) : Type 0 where
   pub within : k ≤ count
   pub here : start ≡ at + k * n
   pub begins : start ≤ length a
   pub same : FieldsAgree (moveFields at (fieldEntries n (fieldAt 0 n true ∷ []) 0 k)) a b
 
 module _ (n count : ℕ) (a b : List ℕ) (at : ℕ) where
-  pub strings-start : at ≤ length a → Reading n count a b at 0 at
+  pub strings-start : at ≤ length a → SameTo n count a b at 0 at
   strings-start h = record { within = omega arith; here = omega arith; begins = h; same = unfold fieldEntries moveFields in agree-none }
 
-  module _ (k start : ℕ) (w : Reading n count a b at k start) where
+  module _ (k start : ℕ) (w : SameTo n count a b at k start) where
     pub strings-end : (next : Spot) → count ≤ k → AgreesStrings n count a b at next (Together next)
     unfolding AgreesStrings
     strings-end next h l = let e : k ≡ count = omega (arith, w .within) in answers-together (rw e at (w .same))
@@ -287,7 +287,7 @@ module _ (n count : ℕ) (a b : List ℕ) (at : ℕ) where
         unfolding AgreesStrings
         strings-apart next h l = answers-apart (entry-differs a b at n (fieldAt 0 n true ∷ []) k count some-left (rw here-moved (s .differs h)))
 
-        pub strings-next : (k′ start′ : ℕ) → k′ ≡ k + 1 → start′ ≡ start + n → r ≡ true → n ≤ length a - start → Reading n count a b at k′ start′
+        pub strings-next : (k′ start′ : ℕ) → k′ ≡ k + 1 → start′ ≡ start + n → r ≡ true → n ≤ length a - start → SameTo n count a b at k′ start′
         strings-next k′ start′ i j h l =
             rw (i, j)
             (record {

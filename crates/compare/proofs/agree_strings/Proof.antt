@@ -1,11 +1,11 @@
 use Prim.Native.Nat.{_-_}
 use borrow.Author.Needs.{needs}
-use Rattle.compare.proofs.Ranges.{Reading, strings-start, strings-end, strings-past, strings-apart, strings-next}
+use Rattle.compare.proofs.Ranges.{SameTo, strings-start, strings-end, strings-past, strings-apart, strings-next}
 use Rattle.compare.proofs.agree_strings.Statement.{statement}
 use Rattle.compare.proofs.agree_strings.Tie as tie
 
 abbrev Inv-loop : tie.InvT-loop
-Inv-loop a b at n count next start₀ done₀ start done = Reading n count a b at done start
+Inv-loop a b at n count next start₀ done₀ start done = SameTo n count a b at done start
 
 abbrev μ-loop : tie.MeasureT-loop
 μ-loop a b at n count next start₀ done₀ start done = count - done
