@@ -90,7 +90,7 @@ module _ (table pool : List ℕ) (r p : ℕ) (h : r < length table / 16) where
   enumMember-entry = simp (rowIs-words table r fits, same-word, clear 5 16 (omega arith), and-assoc, and-true, mul-one)
 
 -- no kind of a type
-abbrev NoKind : ℕ → Type 0
+abbrev pub NoKind : ℕ → Type 0
 NoKind w = ((((((((((Unit {0} × (w ≡ 1 → ⊥)) × (w ≡ 2 → ⊥)) × (w ≡ 3 → ⊥)) × (w ≡ 4 → ⊥)) × (w ≡ 5 → ⊥)) × (w ≡ 6 → ⊥)) × (w ≡ 7 → ⊥)) × (w ≡ 8 → ⊥)) × (w ≡ 9 → ⊥)) × (w ≡ 10 → ⊥)) × (w ≡ 11 → ⊥)
 
 noKind-unknown : (w : ℕ) → NoKind w → kindOf w ≡ isUnknown

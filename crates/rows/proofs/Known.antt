@@ -1,21 +1,22 @@
 -- Rows that are read again without a test: the answer is the definition's, unless the row is unknown; and what that gives a walk.
-use Prim.Native.Nat.{ℕ, suc, _+_, _-_, _*_, _/_, _<_, _≤_}
-use mathlib.Core.Path.{_≡_, refl, sym, _∙_}
-use mathlib.Core.Bool.{Bool, true, false, _&&_}
-use mathlib.Core.List.{List, [], _∷_}
+use Prim.Native.Nat.{ℕ, zero, suc, _+_, _-_, _*_, _/_, _<_, _≤_, max}
+use mathlib.Core.Path.{_≡_, refl, sym, ap, _∙_}
+use mathlib.Core.Bool.{Bool, true, false, false≢true, _&&_, _||_}
+use mathlib.Core.List.{List}
 use native.Mathlib.Omega.{arith}
 use native.Mathlib.Nat.{mul-one}
 use lib.ListN.{length, getD}
-use lib.Dec.{leb}
-use borrow.Author.Tests.{leb-true, leb-false, le-leb, lt-leb}
+use lib.Dec.{leb, eqb}
+use borrow.Author.Tests.{leb-true, leb-false, le-leb, lt-leb, ne-eqb}
 use Rattle.format.specs.Datatype.{Datatype, Members}
-use Rattle.format.specs.Table.{wordAt, rowIs, row, arrayRow, memberRow, enumMemberRow, Found, bad, Walk, kindOf, membersAt, enumNamesAt, typeAt}
-use Rattle.rows.specs.Entries.{pick, pickMember, entryOf, entryAt, memberAt, enumMemberAt, EntryInside, EntryIfKnown, MemberInside, MemberIfKnown, memberNameLength, enumMemberNameLength, fromEntry, fromMember, fromEnumMember}
+use Rattle.format.specs.Table.{wordAt, rowIs, enumMemberRow, Found, bad, Walk, kindOf, membersAt, enumNamesAt, typeAt}
+use Rattle.rows.specs.Entries.{pick, pickMember, entryOf, entryAt, memberAt, enumMemberAt, EntryInside, EntryIfKnown, isKnown, entryFits, RowSays, RowNames, MemberInside, MemberIfKnown, isNamed, memberNameLength, enumMemberNameLength, fromEntry, fromMember, fromEnumMember}
 use Rattle.rows.specs.declared.Entry.{Entry}
 use Rattle.rows.specs.declared.Entry.the-variants.{Leaf, Compound, Enumeration, VariableLength, Array, Unknown}
 use Rattle.rows.specs.declared.Member.{Member}
 use Rattle.rows.specs.declared.Member.the-variants.{Named, Unnamed}
-use Rattle.rows.proofs.Decode.{leaf-entry, entry-kind, opaque-picked, typeAt-entry, membersAt-entry, enumNamesAt-entry}
+use Rattle.rows.proofs.Columns.{NoKind, answered, noKind-entry, short-entry, short-member}
+use Rattle.rows.proofs.Decode.{leaf-entry, entry-kind, opaque-picked, typeAt-entry, membersAt-entry, enumNamesAt-entry, entry-inside, member-inside}
 
 known-itself : (e : Entry) → EntryIfKnown e e
 unfolding EntryIfKnown
@@ -32,16 +33,15 @@ unfolding pick EntryIfKnown
 known-tested true e = known-itself e
 known-tested false e = tt
 
--- and so does a part of that test
-known-part : (a b : Bool) (e : Entry) → EntryIfKnown (pick (a && b) e) (pick b e)
-unfolding pick EntryIfKnown
-known-part true b e = known-itself (pick b e)
-known-part false b e = tt
-
 named-itself : (m : Member) → MemberIfKnown m m
 unfolding MemberIfKnown
 named-itself (Named a b) = refl
 named-itself Unnamed = tt
+
+named-tested : (b : Bool) (m : Member) → MemberIfKnown (pickMember b m) m
+unfolding pickMember MemberIfKnown
+named-tested true m = named-itself m
+named-tested false m = tt
 
 named-part : (a b : Bool) (m : Member) → MemberIfKnown (pickMember (a && b) m) (pickMember b m)
 unfolding pickMember MemberIfKnown
@@ -59,79 +59,201 @@ fits-behind place bytes lent h = go (leb bytes (lent - place)) refl
 pub fits-past : (place bytes lent : ℕ) → lent < place → false ≡ leb (place + bytes) lent
 fits-past place bytes lent h = sym (lt-leb (place + bytes) lent (omega arith))
 
--- where a piece is tested to lie in the pool, what is answered lies inside
-piece-inside : (b : Bool) (e : Entry) (w k r p : ℕ) → (b ≡ true → EntryInside e w k r p) → EntryInside (pick b e) w k r p
-unfolding pick EntryInside
-piece-inside true e w k r p h = h refl
-piece-inside false e w k r p h = tt
-
 -- a row of each kind, which lies in the table
-module _ (table pool : List ℕ) (r p : ℕ) where
-  abbrev Answered : Entry → Type 0
-  Answered x = EntryIfKnown (entryAt table pool r p) x × EntryInside x (length table) (length pool) r p
+module _ (table : List ℕ) (r : ℕ) where
+  unknown-says : ((pool : List ℕ) (p : ℕ) → Unknown ≡ entryAt table pool r p) → RowSays table r Unknown
+  unfolding EntryIfKnown isKnown
+  unknown-says f = record { is = λ pool p. rw (← f pool p) tt; inside = λ k. absurd (false≢true k) }
+
+  pub says-short : length table / 16 ≤ r → RowSays table r Unknown
+  says-short h = unknown-says (λ pool p. short-entry table pool r p h)
+
+  pub names-short : length table / 16 ≤ r → RowNames table r Unnamed
+  unfolding MemberIfKnown isNamed
+  names-short h = record { is = λ pool p. rw (← short-member table pool r p h) tt; inside = λ k. absurd (false≢true k) }
 
   module _ (h : r < length table / 16) where
     abbrev kind : ℕ
     kind = getD table (r * 16) 0
 
-    pub known-fixedPoint : kind ≡ 1 → Answered (Leaf 0 (wordAt table r 1) 0 (wordAt table r 5))
-    unfolding leaf-entry EntryInside
-    known-fixedPoint e = (rw (entry-kind table pool r p e) (known-tested _ _), (omega arith, omega arith))
+    says : {e : Entry} → ((pool : List ℕ) (p : ℕ) → EntryIfKnown (entryAt table pool r p) e) → RowSays table r e
+    says f = record { is = f; inside = λ k. omega arith }
 
-    pub known-floatingPoint : kind ≡ 2 → Answered (Leaf 1 (wordAt table r 1) 0 (wordAt table r 5))
-    unfolding leaf-entry EntryInside
-    known-floatingPoint e = (rw (entry-kind table pool r p e) (known-tested _ _), (omega arith, omega arith))
+    pub says-fixedPoint : kind ≡ 1 → RowSays table r (Leaf 0 (wordAt table r 1) 0 (wordAt table r 5))
+    unfolding leaf-entry
+    says-fixedPoint e = says (λ pool p. rw (entry-kind table pool r p e) (known-tested _ _))
 
-    pub known-time : kind ≡ 3 → Answered (Leaf 2 (wordAt table r 1) 0 (wordAt table r 5))
-    unfolding leaf-entry EntryInside
-    known-time e = (rw (entry-kind table pool r p e) (known-tested _ _), (omega arith, omega arith))
+    pub says-floatingPoint : kind ≡ 2 → RowSays table r (Leaf 1 (wordAt table r 1) 0 (wordAt table r 5))
+    unfolding leaf-entry
+    says-floatingPoint e = says (λ pool p. rw (entry-kind table pool r p e) (known-tested _ _))
 
-    pub known-string : kind ≡ 4 → Answered (Leaf 3 (wordAt table r 1) 0 (wordAt table r 5))
-    unfolding leaf-entry EntryInside
-    known-string e = (rw (entry-kind table pool r p e) (known-tested _ _), (omega arith, omega arith))
+    pub says-time : kind ≡ 3 → RowSays table r (Leaf 2 (wordAt table r 1) 0 (wordAt table r 5))
+    unfolding leaf-entry
+    says-time e = says (λ pool p. rw (entry-kind table pool r p e) (known-tested _ _))
 
-    pub known-bitField : kind ≡ 5 → Answered (Leaf 4 (wordAt table r 1) 0 (wordAt table r 5))
-    unfolding leaf-entry EntryInside
-    known-bitField e = (rw (entry-kind table pool r p e) (known-tested _ _), (omega arith, omega arith))
+    pub says-string : kind ≡ 4 → RowSays table r (Leaf 3 (wordAt table r 1) 0 (wordAt table r 5))
+    unfolding leaf-entry
+    says-string e = says (λ pool p. rw (entry-kind table pool r p e) (known-tested _ _))
 
-    pub known-compound : kind ≡ 7 → Answered (Compound (wordAt table r 1) (wordAt table r 4))
-    unfolding entryOf kindOf EntryInside
-    known-compound e = (rw (entry-kind table pool r p e) (known-tested _ _), omega arith)
+    pub says-bitField : kind ≡ 5 → RowSays table r (Leaf 4 (wordAt table r 1) 0 (wordAt table r 5))
+    unfolding leaf-entry
+    says-bitField e = says (λ pool p. rw (entry-kind table pool r p e) (known-tested _ _))
 
-    pub known-reference : kind ≡ 8 → Answered (Leaf 7 (wordAt table r 1) 0 (wordAt table r 5))
-    unfolding leaf-entry EntryInside
-    known-reference e = (rw (entry-kind table pool r p e) (known-tested _ _), (omega arith, omega arith))
+    pub says-opaque : kind ≡ 6 → RowSays table r (Leaf 5 (wordAt table r 1) (wordAt table r 3) (wordAt table r 5))
+    unfolding kindOf
+    says-opaque e = says (λ pool p. rw (entry-kind table pool r p e, opaque-picked table pool r p) (known-tested _ _))
 
-    pub known-enumeration : kind ≡ 9 → Answered (Enumeration (wordAt table r 1) (wordAt table r 4))
-    unfolding entryOf kindOf EntryInside
-    known-enumeration e = (rw (entry-kind table pool r p e) (known-tested _ _), omega arith)
+    pub says-compound : kind ≡ 7 → RowSays table r (Compound (wordAt table r 1) (wordAt table r 4))
+    unfolding entryOf kindOf
+    says-compound e = says (λ pool p. rw (entry-kind table pool r p e) (known-tested _ _))
 
-    pub known-variableLength : kind ≡ 10 → Answered (VariableLength (wordAt table r 5) (wordAt table r 6) (wordAt table r 7))
-    unfolding entryOf kindOf EntryInside
-    known-variableLength e = (rw (entry-kind table pool r p e) (known-tested _ _), omega arith)
+    pub says-reference : kind ≡ 8 → RowSays table r (Leaf 7 (wordAt table r 1) 0 (wordAt table r 5))
+    unfolding leaf-entry
+    says-reference e = says (λ pool p. rw (entry-kind table pool r p e) (known-tested _ _))
 
-    -- a row with a piece of the pool, by the test that it lies there
-    pub known-opaque : {x : Entry} {b : Bool} → kind ≡ 6 → x ≡ pick b (Leaf 5 (wordAt table r 1) (wordAt table r 3) (wordAt table r 5)) → b ≡ leb (p + wordAt table r 3 * 1) (length pool) → Answered x
-    unfolding kindOf EntryInside
-    known-opaque e f g =
-        let i : EntryInside (pick (leb (p + wordAt table r 3) (length pool)) (Leaf 5 (wordAt table r 1) (wordAt table r 3) (wordAt table r 5))) (length table) (length pool) r p = piece-inside _ _ _ _ _ _ (λ t. (omega arith, omega (arith, leb-true (p + wordAt table r 3) (length pool) t))) in
-        rw (f, g, mul-one) (rw (entry-kind table pool r p e, opaque-picked) (known-part (rowIs table r (row 6 ((1, wordAt table r 1) ∷ (2, p) ∷ (3, wordAt table r 3) ∷ []))) _ _), i)
+    pub says-enumeration : kind ≡ 9 → RowSays table r (Enumeration (wordAt table r 1) (wordAt table r 4))
+    unfolding entryOf kindOf
+    says-enumeration e = says (λ pool p. rw (entry-kind table pool r p e) (known-tested _ _))
 
-    pub known-array : {x : Entry} {b : Bool} → kind ≡ 11 → x ≡ pick b (Array (wordAt table r 3)) → b ≡ leb (p + wordAt table r 3 * 4) (length pool) → Answered x
-    unfolding entryOf kindOf EntryInside
-    known-array e f g =
-        let i : EntryInside (pick (leb (p + wordAt table r 3 * 4) (length pool)) (Array (wordAt table r 3))) (length table) (length pool) r p = piece-inside _ _ _ _ _ _ (λ t. (omega arith, leb-true _ _ t)) in
-        rw (f, g) (rw (entry-kind table pool r p e) (known-part (rowIs table r (arrayRow p (wordAt table r 3))) _ _), i)
+    pub says-variableLength : kind ≡ 10 → RowSays table r (VariableLength (wordAt table r 5) (wordAt table r 6) (wordAt table r 7))
+    unfolding entryOf kindOf
+    says-variableLength e = says (λ pool p. rw (entry-kind table pool r p e) (known-tested _ _))
 
-    pub known-member : {x : Member} {b : Bool} → x ≡ pickMember b (Named (wordAt table r 1) (wordAt table r 3)) → b ≡ leb (p + wordAt table r 3 * 1) (length pool)
-        → MemberIfKnown (memberAt table pool r p) x × MemberInside x (length table) (length pool) r p (memberNameLength x)
+    pub says-array : kind ≡ 11 → RowSays table r (Array (wordAt table r 3))
+    unfolding entryOf kindOf
+    says-array e = says (λ pool p. rw (entry-kind table pool r p e) (known-tested _ _))
+
+    pub says-none : NoKind kind → RowSays table r Unknown
+    says-none n = unknown-says (λ pool p. noKind-entry table pool r p n)
+
+    pub names-member : RowNames table r (Named (wordAt table r 1) (wordAt table r 3))
     unfolding memberAt
-    known-member f g = rw (f, g, mul-one) (named-part (rowIs table r (memberRow p (wordAt table r 1) (wordAt table r 3))) _ _, go _ refl)
+    names-member = record { is = λ pool p. named-tested _ _; inside = λ k. omega arith }
+
+-- ---- by the test of a row
+
+-- a test that tells whether the row is known picks its entry
+pub known-is : (table pool : List ℕ) (r p : ℕ) (e : Entry) {a b : Bool} → isKnown e ≡ true → entryAt table pool r p ≡ pick b e → a ≡ b → a ≡ isKnown (entryAt table pool r p)
+known-is table pool r p e {a = a} {b = b} k f g = g ∙ rw f (go b)
+  where
+    go : (b : Bool) → b ≡ isKnown (pick b e)
+    go true = unfold pick in sym k
+    go false = unfold pick isKnown in refl
+
+pub none-known : (table pool : List ℕ) (r p : ℕ) → NoKind (getD table (r * 16) 0) → false ≡ isKnown (entryAt table pool r p)
+unfolding isKnown
+none-known table pool r p n = rw (← noKind-entry table pool r p n)
+
+known-picked : (y e : Entry) → EntryIfKnown y e → pick (isKnown y) e ≡ y
+unfolding EntryIfKnown pick isKnown
+known-picked (Leaf c n l x) e q = q
+known-picked (Compound n k) e q = q
+known-picked (Enumeration n k) e q = q
+known-picked (VariableLength i a c) e q = q
+known-picked (Array k) e q = q
+known-picked Unknown e q = refl
+
+-- a row that is read again: its piece is tested to lie in the pool
+module _ (r p : ℕ) where
+  tag-fits : (l bytes : ℕ) → p + l ≤ max bytes p → (eqb l 0 || leb (p + l) bytes) ≡ true
+  tag-fits zero bytes i = refl
+  tag-fits (suc l) bytes i = rw (ne-eqb (suc l) 0 (λ z. omega arith)) (le-leb (p + suc l) bytes (omega arith))
+
+  tag-inside : (l bytes : ℕ) → (eqb l 0 || leb (p + l) bytes) ≡ true → p + l ≤ max bytes p
+  tag-inside zero bytes i = omega arith
+  tag-inside (suc l) bytes i = omega (arith, leb-true (p + suc l) bytes (rw (ne-eqb (suc l) 0 (λ z. omega arith)) at i))
+
+  again-is : (y e : Entry) (words bytes : ℕ) → EntryInside y words bytes r p → EntryIfKnown y e → EntryIfKnown y (pick (entryFits e p bytes) e)
+  unfolding EntryInside EntryIfKnown entryFits pick
+  again-is (Leaf c n l x) e words bytes i q = rw (q, tag-fits l bytes (i .1))
+  again-is (Compound n k) e words bytes i q = rw q
+  again-is (Enumeration n k) e words bytes i q = rw q
+  again-is (VariableLength a b c) e words bytes i q = rw q
+  again-is (Array k) e words bytes i q = rw (q, le-leb (p + k * 4) bytes (i .1))
+  again-is Unknown e words bytes i q = tt
+
+  again-inside : (e : Entry) (words bytes : ℕ) → (isKnown e ≡ true → r * 16 + 16 ≤ words) → EntryInside (pick (entryFits e p bytes) e) words bytes r p
+  unfolding EntryInside entryFits pick isKnown
+  again-inside (Leaf c n l x) words bytes h = go (eqb l 0 || leb (p + l) bytes) refl
+    where
+      go : (b : Bool) → (eqb l 0 || leb (p + l) bytes) ≡ b → EntryInside (pick b (Leaf c n l x)) words bytes r p
+      go true t = (h refl, tag-inside l bytes t)
+      go false t = tt
+  again-inside (Compound n k) words bytes h = h refl
+  again-inside (Enumeration n k) words bytes h = h refl
+  again-inside (VariableLength a b c) words bytes h = h refl
+  again-inside (Array k) words bytes h = go (leb (p + k * 4) bytes) refl
+    where
+      go : (b : Bool) → leb (p + k * 4) bytes ≡ b → EntryInside (pick b (Array k)) words bytes r p
+      go true t = (h refl, leb-true (p + k * 4) bytes t)
+      go false t = tt
+  again-inside Unknown words bytes h = tt
+
+module _ (table pool : List ℕ) (r p : ℕ) {e x : Entry} {b : Bool} (s : RowSays table r e) (g : x ≡ pick b e) where
+  pub entry-tested : b ≡ isKnown (entryAt table pool r p) → (x ≡ entryAt table pool r p) × EntryInside x (length table) (length pool) r p
+  entry-tested f = answered table pool r p (g ∙ rw f (known-picked _ e (s .is pool p)))
+
+  pub known-again : b ≡ entryFits e p (length pool) → EntryIfKnown (entryAt table pool r p) x × EntryInside x (length table) (length pool) r p
+  known-again f = rw (g, f) (again-is r p _ e _ _ (entry-inside table pool r p) (s .is pool p), again-inside r p e _ _ (s .inside))
+
+-- the test of an entry's piece
+module _ {e : Entry} (p bytes : ℕ) where
+  pub fits-no-tag : {c n l x : ℕ} → e ≡ Leaf c n l x → l ≡ 0 → true ≡ entryFits e p bytes
+  unfolding entryFits
+  fits-no-tag h z = rw (h, z)
+
+  pub fits-tag : {c n l x : ℕ} {b : Bool} → e ≡ Leaf c n l x → (l ≡ 0 → ⊥) → b ≡ leb (p + l * 1) bytes → b ≡ entryFits e p bytes
+  unfolding entryFits
+  fits-tag {l = l} h z f = f ∙ rw (h, ne-eqb l 0 z, mul-one)
+
+  pub fits-dimensions : {k : ℕ} {b : Bool} → e ≡ Array k → b ≡ leb (p + k * 4) bytes → b ≡ entryFits e p bytes
+  unfolding entryFits
+  fits-dimensions h f = f ∙ rw h
+
+  pub fits-compound : {n k : ℕ} → e ≡ Compound n k → true ≡ entryFits e p bytes
+  unfolding entryFits
+  fits-compound h = rw h
+
+  pub fits-enumeration : {n k : ℕ} → e ≡ Enumeration n k → true ≡ entryFits e p bytes
+  unfolding entryFits
+  fits-enumeration h = rw h
+
+  pub fits-variableLength : {i a c : ℕ} → e ≡ VariableLength i a c → true ≡ entryFits e p bytes
+  unfolding entryFits
+  fits-variableLength h = rw h
+
+  pub fits-unknown : e ≡ Unknown → true ≡ entryFits e p bytes
+  unfolding entryFits
+  fits-unknown h = rw h
+
+-- a member's row that is read again
+module _ (table pool : List ℕ) (r p : ℕ) where
+  abbrev Answered : Member → Type 0
+  Answered x = MemberIfKnown (memberAt table pool r p) x × MemberInside x (length table) (length pool) r p (memberNameLength x)
+
+  again-named : (y : Member) (o n words bytes : ℕ) → MemberInside y words bytes r p (memberNameLength y) → MemberIfKnown y (Named o n) → MemberIfKnown y (pickMember (leb (p + n) bytes) (Named o n))
+  unfolding MemberInside MemberIfKnown memberNameLength pickMember
+  again-named (Named a b) o n words bytes i q =
+      let e : n ≡ b = ap memberNameLength q in
+      let l : p + n ≤ bytes = omega (arith, i .1) in
+      rw (le-leb (p + n) bytes l) q
+  again-named Unnamed o n words bytes i q = tt
+
+  module _ {m : Member} (s : RowNames table r m) where
+    pub unnamed-again : m ≡ Unnamed → Answered Unnamed
+    unfolding MemberInside
+    unnamed-again e = (rw e at (s .is pool p), tt)
+
+    pub named-again : {x : Member} {o n : ℕ} {b : Bool} → m ≡ Named o n → b ≡ leb (p + n * 1) (length pool) → x ≡ pickMember b (Named o n) → Answered x
+    named-again {o = o} {n = n} e f g =
+        rw (g, f, mul-one) (again-named _ o n _ _ (member-inside table pool r p) (rw e at (s .is pool p)), go (leb (p + n) (length pool)) refl)
       where
-        go : (b : Bool) → leb (p + wordAt table r 3) (length pool) ≡ b → MemberInside (pickMember b (Named (wordAt table r 1) (wordAt table r 3))) (length table) (length pool) r p (memberNameLength (pickMember b (Named (wordAt table r 1) (wordAt table r 3))))
-        go true t = unfold MemberInside memberNameLength pickMember in (omega arith, leb-true _ _ t)
+        go : (b : Bool) → leb (p + n) (length pool) ≡ b → MemberInside (pickMember b (Named o n)) (length table) (length pool) r p (memberNameLength (pickMember b (Named o n)))
+        go true t = unfold MemberInside memberNameLength pickMember in (s .inside (rw e (unfold isNamed in refl)), leb-true _ _ t)
         go false t = unfold MemberInside memberNameLength pickMember in tt
 
+  -- the row of an enumeration's member
+  module _ (h : r < length table / 16) where
     pub known-enumMember : {x : Member} {b : Bool} → x ≡ pickMember b (Named (wordAt table r 3) (wordAt table r 4)) → b ≡ leb (p + wordAt table r 3 * 1) (length pool)
         → MemberIfKnown (enumMemberAt table pool r p) x × MemberInside x (length table) (length pool) r p (enumMemberNameLength x)
     unfolding enumMemberAt
@@ -140,15 +262,6 @@ module _ (table pool : List ℕ) (r p : ℕ) where
         go : (b : Bool) → leb (p + wordAt table r 3) (length pool) ≡ b → MemberInside (pickMember b (Named (wordAt table r 3) (wordAt table r 4))) (length table) (length pool) r p (enumMemberNameLength (pickMember b (Named (wordAt table r 3) (wordAt table r 4))))
         go true t = unfold MemberInside enumMemberNameLength pickMember in (omega arith, leb-true _ _ t)
         go false t = unfold MemberInside enumMemberNameLength pickMember in tt
-
-  -- a row past the table, and one of no kind, is unknown
-  pub unknown-answered : Unknown ≡ entryAt table pool r p → Answered Unknown
-  unfolding EntryInside EntryIfKnown
-  unknown-answered e = (rw (sym e) tt, tt)
-
-  pub unnamed-answered : (n : ℕ) → Unnamed ≡ memberAt table pool r p → MemberIfKnown (memberAt table pool r p) Unnamed × MemberInside Unnamed (length table) (length pool) r p n
-  unfolding MemberInside MemberIfKnown
-  unnamed-answered n e = (rw (sym e) tt, tt)
 
   pub enumUnnamed-answered : (n : ℕ) → Unnamed ≡ enumMemberAt table pool r p → MemberIfKnown (enumMemberAt table pool r p) Unnamed × MemberInside Unnamed (length table) (length pool) r p n
   unfolding MemberInside MemberIfKnown

@@ -4,7 +4,7 @@ use mathlib.Core.Bool.{Bool, true, false, not, _&&_, _||_}
 use mathlib.Core.Path.{_≡_}
 use mathlib.Core.List.{List, [], _∷_}
 use lib.ListN.{length, getD, take, drop}
-use lib.Dec.{leb, ltb}
+use lib.Dec.{leb, ltb, eqb}
 use Rattle.format.specs.Bytes.{dimensionsFrom}
 use Rattle.format.specs.Columns.{kindColumn, sizeColumn, memberOffsetColumn, lengthColumn, countColumn, valueLengthColumn, codeColumn, isStringColumn, variablePaddingColumn, variableCharsetColumn}
 use Rattle.format.specs.Datatype.{Leaf as LeafType, leafClass, leafPool, Datatype, leaf, compound, enumeration, variableLength, array, Members, member}
@@ -76,6 +76,24 @@ EntryInside (VariableLength i a c) words bytes r p = r * 16 + 16 ≤ words
 EntryInside (Array k) words bytes r p = (r * 16 + 16 ≤ words) × (p + k * 4 ≤ bytes)
 EntryInside Unknown words bytes r p = Unit {0}
 
+-- whether a row is known
+unfoldable pub isKnown : Entry → Bool
+isKnown (Leaf c n l x) = true
+isKnown (Compound n k) = true
+isKnown (Enumeration n k) = true
+isKnown (VariableLength i a c) = true
+isKnown (Array k) = true
+isKnown Unknown = false
+
+-- whether an entry's piece of the pool, at p, lies in a pool of so many bytes
+unfoldable pub entryFits : Entry → (p bytes : ℕ) → Bool
+entryFits (Leaf c n l x) p bytes = eqb l 0 || leb (p + l) bytes
+entryFits (Compound n k) p bytes = true
+entryFits (Enumeration n k) p bytes = true
+entryFits (VariableLength i a c) p bytes = true
+entryFits (Array k) p bytes = leb (p + k * 4) bytes
+entryFits Unknown p bytes = true
+
 -- an answer that is the row's entry, or member, unless the row is unknown: of an unknown row nothing is said
 unfoldable pub EntryIfKnown : (entry answer : Entry) → Type 0
 EntryIfKnown (Leaf c n l x) y = y ≡ Leaf c n l x
@@ -88,6 +106,19 @@ EntryIfKnown Unknown y = Unit {0}
 unfoldable pub MemberIfKnown : (member answer : Member) → Type 0
 MemberIfKnown (Named a b) y = y ≡ Named a b
 MemberIfKnown Unnamed y = Unit {0}
+
+unfoldable pub isNamed : Member → Bool
+isNamed (Named a b) = true
+isNamed Unnamed = false
+
+-- what is said of a row by its words alone: its entry, or member, wherever its piece of the pool begins, unless the row is unknown there
+pub record RowSays (table : List ℕ) (r : ℕ) (e : Entry) : Type 0 where
+  pub is : (pool : List ℕ) (p : ℕ) → EntryIfKnown (entryAt table pool r p) e
+  pub inside : isKnown e ≡ true → r * 16 + 16 ≤ length table
+
+pub record RowNames (table : List ℕ) (r : ℕ) (m : Member) : Type 0 where
+  pub is : (pool : List ℕ) (p : ℕ) → MemberIfKnown (memberAt table pool r p) m
+  pub inside : isNamed m ≡ true → r * 16 + 16 ≤ length table
 
 -- how long a compound's member's name is, and an enumeration's
 unfoldable pub memberNameLength : Member → ℕ

@@ -1,12 +1,12 @@
 // The rows of a lent table, one at a time: which columns a row of a kind uses, its codes, and its piece of the pool.
 ghost use mathlib.Core.Path.{_≡_};
-ghost use Prim.Native.Nat.{_+_, _*_, _-_, _≤_, _<_};
+ghost use Prim.Native.Nat.{_+_, _*_, _/_, _-_, _≤_, _<_};
 ghost use lib.ListN.{length, take, drop};
 ghost use Rattle.format.specs.Bytes.{allZero};
 ghost use mathlib.Core.Bool.{_&&_};
 ghost use lib.Dec.{leb};
 ghost use Rattle.rows.specs.Columns.{clearColumns, leafColumns, groupColumns, variableLengthColumns, pieceColumns};
-ghost use Rattle.rows.specs.Entries.{pick, pickMember, entryAt, memberAt, enumMemberAt, EntryInside, EntryIfKnown, MemberInside, MemberIfKnown, memberNameLength, enumMemberNameLength};
+ghost use Rattle.rows.specs.Entries.{pick, pickMember, entryAt, memberAt, enumMemberAt, EntryInside, EntryIfKnown, isKnown, entryFits, RowSays, RowNames, MemberInside, MemberIfKnown, memberNameLength, enumMemberNameLength};
 
 // A type's row. Leaf: class, size, length of the tag, and column 5 (order, padding or reference kind). Compound and Enumeration: size and
 // number of members. VariableLength: is a string, padding, charset. Array: rank.
@@ -187,10 +187,9 @@ fn piece_columns(
     both(clear_columns(table, row, from, 16), end <= pool.len())
 }
 
-// The type's row at `row`, its pool bytes at `place`.
-pub fn entry_at(table: &[u32], pool: &[u8], row: usize, place: usize) -> Entry
-    ensures is { λ r. ⌜ r ≡ entryAt (now (table .entry)) (now (pool .entry)) row place ⌝ }
-    ensures inside { λ r. ⌜ EntryInside r (length (now (table .entry))) (length (now (pool .entry))) row place ⌝ }
+// What a type's row has in its columns, not tested: Unknown past the table and for a kind that is no type's.
+pub fn row_entry(table: &[u32], row: usize) -> Entry
+    ensures { λ r. ⌜ RowSays (now (table .entry)) row r ⌝ }
 {
     if table.len() / 16 <= row {
         return Entry::Unknown;
@@ -201,48 +200,54 @@ pub fn entry_at(table: &[u32], pool: &[u8], row: usize, place: usize) -> Entry
     let length = table[at + 3];
     let count = table[at + 4];
     let code = table[at + 5];
-    let second = table[at + 6];
     match kind {
-        1 => entry_if(
-            both(leaf_columns(table, row, 6, 9, 3), second < 2),
-            Entry::Leaf(0, size, 0, code),
-        ),
-        2 => entry_if(
-            leaf_columns(table, row, 7, 14, 3),
-            Entry::Leaf(1, size, 0, code),
-        ),
-        3 => entry_if(
-            leaf_columns(table, row, 8, 9, 3),
-            Entry::Leaf(2, size, 0, code),
-        ),
-        4 => entry_if(
-            both(leaf_columns(table, row, 6, 7, 3), second < 2),
-            Entry::Leaf(3, size, 0, code),
-        ),
-        5 => entry_if(
-            leaf_columns(table, row, 7, 9, 3),
-            Entry::Leaf(4, size, 0, code),
-        ),
-        6 => entry_if(
-            piece_columns(table, pool, row, place, 4, 1),
-            Entry::Leaf(5, size, length, code),
-        ),
-        7 => entry_if(group_columns(table, row), Entry::Compound(size, count)),
-        8 => entry_if(
-            leaf_columns(table, row, 6, 6, 2),
-            Entry::Leaf(7, size, 0, code),
-        ),
-        9 => entry_if(group_columns(table, row), Entry::Enumeration(size, count)),
-        10 => entry_if(
-            variable_length_columns(table, row),
-            Entry::VariableLength(code, second, table[at + 7]),
-        ),
-        11 => entry_if(
-            both(size == 0, piece_columns(table, pool, row, place, 4, 4)),
-            Entry::Array(length),
-        ),
+        1 => Entry::Leaf(0, size, 0, code),
+        2 => Entry::Leaf(1, size, 0, code),
+        3 => Entry::Leaf(2, size, 0, code),
+        4 => Entry::Leaf(3, size, 0, code),
+        5 => Entry::Leaf(4, size, 0, code),
+        6 => Entry::Leaf(5, size, length, code),
+        7 => Entry::Compound(size, count),
+        8 => Entry::Leaf(7, size, 0, code),
+        9 => Entry::Enumeration(size, count),
+        10 => Entry::VariableLength(code, table[at + 6], table[at + 7]),
+        11 => Entry::Array(length),
         _ => Entry::Unknown,
     }
+}
+
+// Whether a row is a type's, its pool bytes at `place`: it uses the columns of its kind only, with known codes, and its piece lies in the pool.
+fn row_known(table: &[u32], pool: &[u8], row: usize, place: usize) -> bool
+    requires { ⌜ row < length (now table) / 16 ⌝ }
+    ensures { λ r. ⌜ r ≡ isKnown (entryAt (now (table .entry)) (now (pool .entry)) row place) ⌝ }
+{
+    let at = row * 16;
+    let kind = table[at];
+    match kind {
+        1 => both(leaf_columns(table, row, 6, 9, 3), table[at + 6] < 2),
+        2 => leaf_columns(table, row, 7, 14, 3),
+        3 => leaf_columns(table, row, 8, 9, 3),
+        4 => both(leaf_columns(table, row, 6, 7, 3), table[at + 6] < 2),
+        5 => leaf_columns(table, row, 7, 9, 3),
+        6 => piece_columns(table, pool, row, place, 4, 1),
+        7 => group_columns(table, row),
+        8 => leaf_columns(table, row, 6, 6, 2),
+        9 => group_columns(table, row),
+        10 => variable_length_columns(table, row),
+        11 => both(table[at + 1] == 0, piece_columns(table, pool, row, place, 4, 4)),
+        _ => false,
+    }
+}
+
+// The type's row at `row`, its pool bytes at `place`.
+pub fn entry_at(table: &[u32], pool: &[u8], row: usize, place: usize) -> Entry
+    ensures is { λ r. ⌜ r ≡ entryAt (now (table .entry)) (now (pool .entry)) row place ⌝ }
+    ensures inside { λ r. ⌜ EntryInside r (length (now (table .entry))) (length (now (pool .entry))) row place ⌝ }
+{
+    if table.len() / 16 <= row {
+        return Entry::Unknown;
+    }
+    entry_if(row_known(table, pool, row, place), row_entry(table, row))
 }
 
 // The row of a compound's member, its name at `place`: offset and length of the name.
@@ -288,40 +293,44 @@ fn piece_fits(pool: &[u8], place: usize, n: u32, width: usize) -> bool
     bytes <= lent - place
 }
 
+// Whether an entry's piece lies in the pool at `place`.
+fn entry_fits(pool: &[u8], place: usize, entry: Entry) -> bool
+    ensures { λ r. ⌜ r ≡ entryFits entry place (length (now (pool .entry))) ⌝ }
+{
+    match entry {
+        Entry::Leaf(_, _, length, _) => {
+            if length == 0 {
+                return true;
+            }
+            piece_fits(pool, place, length, 1)
+        }
+        Entry::Array(rank) => piece_fits(pool, place, rank, 4),
+        Entry::Compound(_, _) => true,
+        Entry::Enumeration(_, _) => true,
+        Entry::VariableLength(_, _, _) => true,
+        Entry::Unknown => true,
+    }
+}
+
 // What `entry_at` answers of a row that is known to be a type's, without testing it again: what it takes from the row lies in the table and the
 // pool, whatever the row has.
 pub fn known_entry_at(table: &[u32], pool: &[u8], row: usize, place: usize) -> Entry
     ensures is { λ r. ⌜ EntryIfKnown (entryAt (now (table .entry)) (now (pool .entry)) row place) r ⌝ }
     ensures inside { λ r. ⌜ EntryInside r (length (now (table .entry))) (length (now (pool .entry))) row place ⌝ }
 {
+    let entry = row_entry(table, row);
+    entry_if(entry_fits(pool, place, entry), entry)
+}
+
+// What a compound member's row has in its columns, not tested: offset and length of the name. Unnamed past the table.
+pub fn row_member(table: &[u32], row: usize) -> Member
+    ensures { λ r. ⌜ RowNames (now (table .entry)) row r ⌝ }
+{
     if table.len() / 16 <= row {
-        return Entry::Unknown;
+        return Member::Unnamed;
     }
     let at = row * 16;
-    let kind = table[at];
-    let size = table[at + 1];
-    let length = table[at + 3];
-    let count = table[at + 4];
-    let code = table[at + 5];
-    let second = table[at + 6];
-    let third = table[at + 7];
-    match kind {
-        1 => Entry::Leaf(0, size, 0, code),
-        2 => Entry::Leaf(1, size, 0, code),
-        3 => Entry::Leaf(2, size, 0, code),
-        4 => Entry::Leaf(3, size, 0, code),
-        5 => Entry::Leaf(4, size, 0, code),
-        6 => entry_if(
-            piece_fits(pool, place, length, 1),
-            Entry::Leaf(5, size, length, code),
-        ),
-        7 => Entry::Compound(size, count),
-        8 => Entry::Leaf(7, size, 0, code),
-        9 => Entry::Enumeration(size, count),
-        10 => Entry::VariableLength(code, second, third),
-        11 => entry_if(piece_fits(pool, place, length, 4), Entry::Array(length)),
-        _ => Entry::Unknown,
-    }
+    Member::Named(table[at + 1], table[at + 3])
 }
 
 // What `member_at` answers of a row that is known to be a member's.
@@ -329,16 +338,11 @@ pub fn known_member_at(table: &[u32], pool: &[u8], row: usize, place: usize) -> 
     ensures is { λ r. ⌜ MemberIfKnown (memberAt (now (table .entry)) (now (pool .entry)) row place) r ⌝ }
     ensures inside { λ r. ⌜ MemberInside r (length (now (table .entry))) (length (now (pool .entry))) row place (memberNameLength r) ⌝ }
 {
-    if table.len() / 16 <= row {
-        return Member::Unnamed;
+    let member = row_member(table, row);
+    match member {
+        Member::Unnamed => Member::Unnamed,
+        Member::Named(_, length) => member_if(piece_fits(pool, place, length, 1), member),
     }
-    let at = row * 16;
-    let offset = table[at + 1];
-    let length = table[at + 3];
-    member_if(
-        piece_fits(pool, place, length, 1),
-        Member::Named(offset, length),
-    )
 }
 
 // What `enum_member_at` answers of a row that is known to be an enumeration member's.
