@@ -7,10 +7,15 @@ use native.Mathlib.Omega.{arith}
 use native.Mathlib.Nat.{mul-one}
 use lib.ListN.{length, getD}
 use lib.Dec.{leb, eqb}
+use mir.Syntax.{w64}
+use mir.Val.{Fits}
 use borrow.Author.Tests.{leb-true, leb-false, le-leb, lt-leb, ne-eqb}
+use Rattle.format.specs.Columns.{placeColumn}
 use Rattle.format.specs.Datatype.{Datatype, Members}
-use Rattle.format.specs.Table.{wordAt, rowIs, enumMemberRow, Found, bad, Walk, kindOf, membersAt, enumNamesAt, typeAt}
-use Rattle.rows.specs.Entries.{pick, pickMember, entryOf, entryAt, memberAt, enumMemberAt, EntryInside, EntryIfKnown, isKnown, entryFits, RowSays, RowNames, MemberInside, MemberIfKnown, isNamed, memberNameLength, enumMemberNameLength, fromEntry, fromMember, fromEnumMember}
+use Rattle.format.specs.Table.{wordAt, rowIs, row, arrayRow, enumMemberRow, Found, bad, Walk, Kind, isLeaf, isCompound, isEnumeration, isVariableLength, isArray, isUnknown, kindOf, membersAt, enumNamesAt, typeAt}
+use Rattle.format.proofs.Booleans.{and-both}
+use Rattle.format.proofs.TableSteps.{rowIs-true}
+use Rattle.rows.specs.Entries.{pick, pickMember, leafEntry, entryOf, entryAt, memberAt, enumMemberAt, EntryInside, EntryIfKnown, isKnown, entryFits, RowSays, RowNames, MemberInside, MemberIfKnown, isNamed, memberNameLength, enumMemberNameLength, fromEntry, fromMember, fromEnumMember}
 use Rattle.rows.specs.declared.Entry.{Entry}
 use Rattle.rows.specs.declared.Entry.the-variants.{Leaf, Compound, Enumeration, VariableLength, Array, Unknown}
 use Rattle.rows.specs.declared.Member.{Member}
@@ -266,6 +271,71 @@ module _ (table pool : List ℕ) (r p : ℕ) where
   pub enumUnnamed-answered : (n : ℕ) → Unnamed ≡ enumMemberAt table pool r p → MemberIfKnown (enumMemberAt table pool r p) Unnamed × MemberInside Unnamed (length table) (length pool) r p n
   unfolding MemberInside MemberIfKnown
   enumUnnamed-answered n e = (rw (sym e) tt, tt)
+
+-- what a caller knows of a row that it has read by its words alone
+module _ {e : Entry} (table : List ℕ) (r : ℕ) (s : RowSays table r e) where
+  pub says-inside : {f : Entry} → e ≡ f → isKnown f ≡ true → r * 16 + 16 ≤ length table
+  says-inside h k = s .inside (rw h k)
+
+  pub says-leaf-next : {c n l x : ℕ} → e ≡ Leaf c n l x → length table < 18446744073709551616 → Fits w64 (r + 1)
+  unfolding isKnown
+  says-leaf-next h k = let j = says-inside h refl in record { fits = omega arith }
+
+  pub says-compound-next : {n k : ℕ} → e ≡ Compound n k → length table < 18446744073709551616 → Fits w64 (r + 1)
+  unfolding isKnown
+  says-compound-next h k = let j = says-inside h refl in record { fits = omega arith }
+
+  pub says-enumeration-next : {n k : ℕ} → e ≡ Enumeration n k → length table < 18446744073709551616 → Fits w64 (r + 1)
+  unfolding isKnown
+  says-enumeration-next h k = let j = says-inside h refl in record { fits = omega arith }
+
+  pub says-variableLength-next : {i a c : ℕ} → e ≡ VariableLength i a c → length table < 18446744073709551616 → Fits w64 (r + 1)
+  unfolding isKnown
+  says-variableLength-next h k = let j = says-inside h refl in record { fits = omega arith }
+
+  pub says-array-next : {k : ℕ} → e ≡ Array k → length table < 18446744073709551616 → Fits w64 (r + 1)
+  unfolding isKnown
+  says-array-next h k = let j = says-inside h refl in record { fits = omega arith }
+
+  pub says-enumeration-row : {n k : ℕ} → e ≡ Enumeration n k → r * 16 + 16 ≤ length table
+  unfolding isKnown
+  says-enumeration-row h = says-inside h refl
+
+  pub says-array-row : {k : ℕ} → e ≡ Array k → r * 16 + 16 ≤ length table
+  unfolding isKnown
+  says-array-row h = says-inside h refl
+
+pub names-next : {m : Member} {x y : ℕ} (table : List ℕ) (r : ℕ) → RowNames table r m → m ≡ Named x y → length table < 18446744073709551616 → Fits w64 (r + 1)
+unfolding isNamed
+names-next table r s e k = let j = s .inside (rw e refl) in record { fits = omega arith }
+
+-- the place of an array's dimensions stands in its row
+module _ (table pool : List ℕ) (r p : ℕ) where
+  unfoldable PlaceStands : Entry → Type 0
+  PlaceStands (Leaf c n l x) = Unit {0}
+  PlaceStands (Compound n k) = Unit {0}
+  PlaceStands (Enumeration n k) = Unit {0}
+  PlaceStands (VariableLength i a c) = Unit {0}
+  PlaceStands (Array k) = wordAt table r placeColumn ≡ p
+  PlaceStands Unknown = Unit {0}
+
+  place-pick : (b : Bool) (e : Entry) → (b ≡ true → PlaceStands e) → PlaceStands (pick b e)
+  unfolding pick PlaceStands
+  place-pick true e h = h refl
+  place-pick false e h = tt
+
+  place-kind : (k : Kind) → PlaceStands (entryOf table pool r p k)
+  unfolding entryOf leafEntry PlaceStands arrayRow row
+  place-kind (isLeaf k) = place-pick _ _ (λ b. tt)
+  place-kind isCompound = place-pick _ _ (λ b. tt)
+  place-kind isEnumeration = place-pick _ _ (λ b. tt)
+  place-kind isVariableLength = place-pick _ _ (λ b. tt)
+  place-kind isArray = place-pick _ _ (λ b. rowIs-true table r _ 2 (omega arith) (and-both _ _ b .0))
+  place-kind isUnknown = tt
+
+  pub array-stands : {k : ℕ} → Array k ≡ entryAt table pool r p → (wordAt table r 2 ≡ p) × (p + k * 4 ≤ length pool)
+  unfolding entryAt PlaceStands EntryInside
+  array-stands e = (rw (← e) at (place-kind (kindOf (wordAt table r 0))), rw (← e) at (entry-inside table pool r p) .1)
 
 -- A claim that says nothing where no type is found holds where a row is read again, once it holds of the answer, which may be taken to be the
 -- row's own.

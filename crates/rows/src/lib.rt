@@ -234,7 +234,10 @@ fn row_known(table: &[u32], pool: &[u8], row: usize, place: usize) -> bool
         8 => leaf_columns(table, row, 6, 6, 2),
         9 => group_columns(table, row),
         10 => variable_length_columns(table, row),
-        11 => both(table[at + 1] == 0, piece_columns(table, pool, row, place, 4, 4)),
+        11 => both(
+            table[at + 1] == 0,
+            piece_columns(table, pool, row, place, 4, 4),
+        ),
         _ => false,
     }
 }

@@ -4,3 +4,4 @@ pub mod Checking
 pub mod Answers
 pub mod Naming
 pub mod ZeroClass
+pub mod Passing

@@ -1,3 +1,4 @@
 pub mod Survey
 pub mod Names
 pub mod Path
+pub mod Known

@@ -10,6 +10,8 @@ use rows::clear_words;
 use rows::entry_at;
 use rows::enum_member_at;
 use rows::member_at;
+use rows::row_entry;
+use rows::row_member;
 ghost use mathlib.Core.Path.{_≡_};
 ghost use mathlib.Core.Bool.{true, _&&_, _||_};
 ghost use Prim.Native.Nat.{ℕ, _+_, _*_, _-_, _≤_, _<_, min};
@@ -19,7 +21,8 @@ ghost use Rattle.format.specs.Bytes.{dimensionsFrom};
 ghost use Rattle.format.specs.Datatype.{product};
 ghost use Rattle.format.specs.Sizes.{sizing, elementSizing, classMayHoldObjectAddress, objectAddressHeld, fileAddressHeld};
 ghost use Rattle.format.specs.Table.{typeAt, membersAt};
-ghost use Rattle.table.specs.Path.{topOf};
+ghost use Rattle.table.specs.Path.{Entered};
+ghost use Rattle.table.specs.Known.{PassesNames, PassesType, PassesMembers, TotalAt, SizedAt};
 ghost use Rattle.table.specs.Survey.{surveyOf, surveyIn, leafSurvey, enumerationSurvey, variableSurvey, arraySurvey, enumSpotOf, endsAt, Checks, firstOf, zeroNote, SizedAs, HeldAs};
 ghost use Rattle.table.specs.Names.{nameOf, namePlace, further, PartIs};
 ghost use denote.Ref.{ptr};
@@ -108,7 +111,7 @@ pub fn either(a: bool, b: bool) -> bool
 // One level further down, at a row.
 pub fn enter(path: Path, row: usize) -> Path
     requires { ⌜ path .depth < 32 ⌝ }
-    ensures { λ r. ⌜ (r .depth ≡ path .depth + 1) × (topOf r ≡ row) ⌝ }
+    ensures { λ r. ⌜ Entered path row r ⌝ }
 {
     let depth = path.depth;
     let mut rows = path.rows;
@@ -204,6 +207,94 @@ pub fn skip_enum_members(table: &[u32], pool: &[u8], row: usize, place: usize, c
         row: r,
         place: p + values,
     })
+}
+
+// The row behind an enumeration's members, by their number; of use where they are known to be there.
+fn behind_enum_members(table: &[u32], row: usize, count: u32) -> usize
+    ensures { λ r. ⌜ PassesNames (now (table .entry)) row count r ⌝ }
+{
+    if table.len() / 16 <= row {
+        return row;
+    }
+    row + count as usize
+}
+
+// The row behind the type at a row that is known, with so many levels left. No row is tested, and an enumeration's members are passed by their
+// number: the cost is a step for each other row.
+pub fn next_row(table: &[u32], row: usize, levels: usize) -> usize
+    ensures { λ r. ⌜ PassesType levels (now (table .entry)) row r ⌝ }
+{
+    if levels == 0 {
+        return row;
+    }
+    let entry = row_entry(table, row);
+    match entry {
+        Entry::Unknown => row,
+        Entry::Leaf(_, _, _, _) => row + 1,
+        Entry::Compound(_, count) => next_member_row(table, row + 1, count, levels - 1),
+        Entry::Enumeration(_, count) => {
+            let base = next_row(table, row + 1, levels - 1);
+            behind_enum_members(table, base, count)
+        }
+        Entry::VariableLength(_, _, _) => next_row(table, row + 1, levels - 1),
+        Entry::Array(_) => next_row(table, row + 1, levels - 1),
+    }
+}
+
+// The row behind so many members of a compound.
+fn next_member_row(table: &[u32], row: usize, count: u32, levels: usize) -> usize
+    ensures { λ r. ⌜ PassesMembers levels (now (table .entry)) row count r ⌝ }
+{
+    let mut r = row;
+    let mut left = count;
+    while left > 0 {
+        let member = row_member(table, r);
+        let Member::Named(_, _) = member else {
+            return r;
+        };
+        r = next_row(table, r + 1, levels);
+        left -= 1;
+    }
+    r
+}
+
+fn wide(word: u32) -> usize
+    ensures { λ r. ⌜ (r ≡ word) × (r < 4294967296) ⌝ }
+{
+    word as usize
+}
+
+// A size times the dimensions of an array that is known, as `scaled` gives it: its row says where they lie in the pool.
+pub fn array_total(table: &[u32], pool: &[u8], row: usize, rank: u32, size: u32) -> u64
+    requires { ⌜ row * 16 + 16 ≤ length (now table) ⌝ }
+    ensures { λ r. ⌜ TotalAt (now (table .entry)) (now (pool .entry)) row rank size r ⌝ }
+{
+    let place = wide(table[row * 16 + 2]);
+    if pool.len() < place + (rank as usize) * 4 {
+        return 0;
+    }
+    scaled(pool, place, rank, size)
+}
+
+// The size of the type at a row that is known, with so many levels left; no row is tested. Costs a step for each array above one another.
+pub fn size_at(table: &[u32], pool: &[u8], row: usize, levels: usize) -> u32
+    ensures { λ r. ⌜ SizedAt levels (now (table .entry)) (now (pool .entry)) row r ⌝ }
+{
+    if levels == 0 {
+        return 0;
+    }
+    let entry = row_entry(table, row);
+    match entry {
+        Entry::Unknown => 0,
+        Entry::Leaf(_, size, _, _) => size,
+        Entry::Compound(size, _) => size,
+        Entry::Enumeration(size, _) => size,
+        Entry::VariableLength(_, _, _) => 16,
+        Entry::Array(rank) => {
+            let base = size_at(table, pool, row + 1, levels - 1);
+            capped(array_total(table, pool, row, rank, base))
+        }
+    }
 }
 
 fn leaf_survey(row: usize, place: usize, class: u32, size: u32, length: u32, code: u32) -> Survey

@@ -13,6 +13,6 @@ returns-2 c = entry-tested _ _ _ _ (c .before .row-entry .ensures) (c .entry-if 
 pub entry-at-spec : {M : Type 1} → statement M
 entry-at-spec =
     tie.close (tie.spec returns (λ c κs. search needs)  -- row-known-requires
- (λ c κs. search needs)  -- row-entry-requires
- (λ c κs. search needs)  -- entry-if-requires
- returns-2)
+    (λ c κs. search needs)  -- row-entry-requires
+    (λ c κs. search needs)  -- entry-if-requires
+    returns-2)

@@ -9,6 +9,6 @@ returns c = known-again _ _ _ _ (c .before .before .row-entry .ensures) (c .entr
 pub known-entry-at-spec : {M : Type 1} → statement M
 known-entry-at-spec =
     tie.close (tie.spec (λ c κs. search needs)  -- row-entry-requires
- (λ c κs. search needs)  -- entry-fits-requires
- (λ c κs. search needs)  -- entry-if-requires
- returns)
+    (λ c κs. search needs)  -- entry-fits-requires
+    (λ c κs. search needs)  -- entry-if-requires
+    returns)

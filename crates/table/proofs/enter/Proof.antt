@@ -11,7 +11,7 @@ returns : tie.Need-returns
 returns c =
     let d = c .before .args .path .depth in
     let e : d + 1 - 1 ≡ d = omega arith in
-    (refl, ap (λ (k : ℕ). getD (set (c .before .args .path .rows) d (c .before .args .row)) k 0) e ∙ getD-set-same (c .before .args .path .rows) d _ 0 (search needs))
+    record { rows-are = refl; deeper = refl; top = ap (λ (k : ℕ). getD (set (c .before .args .path .rows) d (c .before .args .row)) k 0) e ∙ getD-set-same (c .before .args .path .rows) d _ 0 (search needs) }
 
 pub enter-spec : {M : Type 1} → statement M
 enter-spec = tie.close
