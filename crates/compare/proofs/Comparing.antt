@@ -3,7 +3,6 @@ use Prim.Native.Nat.{ℕ, suc, _+_, _-_}
 use mathlib.Core.Path.{_≡_, refl, sym, ap, _∙_}
 use mathlib.Core.Bool.{Bool, true, false}
 use mathlib.Core.List.{List}
-use mathlib.Core.Logic.{_⊎_, inl, inr, ⊎-elim}
 use mathlib.Core.Option.{Option, none, some}
 use native.Mathlib.Omega.{arith}
 use lib.ListN.{length}
@@ -12,21 +11,21 @@ use mir.Val.{Fits}
 use Rattle.refusal.specs.declared.Refusal.the-variants.{BadTable, ZeroSize, OutsideRecord, HeapHeld, WrongLength}
 use Rattle.format.specs.Datatype.{Datatype, typeSize}
 use Rattle.format.specs.Outcome.{Outcome, gives, refuses, outcomeNumber, outcomeValues}
-use Rattle.format.specs.Image.{fieldsOf, agree, FieldsAgree, FieldsDiffer}
+use Rattle.format.specs.Image.{fieldsOf, agree}
 use Rattle.format.specs.Ownership.{outside, heapHeld, comparing}
 use Rattle.format.specs.Slots.{firstZero}
-use Rattle.format.specs.Table.{Found, found, bad, typeAt}
+use Rattle.format.specs.Table.{found, typeAt}
 use Rattle.format.proofs.Ownership.{comparing-refused, comparing-zero, comparing-outside, comparing-heap, comparing-length, comparing-records}
 use Rattle.format.proofs.Same.{owned-agree}
+use Rattle.format.proofs.Table.{type-found}
 use Rattle.format.proofs.Walking.{moved-none, walked-same, walked-differs}
 use Rattle.table.specs.Survey.{zeroCode, Sets, Checks}
 use Rattle.table.specs.declared.Survey.{Survey}
 use Rattle.table.specs.declared.Checked.{Checked}
 use Rattle.table.specs.declared.Checked.the-variants.{Bad}
-use Rattle.table.specs.declared.Spot.{Spot}
 use Rattle.table.proofs.Surveys.{Says, told, Told, zero-code}
 use Rattle.table.proofs.ZeroClass.{zero-low}
-use Rattle.compare.specs.Agreeing.{equalRange, Answers, Agrees, SameFields, comparisonNumber, comparisonValues, comparisonOf, sameOrDiffers, Compares}
+use Rattle.compare.specs.Agreeing.{equalRange, Answers, Agrees, AgreesAt, Admits, comparisonNumber, comparisonValues, comparisonOf, sameOrDiffers, Compares}
 use Rattle.compare.specs.declared.Agreed.{Agreed}
 use Rattle.compare.specs.declared.Agreed.the-variants.{Apart, Together, Lost}
 use Rattle.compare.specs.declared.Comparison.{Comparison}
@@ -38,26 +37,38 @@ unfolding zeroCode
 some-zero none h = absurd (h refl)
 some-zero (some c) h = let e : suc c - 1 ≡ c = omega arith in rw e
 
--- ---- the walk over the fields
+-- ---- the walk behind the check
 
-module _ (y : Found Datatype) (a b : List ℕ) (got : Agreed) (w : Agrees y a b 0 got) where
-  fields : (x : Comparison)
-      → ((t : Datatype) (next : Spot) → Answers (fieldsOf t) a b next got → ((x ≡ Same) × FieldsAgree (fieldsOf t) a b) ⊎ ((x ≡ Differs) × FieldsDiffer (fieldsOf t) a b))
-      → SameFields y a b x
-  fields x h = go y w
-    where
-      go : (y : Found Datatype) → Agrees y a b 0 got → SameFields y a b x
-      go (found t r p) v = unfold SameFields Agrees in λ d l. h t (record { row = r; place = p }) (rw (moved-none (fieldsOf t)) at (v d (omega arith)))
-      go bad v = unfold SameFields in tt
+module _ (table pool a b : List ℕ) (g : Admits table pool (length a)) (lb : length b ≡ length a) where
+  abbrev t : Datatype
+  t = g .type
 
-  pub fields-together : {next : Spot} → got ≡ Together next → SameFields y a b Same
-  fields-together {next = next} e = fields Same (λ t n v. inl (refl, v .together next e .0))
+  given : (c : Bool) → agree t a b ≡ c → comparing table pool a b ≡ gives c
+  given c e =
+      comparing-records table pool a b t (g .is) (g .admitted .sized) (g .admitted .inside) (g .admitted .plain) (g .size-is) (lb ∙ g .size-is) ∙ ap gives e
 
-  pub fields-apart : got ≡ Apart → SameFields y a b Differs
-  fields-apart e = fields Differs (λ t n v. inr (refl, v .apart e))
+  pub records-equal : {r : Bool} → r ≡ equalRange a b 0 (length a) → r ≡ true → comparing table pool a b ≡ gives true
+  records-equal q w =
+      given true (owned-agree t a b (λ i l o.
+      let j : 0 + i ≡ i = omega arith in
+      rw j at (range-says a b 0 (length a) (sym q ∙ w) i (omega (arith, g .size-is)))))
 
-  pub fields-lost : (r : Comparison) → got ≡ Lost → SameFields y a b r
-  fields-lost r e = fields r (λ t n v. absurd (v .kept e))
+  module _ (got : Agreed) (w : AgreesAt 32 table pool 0 a b 0 got) where
+    -- what the walk answers of the type that is set out
+    answers : (next : ℕ) × Answers (fieldsOf t) a b next got
+    unfolding Agrees
+    answers =
+        let f = type-found table pool t (g .is) in
+        (f .row, rw (moved-none (fieldsOf t)) at (rw (f .is) at (w .agrees 0) (g .admitted) (omega (arith, g .size-is))))
+
+    pub records-together : {next : ℕ} → got ≡ Together next → comparing table pool a b ≡ gives true
+    records-together {next = next} e = given true (walked-same t a b (answers .1 .together next e .0))
+
+    pub records-apart : got ≡ Apart → comparing table pool a b ≡ gives false
+    records-apart e = given false (walked-differs t a b (g .admitted .inside) (answers .1 .apart e))
+
+    pub records-lost : (c : Bool) → got ≡ Lost → comparing table pool a b ≡ gives c
+    records-lost c e = absurd (answers .1 .kept e)
 
 -- ---- the ways out
 
@@ -71,6 +82,16 @@ compares (refuses x) e = record { answer = e; number = ap comparisonNumber e; va
 pub same-bad : (table pool a b : List ℕ) {x : Checked} → Checks table pool x → x ≡ Bad → Compares (comparing table pool a b) (Refused BadTable)
 unfolding comparisonOf
 same-bad table pool a b h e = compares _ (rw (comparing-refused table pool a b BadTable (h .bad-table e)))
+
+-- by the walk behind the check
+module _ (table pool a b : List ℕ) {r : Bool} (q : comparing table pool a b ≡ gives r) where
+  pub same-same : r ≡ true → Compares (comparing table pool a b) Same
+  unfolding comparisonOf
+  same-same e = compares _ (rw (q, e))
+
+  pub same-differs : r ≡ false → Compares (comparing table pool a b) Differs
+  unfolding comparisonOf
+  same-differs e = compares _ (rw (q, e))
 
 -- the check found a type, and a survey of it
 module _ (table pool : List ℕ) {s : Survey} (g : Sets table pool s) where
@@ -125,24 +146,5 @@ module _ (table pool : List ℕ) {s : Survey} (g : Sets table pool s) where
           same-length-b n = wrong (λ la lb. n lb)
 
           module _ (la : length a ≡ s .size) (lb : length b ≡ s .size) where
-            given : comparing table pool a b ≡ gives (agree (g .type) a b)
-            given = comparing-records table pool a b (g .type) (g .is) sized (outside-is o) (heap-is p) (la ∙ size-is) (lb ∙ size-is)
-
-            answered : (c : Bool) → agree (g .type) a b ≡ c → Compares (comparing table pool a b) (comparisonOf (gives c))
-            answered c e = compares _ (rw (given, e))
-
-            pub same-equal : {r : Bool} → r ≡ equalRange a b 0 (s .size) → r ≡ true → Compares (comparing table pool a b) Same
-            unfolding comparisonOf
-            same-equal q t =
-                answered true (owned-agree (g .type) a b (λ i l w.
-                let j : 0 + i ≡ i = omega arith in
-                rw j at (range-says a b 0 (s .size) (sym q ∙ t) i (omega (arith, size-is)))))
-
-            -- by the walk over its fields
-            pub same-walked : {r : Comparison} → SameFields (typeAt 32 table pool 0 0) a b r → Compares (comparing table pool a b) r
-            unfolding SameFields comparisonOf
-            same-walked w =
-                ⊎-elim
-                (λ u. rw (u .0) (answered true (walked-same (g .type) a b (u .1))))
-                (λ u. rw (u .0) (answered false (walked-differs (g .type) a b (outside-is o) (u .1))))
-                (rw (g .stands) at w (record { sized = sized; inside = outside-is o; plain = heap-is p }) (omega (arith, size-is)))
+            pub same-admitted : Admits table pool (length a)
+            same-admitted = record { type = g .type; is = g .is; admitted = record { sized = sized; inside = outside-is o; plain = heap-is p }; size-is = la ∙ size-is }

@@ -14,7 +14,6 @@ use Rattle.rows.specs.declared.Entry.{Entry}
 use Rattle.rows.specs.declared.Entry.the-variants.{Leaf, Compound, Enumeration, VariableLength, Array, Unknown}
 use Rattle.rows.proofs.Known.{claim-of-type}
 use Rattle.rows.proofs.Leaves.{leaf-law}
-use Rattle.table.specs.declared.Spot.{Spot}
 use Rattle.compare.specs.Agreeing.{nulTerminated, fieldAt, isField, isString, Agrees, AgreesField}
 use Rattle.compare.specs.declared.Agreed.{Agreed}
 
@@ -88,7 +87,7 @@ field-moved : (at n : ℕ) (e : Bool) → moveFields at (fieldAt 0 n e ∷ []) �
 unfolding moveFields moveField
 field-moved at n e = let q : at + 0 ≡ at = omega arith in rw q
 
-pub field-agrees : (t : Datatype) (r p n : ℕ) (e : Bool) (a b : List ℕ) (at : ℕ) (next : Spot) (x : Agreed) → IsField t n e → next ≡ record { row = r; place = p }
+pub field-agrees : (t : Datatype) (r p n : ℕ) (e : Bool) (a b : List ℕ) (at next : ℕ) (x : Agreed) → IsField t n e → next ≡ r
     → AgreesField n e a b at next x → Agrees (found t r p) a b at x
 unfolding Agrees AgreesField
 field-agrees t r p n e a b at next x w q h d l = rw (← q, w .fields, field-moved at n e) (h (omega (arith, w .size)))

@@ -16,7 +16,6 @@ use Rattle.format.proofs.Image.{no-nul-if, counted-if, owned-if}
 use Rattle.format.proofs.Walking.{agree-none, agree-both, entry-walked, entry-differs, counted-one, field-equal, field-ended, field-apart}
 use Rattle.format.proofs.Booleans.{and-both, and-either, true-or-false}
 use Rattle.rows.proofs.Zeros.{or-is-zero, xor-is-zero}
-use Rattle.table.specs.declared.Spot.{Spot}
 use Rattle.compare.specs.Agreeing.{equalRange, Equal, Common, fieldAt, Answers, AgreesField, AgreesStrings, AgreesFields, StringSame}
 use Rattle.compare.specs.declared.Agreed.{Agreed}
 use Rattle.compare.specs.declared.Base.{Base}
@@ -107,7 +106,7 @@ whole-differs a b at n i l m z =
 -- ---- answers
 
 module _ {fs : List Field} {a b : List ℕ} where
-  pub answers-together : {next : Spot} → FieldsAgree fs a b → Answers fs a b next (Together next)
+  pub answers-together : {next : ℕ} → FieldsAgree fs a b → Answers fs a b next (Together next)
   answers-together h =
       record {
         together = λ s e. (h, cc);
@@ -115,7 +114,7 @@ module _ {fs : List Field} {a b : List ℕ} where
         kept = λ e. let z : _≡_ {A = ℕ} 0 1 = cc in omega arith;
       }
 
-  pub answers-apart : {next : Spot} → FieldsDiffer fs a b → Answers fs a b next Apart
+  pub answers-apart : {next : ℕ} → FieldsDiffer fs a b → Answers fs a b next Apart
   answers-apart d =
       record {
         together = λ s e. let z : _≡_ {A = ℕ} 0 1 = cc in absurd (omega arith);
@@ -124,7 +123,7 @@ module _ {fs : List Field} {a b : List ℕ} where
       }
 
   -- of fields that count the same places
-  pub answers-as : {gs : List Field} {next : Spot} {x : Agreed} → ((r : List ℕ) (i : ℕ) → countedIn gs r i ≡ countedIn fs r i) → Answers fs a b next x → Answers gs a b next x
+  pub answers-as : {gs : List Field} {next : ℕ} {x : Agreed} → ((r : List ℕ) (i : ℕ) → countedIn gs r i ≡ countedIn fs r i) → Answers fs a b next x → Answers gs a b next x
   answers-as e h =
       record {
         together = λ s q. let w = h .together s q in (record { equal = λ i o. w .0 .equal i (sym (e a i) ∙ o) }, w .1);
@@ -197,7 +196,7 @@ module _ (s : List ℕ) (at n : ℕ) where
 
 -- ---- a field's bytes
 
-module _ (n : ℕ) (a b : List ℕ) (at : ℕ) (next : Spot) where
+module _ (n : ℕ) (a b : List ℕ) (at next : ℕ) where
   pub field-past : (e : Bool) (x : Agreed) → length a - at < n → AgreesField n e a b at next x
   unfolding AgreesField
   field-past e x h l = absurd (omega arith)
@@ -236,7 +235,7 @@ module _ (n : ℕ) (a b : List ℕ) (at k : ℕ) (w : Common a b at n k) where
     string-by-nul z = record { same = nul-equal; differs = no-nul-apart z }
 
     -- a leaf that is one
-    module _ (next : Spot) {ended t : Bool} (u : t ≡ ended) (y : t ≡ true) where
+    module _ (next : ℕ) {ended t : Bool} (u : t ≡ ended) (y : t ≡ true) where
       pub leaf-ended : r ≡ true → AgreesField n ended a b at next (Together next)
       leaf-ended h = rw (← u, y) (unfold AgreesField in λ l. answers-together (nul-equal h))
 
@@ -246,11 +245,11 @@ module _ (n : ℕ) (a b : List ℕ) (at k : ℕ) (w : Common a b at n k) where
   pub string-equal : k ≡ n → StringSame a b at n true
   string-equal h = record { same = λ e. all-equal true h; differs = λ e. absurd (false≢true (sym e)) }
 
-  pub leaf-equal : (next : Spot) (e : Bool) → k ≡ n → AgreesField n e a b at next (Together next)
+  pub leaf-equal : (next : ℕ) (e : Bool) → k ≡ n → AgreesField n e a b at next (Together next)
   unfolding AgreesField
   leaf-equal next e h l = answers-together (all-equal e h)
 
-  pub leaf-apart : (next : Spot) {ended t : Bool} → t ≡ ended → t ≡ false → (k ≡ n → ⊥) → AgreesField n ended a b at next Apart
+  pub leaf-apart : (next : ℕ) {ended t : Bool} → t ≡ ended → t ≡ false → (k ≡ n → ⊥) → AgreesField n ended a b at next Apart
   leaf-apart next u y z =
       rw (← u, y) (unfold AgreesField in λ l. answers-apart (field-apart (fieldAt at n false) a b k (w .so-far .equal) (not-all z) (w .differs (not-all z)) (λ g. absurd (false≢true g))))
 
@@ -268,7 +267,7 @@ module _ (n count : ℕ) (a b : List ℕ) (at : ℕ) where
   strings-start h = record { within = omega arith; here = omega arith; begins = h; same = unfold fieldEntries moveFields in agree-none }
 
   module _ (k start : ℕ) (w : SameTo n count a b at k start) where
-    pub strings-end : (next : Spot) → count ≤ k → AgreesStrings n count a b at next (Together next)
+    pub strings-end : (next : ℕ) → count ≤ k → AgreesStrings n count a b at next (Together next)
     unfolding AgreesStrings
     strings-end next h l = let e : k ≡ count = omega (arith, w .within) in answers-together (rw e at (w .same))
 
@@ -278,12 +277,12 @@ module _ (n count : ℕ) (a b : List ℕ) (at : ℕ) where
     here-moved = let e : at + k * n + 0 ≡ start = omega (arith, w .here) in rw e
 
     module _ (some-left : k < count) where
-      pub strings-past : (next : Spot) (x : Agreed) → length a - start < n → AgreesStrings n count a b at next x
+      pub strings-past : (next : ℕ) (x : Agreed) → length a - start < n → AgreesStrings n count a b at next x
       unfolding AgreesStrings
       strings-past next x h l = absurd (omega (arith, w .here, mul-le-mul-right n some-left, suc-mul k n))
 
       module _ {r : Bool} (s : StringSame a b start n r) where
-        pub strings-apart : (next : Spot) → r ≡ false → AgreesStrings n count a b at next Apart
+        pub strings-apart : (next : ℕ) → r ≡ false → AgreesStrings n count a b at next Apart
         unfolding AgreesStrings
         strings-apart next h l = answers-apart (entry-differs a b at n (fieldAt 0 n true ∷ []) k count some-left (rw here-moved (s .differs h)))
 
@@ -299,9 +298,9 @@ module _ (n count : ℕ) (a b : List ℕ) (at : ℕ) where
 
 -- ---- an array of a field
 
-module _ (v : Base) (a b : List ℕ) (at : ℕ) (x : Agreed) {string c : Bool} (e : c ≡ string) where
-  pub fields-strings : c ≡ true → AgreesStrings (v .stride) (v .count) a b at (v .next) x → AgreesFields string v a b at x
+module _ (v : Base) (a b : List ℕ) (at next : ℕ) (x : Agreed) {string c : Bool} (e : c ≡ string) where
+  pub fields-strings : c ≡ true → AgreesStrings (v .stride) (v .count) a b at next x → AgreesFields string v a b at next x
   fields-strings t h = rw (← e, t) (unfold AgreesFields in h)
 
-  pub fields-range : c ≡ false → AgreesField (v .bytes) false a b at (v .next) x → AgreesFields string v a b at x
+  pub fields-range : c ≡ false → AgreesField (v .bytes) false a b at next x → AgreesFields string v a b at next x
   fields-range f h = rw (← e, f) (unfold AgreesFields in h)

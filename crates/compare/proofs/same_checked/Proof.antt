@@ -1,4 +1,4 @@
-use Rattle.compare.proofs.Comparing.{zero-fits, same-zero, same-outside, same-heap, same-length, same-length-b, same-equal, same-walked}
+use Rattle.compare.proofs.Comparing.{zero-fits, same-zero, same-outside, same-heap, same-length, same-length-b, same-admitted, same-same, same-differs}
 use borrow.Author.Needs.{needs}
 use Rattle.compare.proofs.same_checked.Statement.{statement}
 use Rattle.compare.proofs.same_checked.Tie as tie
@@ -21,11 +21,14 @@ returns-4 c = search same-length
 returns-5 : tie.Need-returns-5
 returns-5 c = search same-length-b
 
+same-records-requires : tie.Need-same-records-requires
+same-records-requires c κs = search (same-admitted, needs)
+
 returns-6 : tie.Need-returns-6
-returns-6 c = search same-equal
+returns-6 c = search same-same
 
 returns-7 : tie.Need-returns-7
-returns-7 c = search same-walked
+returns-7 c = search same-differs
 
 pub same-checked-spec : {M : Type 1} → statement M
 same-checked-spec =
@@ -39,7 +42,6 @@ same-checked-spec =
     (λ c. search needs)  -- cast-size
     returns-4
     returns-5
-    (λ c κs. search needs)  -- equal-range-requires
+    same-records-requires
     returns-6
-    (λ c κs. search needs)  -- same-fields-requires
     returns-7)
