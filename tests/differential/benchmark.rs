@@ -12,7 +12,7 @@ mod flat;
 mod message_type;
 mod walk;
 
-use datatype::{CharacterSet, CompoundMember, Datatype, DatatypeByteOrder, StringPadding};
+use datatype::{CharacterSet, CompoundMember, Datatype, DatatypeByteOrder, EnumMember, ReferenceType, StringPadding};
 use datatype_message as library;
 use flat::Flat;
 use std::hint::black_box;
@@ -60,6 +60,15 @@ fn nested(members: usize, stride: u32) -> Datatype {
 /// 300 names of 4 to 12 letters in 16 bytes each, a NUL behind the name, and behind that what the memory had.
 fn names(leftover: u8) -> Vec<u8> {
     (0..300).flat_map(|i| (0..16).map(move |k| if k < 4 + i % 9 { b'a' + ((i + k) % 26) as u8 } else if k == 4 + i % 9 { 0 } else { leftover })).collect()
+}
+
+/// An array of 100,000 entries of a compound of a size, which has an enumeration of so many names in its first byte, a gap behind it, and what else
+/// is given.
+fn entries(names: u16, size: u32, mut members: Vec<CompoundMember>) -> Datatype {
+    let list = (0..names).map(|i| EnumMember { name: format!("n{i}"), value: vec![i as u8] }).collect();
+    let stops = Datatype::Enumeration { size: 1, base_type: Box::new(number(1)), members: list };
+    members.insert(0, CompoundMember { name: "stops".into(), byte_offset: 0, datatype: stops });
+    Datatype::Array { base_type: Box::new(Datatype::Compound { size, members }), dimensions: vec![100_000] }
 }
 
 /// Nanoseconds a call, of two calls timed in turn: the least of the batches of each.
@@ -147,4 +156,23 @@ fn main() {
         let (again, loaded) = times(|| drop(black_box(library::same(&table, &pool, black_box(&a), &b))), || drop(black_box(equal_by_16(black_box(&a), black_box(&b)))));
         println!("| same, loads of 16 bytes | array of {size} equal bytes | 0 | {again:.0}, its checks {checks:.0} | {loaded:.0} | {:.2}, without the checks {:.2} |", again / loaded, (again - checks) / loaded);
     }
+    // an enumeration of 4,000 names inside an array beside one of 1: names are passed by their number, not for each entry
+    let [(many, few), (many_pointed, few_pointed)] = [vec![], vec![CompoundMember { name: "points".into(), byte_offset: 8, datatype: Datatype::Reference { size: 8, ref_type: ReferenceType::Object } }]]
+        .map(|members| (entries(4000, if members.is_empty() { 2 } else { 16 }, members.clone()), entries(1, if members.is_empty() { 2 } else { 16 }, members)));
+    let [many, few, many_pointed, few_pointed] = [many, few, many_pointed, few_pointed].map(|t| {
+        let rows = Flat::of(&t);
+        (rows.words(), rows.pool.clone())
+    });
+    let (a, b) = (vec![1u8; 200_000], (0..200_000).map(|i| 1 + i as u8 % 2).collect::<Vec<u8>>());
+    assert_eq!(library::same(&many.0, &many.1, &a, &b), Ok(true));
+    line("same with 4,000 names, with 1", "array of 100,000 entries with an enumeration", 1, times(|| drop(black_box(library::same(&many.0, &many.1, black_box(&a), &b))), || drop(black_box(library::same(&few.0, &few.1, black_box(&a), &b)))));
+    let mut slots = vec![0; 100_000];
+    let mut again = slots.clone();
+    assert_eq!(library::embedded_reference_slots(&many_pointed.0, &many_pointed.1, &mut slots), Ok(100_000));
+    line(
+        "slots with 4,000 names, with 1",
+        "array of 100,000 entries with an enumeration",
+        2,
+        times(|| drop(black_box(library::embedded_reference_slots(&many_pointed.0, &many_pointed.1, black_box(&mut slots)))), || drop(black_box(library::embedded_reference_slots(&few_pointed.0, &few_pointed.1, black_box(&mut again))))),
+    );
 }
