@@ -11,7 +11,9 @@ use slots::Slots;
 use slots::embedded_reference_slots;
 use table::Held;
 use table::Sized;
+use table::Using;
 use table::element_size;
+use table::extent;
 use table::name_part;
 use table::type_size;
 use writer::Writing;
@@ -22,7 +24,7 @@ ghost use Prim.Native.Nat.{min};
 ghost use lib.ListN.{length, getD};
 ghost use Rattle.refusal.specs.Refusal.{numberOf, valuesOf};
 ghost use Rattle.format.specs.Message.{writing};
-ghost use Rattle.format.specs.Outcome.{outputAfter, outcomeNumber, outcomeValues};
+ghost use Rattle.format.specs.Outcome.{outputAfter, outcomeNumber, outcomeValues, outcomeList};
 ghost use Rattle.format.specs.Ownership.{comparing};
 ghost use Rattle.format.specs.Reading.{reading, tableAfter, poolAfter};
 ghost use Rattle.format.specs.Sizes.{sizing, elementSizing, classMayHoldObjectAddress, objectAddressHeld, fileAddressHeld};
@@ -32,6 +34,7 @@ ghost use Rattle.writer.specs.Writes.{writingNumber, writingValues};
 ghost use Rattle.compare.specs.Agreeing.{comparisonNumber, comparisonValues, sameOrDiffers};
 ghost use Rattle.table.specs.Survey.{sizedNumber, sizedValues, heldNumber, heldValues, yesOrNo};
 ghost use Rattle.table.specs.Names.{nameOf, namePlace};
+ghost use Rattle.table.specs.Extent.{extending, extentValues, usingNumber, usingValues};
 ghost use Rattle.slots.specs.Slots.{slotsNumber, slotsValues};
 ghost use Rattle.references.specs.References.{referencesNumber, referencesValues, placesAfter, valuesAfter};
 ghost use Rattle.abi.specs.Answers.{Tells};
@@ -51,6 +54,17 @@ fn given(first: u64) -> Answer
         number: 0,
         first: first,
         second: 0,
+    }
+}
+
+// A result of two values.
+fn given_two(first: u64, second: u64) -> Answer
+    ensures { λ r. ⌜ Tells 0 (first ∷ second ∷ []) r ⌝ }
+{
+    Answer {
+        number: 0,
+        first: first,
+        second: second,
     }
 }
 
@@ -110,6 +124,15 @@ fn of_held(answer: Held) -> Answer
         Held::Yes => given(1),
         Held::No => given(0),
         Held::Refused(e) => refused(e),
+    }
+}
+
+fn of_using(answer: Using) -> Answer
+    ensures { λ r. ⌜ Tells (usingNumber answer) (usingValues answer) r ⌝ }
+{
+    match answer {
+        Using::Used(rows, bytes) => given_two(rows as u64, bytes as u64),
+        Using::Refused(e) => refused(e),
     }
 }
 
@@ -225,6 +248,24 @@ pub extern "C" fn datatype_element_size(
     ensures second { λ _. ⌜ now (second .exit) ≡ getD (outcomeValues (λ n. n) (elementSizing (now (table .entry)) (now (pool .entry)))) 1 0 ⌝ }
 {
     let answer = of_sized(element_size(table, pool));
+    *first = answer.first;
+    *second = answer.second;
+    answer.number
+}
+
+// `extent`. first: the rows, second: the pool bytes that the type uses.
+#[no_mangle]
+pub extern "C" fn datatype_extent(
+    table: &[u32],
+    pool: &[u8],
+    first: &mut u64,
+    second: &mut u64,
+) -> u32
+    ensures number { λ r. ⌜ r ≡ outcomeNumber (extending (now (table .entry)) (now (pool .entry))) ⌝ }
+    ensures first { λ _. ⌜ now (first .exit) ≡ getD (outcomeList extentValues (extending (now (table .entry)) (now (pool .entry)))) 0 0 ⌝ }
+    ensures second { λ _. ⌜ now (second .exit) ≡ getD (outcomeList extentValues (extending (now (table .entry)) (now (pool .entry)))) 1 0 ⌝ }
+{
+    let answer = of_using(extent(table, pool));
     *first = answer.first;
     *second = answer.second;
     answer.number

@@ -36,3 +36,8 @@ outcomeNumber (refuses e) = numberOf e
 unfoldable pub outcomeValues : {A : Type 0} → (A → ℕ) → Outcome A → List ℕ
 outcomeValues value (gives x) = value x ∷ []
 outcomeValues value (refuses e) = valuesOf e
+
+-- the same for a result of several values
+unfoldable pub outcomeList : {A : Type 0} → (A → List ℕ) → Outcome A → List ℕ
+outcomeList values (gives x) = values x
+outcomeList values (refuses e) = valuesOf e

@@ -5,3 +5,4 @@ pub mod Answers
 pub mod Naming
 pub mod ZeroClass
 pub mod Passing
+pub mod Extents

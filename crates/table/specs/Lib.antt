@@ -2,3 +2,4 @@ pub mod Survey
 pub mod Names
 pub mod Path
 pub mod Known
+pub mod Extent

@@ -25,6 +25,7 @@ ghost use Rattle.table.specs.Path.{Entered};
 ghost use Rattle.table.specs.Known.{PassesNames, PassesType, PassesMembers, TotalAt, SizedAt};
 ghost use Rattle.table.specs.Survey.{surveyOf, surveyIn, leafSurvey, enumerationSurvey, variableSurvey, arraySurvey, enumSpotOf, endsAt, Checks, firstOf, zeroNote, SizedAs, HeldAs};
 ghost use Rattle.table.specs.Names.{nameOf, namePlace, further, PartIs};
+ghost use Rattle.table.specs.Extent.{extending, UsedAs};
 ghost use denote.Ref.{ptr};
 
 // What a walk over a type finds: the next row and pool place, the size, 1 + the class of the first row of size 0 or 0 where there is none,
@@ -67,6 +68,12 @@ pub enum Checked {
 // The answer of `type_size` and `element_size`.
 pub enum Sized {
     Size(u32),
+    Refused(Refusal),
+}
+
+// The answer of `extent`: how many rows and pool bytes.
+pub enum Using {
+    Used(usize, usize),
     Refused(Refusal),
 }
 
@@ -639,4 +646,16 @@ pub fn member_name<'a>(table: &[u32], pool: &'a [u8], row: usize) -> &'a [u8]
     let from = part.place;
     let to = from + part.length;
     &pool[from..to]
+}
+
+// How many rows and pool bytes the type uses: a table and pool cut to them set out the same type, and each call on them has no zeros behind
+// it to look at. Refused: BadTable. Cost: as `type_size`.
+pub fn extent(table: &[u32], pool: &[u8]) -> Using
+    ensures { λ r. ⌜ UsedAs (extending (now (table .entry)) (now (pool .entry))) r ⌝ }
+{
+    let checked = check(table, pool);
+    match checked {
+        Checked::Bad => Using::Refused(Refusal::BadTable),
+        Checked::Good(s) => Using::Used(s.row, s.place),
+    }
 }

@@ -4,24 +4,6 @@ use borrow.Author.Needs.{needs}
 use Rattle.abi.proofs.of_held.Statement.{statement}
 use Rattle.abi.proofs.of_held.Tie as tie
 
-enum-told : tie.Need-enum-told
-enum-told c = search needs
-
-given-requires : tie.Need-given-requires
-given-requires c κs = search needs
-
-enum-told-2 : tie.Need-enum-told-2
-enum-told-2 c = search needs
-
-given-requires-2 : tie.Need-given-requires-2
-given-requires-2 c κs = search needs
-
-enum-known-answer : tie.Need-enum-known-answer
-enum-known-answer c = search needs
-
-refused-requires : tie.Need-refused-requires
-refused-requires c κs = search needs
-
 returns : tie.Need-returns
 unfolding heldNumber heldValues
 returns c = tells-as heldNumber heldValues (c .before .enum-told .given .1) (c .given .ensures)
@@ -38,12 +20,12 @@ pub of-held-spec : {M : Type 1} → statement M
 of-held-spec =
     tie.close
     (tie.spec
-    enum-told
-    given-requires
-    enum-told-2
-    given-requires-2
-    enum-known-answer
-    refused-requires
+    (λ c. search needs)  -- enum-told
+    (λ c κs. search needs)  -- given-requires
+    (λ c. search needs)  -- enum-told-2
+    (λ c κs. search needs)  -- given-requires-2
+    (λ c. search needs)  -- enum-known-answer
+    (λ c κs. search needs)  -- refused-requires
     returns
     returns-2
     returns-3)
