@@ -2,6 +2,11 @@
 mod messages;
 
 fn main() {
+    if command::helped(
+        b"usage: cases\nRuns worked cases of reading and writes what each gives.\n",
+    ) {
+        return;
+    }
     messages::document_cases();
     messages::row_and_level_cases();
     messages::short_cases();

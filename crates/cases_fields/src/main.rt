@@ -3,6 +3,11 @@ mod listings;
 mod refusals;
 
 fn main() {
+    if command::helped(
+        b"usage: cases_fields\nRuns worked cases of the listing that fields prints and writes what each gives.\n",
+    ) {
+        return;
+    }
     listings::type_cases();
     listings::depth_case();
     listings::refused_cases();

@@ -2,6 +2,11 @@
 mod stop_names;
 
 fn main() {
+    if command::helped(
+        b"usage: cases_names\nRuns worked cases of comparing names and writes what each gives.\n",
+    ) {
+        return;
+    }
     stop_names::array_cases();
     stop_names::two_names_cases();
     stop_names::whole_cases();

@@ -3,6 +3,11 @@ mod records;
 mod tables;
 
 fn main() {
+    if command::helped(
+        b"usage: cases_records\nRuns worked cases of comparing records and writes what each gives.\n",
+    ) {
+        return;
+    }
     records::gap_cases();
     records::overlap_cases();
     records::enumeration_cases();

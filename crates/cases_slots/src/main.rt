@@ -3,6 +3,11 @@ mod calls;
 mod types;
 
 fn main() {
+    if command::helped(
+        b"usage: cases_slots\nRuns worked cases of sizes, slots, references and member names and writes what each gives.\n",
+    ) {
+        return;
+    }
     types::slot_cases();
     types::unmapped_cases();
     types::reference_cases();

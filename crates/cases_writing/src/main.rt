@@ -3,6 +3,11 @@ mod calls;
 mod types;
 
 fn main() {
+    if command::helped(
+        b"usage: cases_writing\nRuns worked cases of writing and reading back and writes what each gives.\n",
+    ) {
+        return;
+    }
     types::editions_of_p();
     types::editions_of_an_array();
     types::p_read_back();

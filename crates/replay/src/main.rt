@@ -5,6 +5,12 @@ mod files;
 mod lines;
 
 fn main() {
+    if command::helped(
+        b"usage: replay FILE FILE\n\
+Runs two files of samples and writes for each whether the library answers as the file says.\n",
+    ) {
+        return;
+    }
     replay(1);
     replay(2);
 }

@@ -1,17 +1,18 @@
 -- Laws of the answer, by what the calls answer.
-use Prim.Native.Nat.{ℕ, _<_, _≤_}
+use Prim.Native.Nat.{ℕ, _*_, _/_, _<_, _≤_, max}
 use mathlib.Core.Path.{_≡_, refl, sym, ap, _∙_}
 use mathlib.Core.Bool.{Bool, true, false}
 use mathlib.Core.List.{List}
+use native.Mathlib.Nat.{le-trans, mul-le-mul-left, div-mul-le-self}
 use native.Mathlib.Omega.{arith}
 use lib.ListN.{length}
-use borrow.Author.Tests.{lt-ltb, le-ltb}
+use borrow.Author.Tests.{lt-ltb, le-ltb, eq-eqb, ne-eqb}
 use Rattle.refusal.specs.declared.Refusal.{Refusal}
 use Rattle.format.specs.Outcome.{Outcome, gives, refuses}
 use Rattle.format.specs.Ownership.{comparing}
 use Rattle.format.specs.Reading.{Read, reading, tableAfter, poolAfter}
 use Rattle.format.specs.Sizes.{elementSizing}
-use Rattle.format.specs.Slots.{recordCount}
+use Rattle.format.specs.Slots.{recordSize, recordCount}
 use Rattle.reading.specs.Reads.{Reads}
 use Rattle.reading.specs.Reads.{answerOf as readingOf}
 use Rattle.reading.specs.declared.Reading.{Reading}
@@ -25,7 +26,7 @@ use Rattle.compare.specs.declared.Comparison.the-variants.{Same as AreSame, Dif
 use Rattle.blocks.specs.Blocks.{recordOf}
 use Rattle.same.specs.Answers.{answerOf, answerSized, whenSized, answering, whenRead, Answered}
 use Rattle.same.specs.declared.answers.Answer.{Answer}
-use Rattle.same.specs.declared.answers.Answer.the-variants.{Same, Differs, Refused, Past}
+use Rattle.same.specs.declared.answers.Answer.the-variants.{Same, Differs, Refused, Remainder, Past}
 
 -- ---- two records of a size
 
@@ -41,22 +42,33 @@ from-outcome (gives true) = refl
 from-outcome (gives false) = refl
 from-outcome (refuses e) = refl
 
-module _ (table pool block : List ℕ) (n i j c : ℕ) (e : c ≡ recordCount block n) where
-  pub past-first : c ≤ i → Past i c n ≡ answerSized table pool block n i j
-  unfolding answerSized
-  past-first h = rw (e, le-ltb i (recordCount block n) (rw e at h))
+-- the whole records are no longer than the block
+pub records-within : (block : List ℕ) (n c : ℕ) → c ≡ recordCount block n → c * n ≤ length block
+unfolding recordCount recordSize
+records-within block n c e =
+    let m : n ≤ max n 1 = omega arith in
+    rw e (le-trans (mul-le-mul-left (length block / max n 1) m) (div-mul-le-self (length block) (max n 1)))
 
-  module _ (h : i < c) where
+module _ (table pool block : List ℕ) (n i j c : ℕ) (e : c ≡ recordCount block n) where
+  pub remains : (c * n ≡ length block → ⊥) → Remainder (length block) c n ≡ answerSized table pool block n i j
+  unfolding answerSized
+  remains q = rw (e, ne-eqb (recordCount block n * n) (length block) (rw e at q))
+
+  pub past-first : c * n ≡ length block → c ≤ i → Past i c n ≡ answerSized table pool block n i j
+  unfolding answerSized
+  past-first q h = rw (e, eq-eqb (recordCount block n * n) (length block) (rw e at q), le-ltb i (recordCount block n) (rw e at h))
+
+  module _ (q : c * n ≡ length block) (h : i < c) where
     pub past-second : c ≤ j → Past j c n ≡ answerSized table pool block n i j
     unfolding answerSized
-    past-second k = rw (e, lt-ltb i (recordCount block n) (rw e at h), le-ltb j (recordCount block n) (rw e at k))
+    past-second k = rw (e, eq-eqb (recordCount block n * n) (length block) (rw e at q), lt-ltb i (recordCount block n) (rw e at h), le-ltb j (recordCount block n) (rw e at k))
 
     module _ (k : j < c) (w : Comparison) (f : Compares (comparing table pool (recordOf block n i) (recordOf block n j)) w) where
       compared : from w ≡ answerSized table pool block n i j
       unfolding answerSized
       compared =
           ap from (f .answer) ∙ (from-outcome (comparing table pool (recordOf block n i) (recordOf block n j))
-          ∙ sym (rw (lt-ltb i (recordCount block n) (rw e at h), lt-ltb j (recordCount block n) (rw e at k))))
+          ∙ sym (rw (eq-eqb (recordCount block n * n) (length block) (rw e at q), lt-ltb i (recordCount block n) (rw e at h), lt-ltb j (recordCount block n) (rw e at k))))
 
       pub are-same : w ≡ AreSame → Same ≡ answerSized table pool block n i j
       unfolding from
@@ -96,9 +108,9 @@ module _ (table pool block : List ℕ) (i j : ℕ) (w : Sized) (f : SizedAs (ele
 
 -- ---- of the type of a message
 
-module _ (message block : List ℕ) (i j : ℕ) (table pool : List ℕ) (w : Reading) (table′ pool′ : List ℕ) (f : Reads 15 message table pool w table′ pool′) where
+module _ (message block : List ℕ) (i j : ℕ) (table pool : List ℕ) (w : Reading) (table′ pool′ : List ℕ) (f : Reads 5 message table pool w table′ pool′) where
   abbrev outcome : Outcome Read
-  outcome = reading 15 (length table) (length pool) message
+  outcome = reading 5 (length table) (length pool) message
 
   refused-so : {x : Refusal} (o : Outcome Read) → readingOf o ≡ NotRead x → Refused x ≡ whenRead block i j (length table) (length pool) o
   unfolding readingOf whenRead

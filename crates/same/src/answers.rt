@@ -11,6 +11,8 @@ pub enum Answer {
     Same,
     Differs,
     Refused(Refusal),
+    // The block is no whole number of records: its length, and how many whole records of what size it has.
+    Remainder(u64, u64, u64),
     // A record number past the block, and how many records of what size the block has.
     Past(u64, u64, u64),
 }
@@ -19,6 +21,10 @@ fn of_size(table: &[u32], pool: &[u8], block: &[u8], size: u64, first: u64, seco
     ensures { λ r. ⌜ r ≡ answerSized (now (table .entry)) (now (pool .entry)) (now (block .entry)) size first second ⌝ }
 {
     let count = blocks::record_count(block, size);
+    let length = block.len() as u64;
+    if count * size != length {
+        return Answer::Remainder(length, count, size);
+    }
     if count <= first {
         return Answer::Past(first, count, size);
     }
@@ -44,7 +50,7 @@ fn of_type(table: &[u32], pool: &[u8], block: &[u8], first: u64, second: u64) ->
     }
 }
 
-// Reads the message at limit 15 into the table and pool, and compares two records of the block.
+// Reads the message into the table and pool, and compares two records of the block. The limit is 5, the highest version that HDF5 writes.
 pub fn of_message(
     message: &[u8],
     block: &[u8],
@@ -55,7 +61,7 @@ pub fn of_message(
 ) -> Answer
     ensures { λ r. ⌜ Answered (now (message .entry)) (now (block .entry)) first second (now (table .entry)) (now (pool .entry)) r (now (table .exit)) (now (pool .exit)) ⌝ }
 {
-    let got = reader::read(message, 15, table, pool);
+    let got = reader::read(message, 5, table, pool);
     match got {
         Reading::Refused(e) => Answer::Refused(e),
         Reading::Read(_) => of_type(table, pool, block, first, second),

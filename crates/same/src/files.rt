@@ -9,6 +9,7 @@ pub enum Whole {
     Bytes(usize),
     NotThere,
     Unopened,
+    Directory,
     Unread,
     TooLong,
 }
@@ -27,8 +28,12 @@ fn read_whole(path: &[u8], buffer: &mut [u8]) -> Whole
     let n = io::read_full(fd, buffer);
     let mut more = [0u8; 1];
     let got = libc::read(fd, &mut more);
+    let error = os::errno();
     libc::close(fd);
     if got < 0 {
+        if error == libc::EISDIR {
+            return Whole::Directory;
+        }
         return Whole::Unread;
     }
     if got > 0 {
@@ -77,6 +82,10 @@ fn whole_or_line(role: &[u8], path: &[u8], buffer: &mut [u8]) -> usize
         }
         Whole::Unopened => {
             wrong(role, path, b"cannot be opened");
+            0
+        }
+        Whole::Directory => {
+            wrong(role, path, b"is a directory");
             0
         }
         Whole::Unread => {

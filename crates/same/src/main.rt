@@ -1,6 +1,6 @@
 // Says whether two records of a block are the same. Its arguments: a file with the datatype message, a file with the records, and the
 // numbers of two records, from 0, in decimal. It writes one line: `same`, `differs`, `refused` with number and values, or `error:` and what
-// is wrong with an argument.
+// is wrong with an argument. With `--help` it writes its usage.
 mod answers;
 mod buffers;
 mod files;
@@ -10,6 +10,14 @@ mod say;
 use numbers::Parsed;
 
 fn main() {
+    if command::helped(
+        b"usage: same MESSAGE RECORDS I J\n\
+Whether records I and J of a block, by number from 0, are the same: bytes between fields and behind the NUL of a name do not count.\n\
+MESSAGE is a file with an HDF5 datatype message, RECORDS a file with whole records of that type.\n\
+Writes one line: same, differs, refused with number and values, or error and what is wrong.\n",
+    ) {
+        return;
+    }
     if os::arg_count() != 5 {
         show::text(
             b"error: wanted are a message file, a record file and two record numbers from 0\n",
@@ -24,6 +32,10 @@ fn main() {
 }
 
 fn with_message(message: &[u8]) {
+    if command::is_hdf5_file(message) {
+        show::text(b"error: the message file is an HDF5 file, not a datatype message\n");
+        return;
+    }
     let mut block = buffers::block();
     let length = files::argument(2, b"record file", &mut block);
     if length > 0 {

@@ -19,7 +19,10 @@ returns-4 : tie.Need-returns-4
 returns-4 c = record { within = λ n e. let z : _≡_ {A = ℕ} 0 1 = cc in absurd (omega arith) }
 
 returns-5 : tie.Need-returns-5
-returns-5 c = search bytes-read
+returns-5 c = record { within = λ n e. let z : _≡_ {A = ℕ} 0 1 = cc in absurd (omega arith) }
+
+returns-6 : tie.Need-returns-6
+returns-6 c = search bytes-read
 
 pub read-whole-spec : {M : Type 1} → statement M
 read-whole-spec =
@@ -32,10 +35,13 @@ read-whole-spec =
     (λ c κs. search needs)  -- read-full-requires
     (λ c. search needs)  -- slice-aggregate-read
     (λ c κs. search needs)  -- read-requires
+    (λ c κs. search needs)  -- errno-requires-2
     (λ c κs. search needs)  -- close-requires
     (λ c. search needs)  -- same-length
     returns-3
     (λ c. search needs)  -- same-length-2
     returns-4
     (λ c. search needs)  -- same-length-3
-    returns-5)
+    returns-5
+    (λ c. search needs)  -- same-length-4
+    returns-6)

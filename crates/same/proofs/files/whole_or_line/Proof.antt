@@ -24,6 +24,9 @@ whole-or-line-spec =
     (λ c. search needs)  -- slice-aggregate-wrong-4
     (λ c κs. search needs)  -- wrong-requires-4
     (λ c. search needs)  -- enum-told-4
+    (λ c. search needs)  -- slice-aggregate-wrong-5
+    (λ c κs. search needs)  -- wrong-requires-5
+    (λ c. search needs)  -- enum-told-5
     (λ c κs. search needs)  -- too-long-requires
     (λ c. search needs)  -- same-length
     (λ c. search needs)  -- returns
@@ -36,4 +39,6 @@ whole-or-line-spec =
     (λ c. search needs)  -- same-length-5
     (λ c. search needs)  -- returns-5
     (λ c. search needs)  -- same-length-6
-    (λ c. search needs))  -- returns-6
+    (λ c. search needs)  -- returns-6
+    (λ c. search needs)  -- same-length-7
+    (λ c. search needs))  -- returns-7
