@@ -1,14 +1,58 @@
-/* The functions of crate `abi`, for C hosts: HDF5 datatype messages (HDF5 File Format Specification, IV.A.2.d).
+/* The functions of crate `abi`, for C hosts: HDF5 datatype messages (HDF5 File Format Specification, IV.A.2.d). Link the archive that
+ * `rt staticlib abi` writes.
  *
- * A lent slice is a pointer to its first element and the number of elements; where that number is 0 the pointer may be anything but NULL.
- * A slice that is written must not overlap any other argument.
+ * A lent slice is a pointer to its first element and the number of elements; where that number is 0 the pointer may be NULL, as that of an
+ * empty std::vector is. A slice that is written must not overlap any other argument. `first` and `second` are two different places and
+ * never NULL.
  *
  * A type is a table of rows, 16 words a row, and a pool of bytes. A table of 65,536 words and a pool of 65,536 bytes hold every type that
- * can be read; more is never used.
+ * can be read; more is never used. Each call looks at all that is lent, since whatever the type does not use must be zero: cut table and
+ * pool to what datatype_extent says once a type is read. With
+ * 65,536 words and 65,536 bytes lent, comparing two records of a small compound takes 7 microseconds; with both cut, 0.1.
  *
  * Each function but `class_may_hold_object_address` returns 0 or the number of a refusal, and writes its result, or the refusal's values,
  * to *first and *second, 0 where there is none. A refused reading leaves table and pool all zero; every other refusal leaves what is lent
- * for output untouched. */
+ * for output untouched.
+ *
+ * The rows. Row r is table[16 * r] to table[16 * r + 15]. There is a row for each type and for each member, in the order of the message: a
+ * compound's row, then for each of its members the member's row and the rows of the member's type; an enumeration's row, the rows of its
+ * base, then a row for each member; the row of a variable-length type or an array, then the rows of its base. A column that a row has no
+ * use for is 0; so are columns 14 and 15 of every row, and column 6 of a floating-point row.
+ *
+ *   column  what                                                              in rows of
+ *    0      kind: class + 1 for a type (1 to 11), 12 a compound's member,     all
+ *           13 an enumeration's member
+ *    1      size in bytes                                                     classes 0 to 8
+ *           offset of the member in its compound                              12
+ *    2      place in the pool: of the tag, the dimensions, the name           classes 5, 10; 12, 13
+ *    3      length of the tag or the name in bytes; number of dimensions      classes 5; 12, 13; 10
+ *    4      number of members                                                 classes 6, 8
+ *           length of the member's value in bytes                             13
+ *    5      byte order: 0 little-endian, 1 big-endian, 2 VAX                  classes 0, 1, 2, 4
+ *           string padding: 0 NUL-terminated, 1 NUL-padded, 2 space-padded    class 3
+ *           reference: 0 object, 1 region                                     class 7
+ *           variable length: 1 a string, 0 a sequence                         class 9
+ *    6      1 signed                                                          class 0
+ *           character set: 0 ASCII, 1 UTF-8                                   class 3
+ *           padding of a variable-length string, its code + 1; 0 absent       class 9
+ *    7      bit offset                                                        classes 0, 1, 4
+ *           character set of a variable-length string, code + 1; 0 absent     class 9
+ *    8      bit precision                                                     classes 0, 1, 2, 4
+ *    9, 10  place and size of the exponent                                    class 1
+ *   11, 12  place and size of the mantissa                                    class 1
+ *   13      bias of the exponent                                              class 1
+ *
+ * Classes: 0 fixed-point, 1 floating-point, 2 time, 3 string, 4 bit field, 5 opaque, 6 compound, 7 reference, 8 enumeration,
+ * 9 variable-length, 10 array. The size of a variable-length type is 16 and that of an array its base's times its dimensions.
+ *
+ * The pool has the pieces in the order of the rows, one behind the other: a name is column 3 bytes at column 2, without a NUL; the
+ * dimensions are 4 bytes each, little-endian. The values of an enumeration lie behind the last of its names, in the order of its members,
+ * each as long as column 4 of its member's row says: the first begins where the name of the last member's row ends.
+ *
+ * So the fields of a compound of k members are listed from its row r: row r + 1 is the first member's, with its offset and name; row r + 2
+ * is its type, with class and size. The next member's row is the next row of kind 12 behind the rows of that type: a compound type has as
+ * many members as its column 4 says, an enumeration its base and then column 4 rows of kind 13, an array or variable-length type its base,
+ * and every other type one row. tests/host.c lists the fields of a type in this way. */
 #ifndef DATATYPE_H
 #define DATATYPE_H
 
@@ -61,6 +105,11 @@ uint32_t datatype_size(const uint32_t *table, size_t table_length, const uint8_t
                        uint64_t *second);
 uint32_t datatype_element_size(const uint32_t *table, size_t table_length, const uint8_t *pool, size_t pool_length, uint64_t *first,
                                uint64_t *second);
+
+/* How much of the table and pool the type uses: the first 16 * *first words and the first *second bytes set out the same type. first: the
+   rows, second: the pool bytes. */
+uint32_t datatype_extent(const uint32_t *table, size_t table_length, const uint8_t *pool, size_t pool_length, uint64_t *first,
+                         uint64_t *second);
 
 /* The offsets of the object references in a record. first: how many there are. */
 uint32_t datatype_slots(const uint32_t *table, size_t table_length, const uint8_t *pool, size_t pool_length, uint64_t *out,

@@ -1,5 +1,6 @@
-// Calls each exported function once from C, through include/datatype.h, on document 01's P, on an array of two references
-// and on a NUL-terminated string.
+// Calls each exported function from C, through include/datatype.h: on a compound P of a byte `a` at 0 and two bytes `b` at 2, an array of
+// two references, a NUL-terminated string and an enumeration; with NULL for every empty slice; and lists the fields of P by the columns of
+// its rows.
 #include <inttypes.h>
 #include <stdio.h>
 #include <string.h>
@@ -9,6 +10,8 @@
 static const uint8_t P[38] = {0x36, 2, 0, 0, 4, 0, 0, 0, 'a', 0, 0, 0x10, 0, 0, 0, 1, 0, 0, 0, 0, 0, 8, 0, 'b', 0, 2, 0x10, 0, 0, 0, 2, 0, 0, 0, 0, 0, 16, 0};
 static const uint8_t TWO[21] = {0x3A, 0, 0, 0, 0, 0, 0, 0, 1, 2, 0, 0, 0, 0x17, 0, 0, 0, 8, 0, 0, 0};
 static const uint8_t NAME[8] = {0x13, 0, 0, 0, 4, 0, 0, 0};
+// an enumeration of 2 bytes over U2, with names `no` and `yes` and values 0 and 1
+static const uint8_t ENUM[31] = {0x38, 2, 0, 0, 2, 0, 0, 0, 0x10, 0, 0, 0, 2, 0, 0, 0, 0, 0, 16, 0, 'n', 'o', 0, 'y', 'e', 's', 0, 0, 0, 1, 0};
 static uint32_t table[8 * 16];
 static uint8_t pool[32], out[64];
 static uint64_t first, second;
@@ -21,8 +24,73 @@ static void answers(const char *call, uint32_t number, uint32_t expected, uint64
     }
 }
 
+// Each slice is NULL with length 0.
+static void empty_slices(void) {
+    const uint8_t one[1] = {0};
+    answers("datatype_read of NULL", datatype_read(NULL, 0, 15, NULL, 0, NULL, 0, &first, &second), DATATYPE_TOO_MANY, 0, 0);
+    answers("datatype_read of NULL", datatype_read(NULL, 0, 15, table, 16, NULL, 0, &first, &second), DATATYPE_SHORT, 8, 0);
+    answers("datatype_read into NULL", datatype_read(NAME, 8, 15, table, 16, NULL, 0, &first, &second), 0, 8, 0);
+    answers("datatype_write into NULL", datatype_write(table, 16, NULL, 0, 3, NULL, 0, &first, &second), DATATYPE_NO_ROOM, 8, 0);
+    answers("datatype_compare of NULL", datatype_compare(table, 16, NULL, 0, NULL, 0, NULL, 0, &first, &second), DATATYPE_WRONG_LENGTH, 0, 0);
+    answers("datatype_slots into NULL", datatype_slots(table, 16, NULL, 0, NULL, 0, &first, &second), 0, 0, 0);
+    answers("datatype_write of NULL", datatype_write(NULL, 0, NULL, 0, 3, NULL, 0, &first, &second), DATATYPE_BAD_TABLE, 0, 0);
+    answers("datatype_compare of NULL", datatype_compare(NULL, 0, NULL, 0, one, 1, one, 1, &first, &second), DATATYPE_BAD_TABLE, 0, 0);
+    answers("datatype_size of NULL", datatype_size(NULL, 0, NULL, 0, &first, &second), DATATYPE_BAD_TABLE, 0, 0);
+    answers("datatype_element_size of NULL", datatype_element_size(NULL, 0, NULL, 0, &first, &second), DATATYPE_BAD_TABLE, 0, 0);
+    answers("datatype_extent of NULL", datatype_extent(NULL, 0, NULL, 0, &first, &second), DATATYPE_BAD_TABLE, 0, 0);
+    answers("datatype_slots of NULL", datatype_slots(NULL, 0, NULL, 0, NULL, 0, &first, &second), DATATYPE_BAD_TABLE, 0, 0);
+    answers("datatype_references of NULL", datatype_references(NULL, 0, 8, NULL, 0, NULL, 0, NULL, 0, &first, &second), 0, 0, 0);
+    answers("datatype_member_name of NULL", datatype_member_name(NULL, 0, NULL, 0, 1, &first, &second), 0, 0, 0);
+    answers("datatype_holds_object_address of NULL", datatype_holds_object_address(NULL, 0, NULL, 0, &first, &second), DATATYPE_BAD_TABLE, 0, 0);
+    answers("datatype_holds_file_address of NULL", datatype_holds_file_address(NULL, 0, NULL, 0, &first, &second), DATATYPE_BAD_TABLE, 0, 0);
+}
+
+// The row behind the type at row r.
+static size_t row_behind(size_t r) {
+    const uint32_t *row = table + 16 * r;
+    size_t next = r + 1;
+    switch (row[0] - 1) {
+    case 6:
+        for (uint32_t i = 0; i < row[4]; i++) next = row_behind(next + 1);
+        return next;
+    case 8:
+        return row_behind(next) + row[4];
+    case 9:
+    case 10:
+        return row_behind(next);
+    default:
+        return next;
+    }
+}
+
+// A line for each member of the compound at row 0: name, offset, class, size.
+static void list_fields(const char *expected) {
+    char text[256] = "";
+    size_t used = 0, member = 1;
+    for (uint32_t i = 0; i < table[4]; i++) {
+        const uint32_t *row = table + 16 * member, *type = row + 16;
+        used += (size_t)snprintf(text + used, sizeof text - used, "%.*s %" PRIu32 " %" PRIu32 " %" PRIu32 "\n", (int)row[3], (const char *)pool + row[2], row[1], type[0] - 1, type[1]);
+        member = row_behind(member + 1);
+    }
+    if (strcmp(text, expected) != 0) {
+        printf("the fields are\n%snot\n%s", text, expected);
+        failed = 1;
+    }
+}
+
+// The values of the enumeration at row 0, over a type of one row: behind the last name, each of column 4's length.
+static void list_values(void) {
+    const uint32_t *last = table + 16 * (1 + table[4]);
+    const uint8_t *value = pool + last[2] + last[3];
+    for (uint32_t i = 0; i < table[4]; i++) {
+        if (value[0] != i || value[1] != 0) failed = 1;
+        value += table[16 * (2 + i) + 4];
+    }
+}
+
 int main(void) {
     const size_t words = sizeof table / sizeof *table;
+    empty_slices();
     const uint8_t a[4] = {1, 0xFF, 5, 0}, b[4] = {1, 0, 5, 0}, c[4] = {2, 0, 5, 0};
     answers("datatype_read", datatype_read(P, 0, 15, table, words, pool, 32, &first, &second), DATATYPE_SHORT, 8, 0);
     answers("datatype_read", datatype_read(P, 38, 15, table, words, pool, 32, &first, &second), 0, 38, 0);
@@ -34,6 +102,11 @@ int main(void) {
     answers("datatype_compare", datatype_compare(table, words, pool, 32, a, 3, c, 4, &first, &second), DATATYPE_WRONG_LENGTH, 0, 0);
     answers("datatype_size", datatype_size(table, words, pool, 32, &first, &second), 0, 4, 0);
     answers("datatype_element_size", datatype_element_size(table, words, pool, 32, &first, &second), 0, 4, 0);
+    answers("datatype_extent", datatype_extent(table, words, pool, 32, &first, &second), 0, 5, 2);
+    answers("datatype_compare", datatype_compare(table, 5 * 16, pool, 2, a, 4, c, 4, &first, &second), 0, 1, 0);
+    answers("datatype_extent", datatype_extent(table, 5 * 16, pool, 2, &first, &second), 0, 5, 2);
+    answers("datatype_extent", datatype_extent(table, 5 * 16 - 1, pool, 2, &first, &second), DATATYPE_BAD_TABLE, 0, 0);
+    list_fields("a 0 0 1\nb 2 0 2\n");
     answers("datatype_member_name", datatype_member_name(table, words, pool, 32, 3, &first, &second), 0, 1, 1);
     answers("datatype_member_name", datatype_member_name(table, words, pool, 32, 0, &first, &second), 0, 0, 0);
     answers("datatype_holds_object_address", datatype_holds_object_address(table, words, pool, 32, &first, &second), 0, 0, 0);
@@ -50,6 +123,9 @@ int main(void) {
     answers("datatype_read", datatype_read(NAME, 8, 15, table, words, pool, 32, &first, &second), 0, 8, 0);
     answers("datatype_compare", datatype_compare(table, words, pool, 32, (const uint8_t *)"A\0xy", 4, (const uint8_t *)"A\0zz", 4, &first, &second), 0, 0, 0);
     answers("datatype_compare", datatype_compare(table, words, pool, 32, (const uint8_t *)"A\0xy", 4, (const uint8_t *)"AB\0y", 4, &first, &second), 0, 1, 0);
+    answers("datatype_read", datatype_read(ENUM, 31, 15, table, words, pool, 32, &first, &second), 0, 31, 0);
+    answers("datatype_extent", datatype_extent(table, words, pool, 32, &first, &second), 0, 4, 9);
+    list_values();
     if (class_may_hold_object_address(0x16) != 1 || class_may_hold_object_address(0x1B) != 0) failed = 1;
     puts(failed ? "C host: a call answers otherwise" : "C host: each exported function called, all as expected");
     return failed;
