@@ -16,7 +16,7 @@ oracle() {
     rt staticlib abi >target/staticlib.log 2>&1 || { cat target/staticlib.log; exit 1; }
     rustc --edition 2021 -O --crate-type rlib --crate-name byteorder --cap-lints allow --cfg 'feature="std"' -o target/differential/libbyteorder.rlib "$(byteorder)"
     cp "$papers"/datatype.rs "$papers"/bytes.rs "$papers"/convert.rs "$papers"/error.rs tests/differential/*.rs target/differential/
-    rustc --edition 2024 -O --crate-type rlib --crate-name datatype_message -L native=target/staticlib -l static=abi -o target/differential/libdatatype_message.rlib hosts/rust/src/lib.rs
+    rustc --edition 2021 -O --crate-type rlib --crate-name datatype_message -L native=target/staticlib -l static=abi -o target/differential/libdatatype_message.rlib hosts/rust/src/lib.rs
     rustc --edition 2024 -C opt-level=3 --cap-lints allow --cfg 'feature="std"' --extern byteorder=target/differential/libbyteorder.rlib \
         --extern datatype_message=target/differential/libdatatype_message.rlib -L native=target/staticlib -o "target/differential/$1" "target/differential/$1.rs"
 }

@@ -1,7 +1,24 @@
 //! Safe calls of the proved library of HDF5 datatype messages (HDF5 File Format Specification, IV.A.2.d).
 //!
-//! A type is a table of rows, 16 words a row, and a pool of bytes, both lent by the caller. [`read`] fills them from a message; the other
-//! calls take them. [`ROW`], [`ROWS`] and [`POOL`] say how much of either can be used.
+//! The command `rt staticlib abi`, in the repository of the library, makes the archive that this crate links; the variable `DATATYPE_ABI`
+//! names the folder of the archive where that is not target/staticlib of the repository.
+//!
+//! [`Type`] owns a type that was read from a message:
+//!
+//! ```
+//! use datatype_message::Type;
+//!
+//! // a NUL-terminated string of 4 bytes
+//! let (name, length) = Type::from_message(&[0x13, 0, 0, 0, 4, 0, 0, 0], 5)?;
+//! assert_eq!(length, 8);
+//! assert!(name.same(b"A\0xy", b"A\0zz")?);
+//! # Ok::<(), datatype_message::Refusal>(())
+//! ```
+//!
+//! The functions take a type as it is: a table of rows, 16 words a row, and a pool of bytes, both lent by the caller. [`read`] fills them
+//! from a message; the other calls take them. [`ROW`], [`ROWS`] and [`POOL`] say how much of either can be used, and include/datatype.h of
+//! the repository what each column of a row has. Each call looks at all that is lent: with 65,536 words and 65,536 bytes, comparing two
+//! records of a small compound takes 7 microseconds; with both cut to what [`extent`] says, as those of a [`Type`] are, 0.1.
 //!
 //! ```
 //! use datatype_message::{read, same, write, ROW, Refusal};
@@ -29,6 +46,11 @@
 #![no_std]
 #![warn(missing_docs)]
 
+extern crate alloc;
+
+use alloc::{vec, vec::Vec};
+use core::fmt;
+
 /// Words in a row of a table.
 pub const ROW: usize = 16;
 /// The most rows of a type.
@@ -36,7 +58,7 @@ pub const ROWS: usize = 4096;
 /// The most pool bytes of a type.
 pub const POOL: usize = 65536;
 
-/// Why a call gives no result, by document 01's numbers.
+/// Why a call gives no result, with the library's number.
 #[derive(Debug, Clone, Copy, PartialEq, Eq)]
 pub enum Refusal {
     /// 1: the table and pool do not set out exactly one type.
@@ -115,7 +137,7 @@ pub enum Refusal {
 }
 
 mod abi {
-    unsafe extern "C" {
+    extern "C" {
         pub fn datatype_read(data: *const u8, data_length: usize, limit: u32, table: *mut u32, table_length: usize, pool: *mut u8, pool_length: usize, first: *mut u64, second: *mut u64) -> u32;
         pub fn datatype_write(table: *const u32, table_length: usize, pool: *const u8, pool_length: usize, edition: u32, out: *mut u8, out_length: usize, first: *mut u64, second: *mut u64) -> u32;
         pub fn datatype_compare(
@@ -132,6 +154,7 @@ mod abi {
         ) -> u32;
         pub fn datatype_size(table: *const u32, table_length: usize, pool: *const u8, pool_length: usize, first: *mut u64, second: *mut u64) -> u32;
         pub fn datatype_element_size(table: *const u32, table_length: usize, pool: *const u8, pool_length: usize, first: *mut u64, second: *mut u64) -> u32;
+        pub fn datatype_extent(table: *const u32, table_length: usize, pool: *const u8, pool_length: usize, first: *mut u64, second: *mut u64) -> u32;
         pub fn datatype_slots(table: *const u32, table_length: usize, pool: *const u8, pool_length: usize, out: *mut u64, out_length: usize, first: *mut u64, second: *mut u64) -> u32;
         pub fn datatype_references(
             block: *const u8,
@@ -154,10 +177,10 @@ mod abi {
 }
 
 /// The answer that a number and two values stand for.
-fn answer(number: u32, first: u64, second: u64) -> Result<u64, Refusal> {
+fn answer(number: u32, first: u64, second: u64) -> Result<(u64, u64), Refusal> {
     let code = first as u8;
     Err(match number {
-        0 => return Ok(first),
+        0 => return Ok((first, second)),
         1 => Refusal::BadTable,
         2 => Refusal::TooDeep,
         3 => Refusal::TooMany,
@@ -183,16 +206,21 @@ fn answer(number: u32, first: u64, second: u64) -> Result<u64, Refusal> {
     })
 }
 
-/// A count that the library gives is no greater than the length of a lent slice.
+/// A count, place or length that the library gives; the archive links where `usize` has 64 bits.
 fn count(n: u64) -> usize {
-    usize::try_from(n).expect("a count within a lent slice")
+    usize::try_from(n).expect("usize has 64 bits")
 }
 
 /// Calls with places for the two values.
-fn ask(call: impl FnOnce(*mut u64, *mut u64) -> u32) -> Result<u64, Refusal> {
+fn ask_two(call: impl FnOnce(*mut u64, *mut u64) -> u32) -> Result<(u64, u64), Refusal> {
     let (mut first, mut second) = (0, 0);
     let number = call(&mut first, &mut second);
     answer(number, first, second)
+}
+
+/// The same, for a result of one value.
+fn ask(call: impl FnOnce(*mut u64, *mut u64) -> u32) -> Result<u64, Refusal> {
+    ask_two(call).map(|(first, _)| first)
 }
 
 impl Refusal {
@@ -226,6 +254,178 @@ impl Refusal {
             Refusal::SlotOutside => (20, 0, 0),
             Refusal::NoRoom { needed } => (21, needed, 0),
         }
+    }
+}
+
+/// One plain sentence, with the values.
+///
+/// ```
+/// use datatype_message::Refusal;
+/// assert_eq!(Refusal::Short { expected: 8, available: 1 }.to_string(), "the message is cut off: 8 bytes are wanted and 1 are there");
+/// ```
+impl fmt::Display for Refusal {
+    fn fmt(&self, f: &mut fmt::Formatter<'_>) -> fmt::Result {
+        match self {
+            Refusal::BadTable => f.write_str("the table and pool do not set out exactly one type"),
+            Refusal::TooDeep => f.write_str("the type has more than 32 levels"),
+            Refusal::TooMany => f.write_str("the type has more rows than the table holds"),
+            Refusal::Short { expected, available } => write!(f, "the message is cut off: {expected} bytes are wanted and {available} are there"),
+            Refusal::TooNew { version } => write!(f, "the message has version {version}, which is above the limit"),
+            Refusal::BadClass { class } => write!(f, "there is no datatype class {class}"),
+            Refusal::BadVersion { class, version } => write!(f, "datatype class {class} has no version {version}"),
+            Refusal::BadPadding { code } => write!(f, "there is no string padding {code}"),
+            Refusal::BadCharset { code } => write!(f, "there is no character set {code}"),
+            Refusal::BadReferenceKind { code } => write!(f, "there is no kind of reference {code}"),
+            Refusal::PoolFull => f.write_str("the names, tags, values and dimensions of the type do not fit the pool"),
+            Refusal::ZeroSize { class } => write!(f, "a type of class {class} has size 0"),
+            Refusal::NoSuchEdition => f.write_str("the edition is not 1, 2 or 3"),
+            Refusal::Unstorable => f.write_str("the type cannot be stored in a message"),
+            Refusal::NotInEdition => f.write_str("edition 1 has no arrays"),
+            Refusal::OutsideRecord => f.write_str("a member ends past its compound, or an array has more than 4,294,967,295 bytes"),
+            Refusal::HeapHeld => f.write_str("the type holds a variable-length type or a region reference, which records hold outside themselves"),
+            Refusal::WrongLength => f.write_str("a record does not have the size of the type"),
+            Refusal::Unmapped => f.write_str("the type holds references that have no slots in its records"),
+            Refusal::SlotOutside => f.write_str("a slot ends past the record"),
+            Refusal::NoRoom { needed } => write!(f, "what is lent for the result is too short: {needed} elements are needed"),
+        }
+    }
+}
+
+impl core::error::Error for Refusal {}
+
+/// A type of its own, cut to the rows and pool bytes that it uses. Two are equal if they are the same type: the same rows and pool bytes.
+#[derive(Debug, Clone, PartialEq, Eq)]
+pub struct Type {
+    table: Vec<u32>,
+    pool: Vec<u8>,
+}
+
+impl Type {
+    /// The type of a message, each of its headers held to the version limit (15 or more for none), and the number of bytes that the
+    /// message takes, as [`read`] gives it.
+    ///
+    /// ```
+    /// use datatype_message::{Refusal, Type};
+    ///
+    /// // a compound of size 4: a byte at 0 and two bytes at 2
+    /// let message = [
+    ///     0x36, 2, 0, 0, 4, 0, 0, 0, //
+    ///     b'a', 0, 0, 0x10, 0, 0, 0, 1, 0, 0, 0, 0, 0, 8, 0, //
+    ///     b'b', 0, 2, 0x10, 0, 0, 0, 2, 0, 0, 0, 0, 0, 16, 0,
+    /// ];
+    /// let (pair, length) = Type::from_message(&message, 5)?;
+    /// assert_eq!((length, pair.size()), (38, 4));
+    /// assert!(pair.same(&[1, 0xFF, 5, 0], &[1, 0, 5, 0])?);
+    /// assert_eq!(pair.message(3)?, message);
+    /// assert_eq!(pair.message(1)?.len(), 112);
+    /// assert_eq!((pair.table().len(), pair.pool()), (5 * 16, &b"ab"[..]));
+    /// assert_eq!(pair.member_name(3), b"b");
+    ///
+    /// let (again, _) = Type::from_message(&pair.message(1)?, 5)?;
+    /// assert_eq!(again, pair);
+    /// assert_eq!(Type::from_message(&[], 5), Err(Refusal::Short { expected: 8, available: 0 }));
+    /// assert_eq!(Type::from_message(&message, 2), Err(Refusal::TooNew { version: 3 }));
+    /// # Ok::<(), Refusal>(())
+    /// ```
+    pub fn from_message(message: &[u8], limit: u32) -> Result<(Type, usize), Refusal> {
+        // Every row takes a byte of the message or more, and a byte of a name becomes three at most.
+        let mut table = vec![0; ROW * message.len().saturating_add(1).min(ROWS)];
+        let mut pool = vec![0; message.len().saturating_mul(3).min(POOL)];
+        let length = read(message, limit, &mut table, &mut pool)?;
+        let (rows, bytes) = extent(&table, &pool)?;
+        table.truncate(ROW * rows);
+        pool.truncate(bytes);
+        table.shrink_to_fit();
+        pool.shrink_to_fit();
+        Ok((Type { table, pool }, length))
+    }
+
+    /// The type that a table and pool set out, copied.
+    ///
+    /// ```
+    /// use datatype_message::{Refusal, Type};
+    /// let (word, _) = Type::from_message(&[0x10, 0, 0, 0, 2, 0, 0, 0, 0, 0, 16, 0], 5)?;
+    /// let mut table = [0; 64];
+    /// table[..16].copy_from_slice(word.table());
+    /// assert_eq!(Type::from_table(&table, &[0; 8])?, word);
+    /// assert_eq!(Type::from_table(&table, &[1]), Err(Refusal::BadTable));
+    /// # Ok::<(), Refusal>(())
+    /// ```
+    pub fn from_table(table: &[u32], pool: &[u8]) -> Result<Type, Refusal> {
+        let (rows, bytes) = extent(table, pool)?;
+        Ok(Type { table: table[..ROW * rows].to_vec(), pool: pool[..bytes].to_vec() })
+    }
+
+    /// Its rows, 16 words a row.
+    pub fn table(&self) -> &[u32] {
+        &self.table
+    }
+
+    /// Its names, tags, values and dimensions.
+    pub fn pool(&self) -> &[u8] {
+        &self.pool
+    }
+
+    /// Its message in edition 1, 2 or 3.
+    pub fn message(&self, edition: u32) -> Result<Vec<u8>, Refusal> {
+        filled(|out| write(&self.table, &self.pool, edition, out))
+    }
+
+    /// Whether two records are the same: see [`same`].
+    pub fn same(&self, a: &[u8], b: &[u8]) -> Result<bool, Refusal> {
+        same(&self.table, &self.pool, a, b)
+    }
+
+    /// The size of a record in bytes: see [`type_size`].
+    pub fn size(&self) -> u32 {
+        type_size(&self.table, &self.pool).expect("a type's table is good")
+    }
+
+    /// The same, refused where it is 0.
+    pub fn element_size(&self) -> Result<u32, Refusal> {
+        element_size(&self.table, &self.pool)
+    }
+
+    /// The offsets of the 8-byte object references in a record: see [`embedded_reference_slots`].
+    ///
+    /// ```
+    /// use datatype_message::Type;
+    /// // an array of two object references
+    /// let (two, _) = Type::from_message(&[0x3A, 0, 0, 0, 0, 0, 0, 0, 1, 2, 0, 0, 0, 0x17, 0, 0, 0, 8, 0, 0, 0], 5)?;
+    /// assert_eq!(two.slots()?, [0, 8]);
+    /// assert!(two.holds_object_address() && two.holds_file_address());
+    /// # Ok::<(), datatype_message::Refusal>(())
+    /// ```
+    pub fn slots(&self) -> Result<Vec<u64>, Refusal> {
+        filled(|out| embedded_reference_slots(&self.table, &self.pool, out))
+    }
+
+    /// The name of the member at a row, empty where the row is no member's: see [`member_name`].
+    pub fn member_name(&self, row: u64) -> &[u8] {
+        member_name(&self.table, &self.pool, row)
+    }
+
+    /// Whether it holds a reference at any level.
+    pub fn holds_object_address(&self) -> bool {
+        datatype_holds_object_address(&self.table, &self.pool).expect("a type's table is good")
+    }
+
+    /// Whether it holds a reference or a variable-length type at any level.
+    pub fn holds_file_address(&self) -> bool {
+        datatype_holds_file_address(&self.table, &self.pool).expect("a type's table is good")
+    }
+}
+
+/// The result of a call that writes to a lent slice, which is asked first how much it needs.
+fn filled<T: Clone + Default>(call: impl Fn(&mut [T]) -> Result<usize, Refusal>) -> Result<Vec<T>, Refusal> {
+    match call(&mut []) {
+        Ok(_) => Ok(Vec::new()),
+        Err(Refusal::NoRoom { needed }) => {
+            let mut out = vec![T::default(); count(needed)];
+            call(&mut out)?;
+            Ok(out)
+        }
+        Err(e) => Err(e),
     }
 }
 
@@ -276,6 +476,22 @@ pub fn type_size(table: &[u32], pool: &[u8]) -> Result<u32, Refusal> {
 pub fn element_size(table: &[u32], pool: &[u8]) -> Result<u32, Refusal> {
     // SAFETY: as for `read`.
     ask(|first, second| unsafe { abi::datatype_element_size(table.as_ptr(), table.len(), pool.as_ptr(), pool.len(), first, second) }).map(|n| n as u32)
+}
+
+/// How many rows and pool bytes the type uses: a table and pool cut to them set out the same type.
+///
+/// ```
+/// use datatype_message::{extent, read, Refusal, ROW};
+/// let message = [0x36, 1, 0, 0, 1, 0, 0, 0, b'a', b'b', 0, 0, 0x10, 0, 0, 0, 1, 0, 0, 0, 0, 0, 8, 0];
+/// let (mut table, mut pool) = ([0; 8 * ROW], [0; 64]);
+/// assert_eq!(read(&message, 15, &mut table, &mut pool), Ok(24));
+/// assert_eq!(extent(&table, &pool), Ok((3, 2)));
+/// assert_eq!(extent(&table[..3 * ROW], &pool[..2]), Ok((3, 2)));
+/// assert_eq!(extent(&table[..2 * ROW], &pool[..2]), Err(Refusal::BadTable));
+/// ```
+pub fn extent(table: &[u32], pool: &[u8]) -> Result<(usize, usize), Refusal> {
+    // SAFETY: as for `read`.
+    ask_two(|first, second| unsafe { abi::datatype_extent(table.as_ptr(), table.len(), pool.as_ptr(), pool.len(), first, second) }).map(|(rows, bytes)| (count(rows), count(bytes)))
 }
 
 /// Writes the offsets of the 8-byte object references in a record to the start of `out`, and gives how many there are.
