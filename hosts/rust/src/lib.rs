@@ -573,3 +573,57 @@ pub fn class_may_hold_object_address(byte: u8) -> bool {
     // SAFETY: the call takes a number.
     unsafe { abi::class_may_hold_object_address(byte) == 1 }
 }
+
+#[cfg(test)]
+mod tests {
+    extern crate std;
+
+    use super::*;
+    use std::vec::Vec;
+
+    /// Random numbers below n (xorshift).
+    fn below(state: &mut u64, n: usize) -> usize {
+        *state ^= *state << 13;
+        *state ^= *state >> 7;
+        *state ^= *state << 17;
+        (*state >> 20) as usize % n
+    }
+
+    /// The type of a message by way of as much table and pool as any type can use.
+    fn by_full_room(message: &[u8]) -> Result<(Type, usize), Refusal> {
+        let (mut table, mut pool) = (vec![0; ROW * ROWS], vec![0; POOL]);
+        let length = read(message, 5, &mut table, &mut pool)?;
+        Ok((Type::from_table(&table, &pool)?, length))
+    }
+
+    fn enumeration(count: u16, names: &[u8]) -> Vec<u8> {
+        let mut message = vec![0x38, count as u8, (count >> 8) as u8, 0, 1, 0, 0, 0, 0x10, 0, 0, 0, 1, 0, 0, 0, 0, 0, 8, 0];
+        message.extend_from_slice(names);
+        message.resize(message.len() + usize::from(count), 7);
+        message
+    }
+
+    #[test]
+    fn the_room_of_from_message_is_enough() {
+        let compound = [0x36, 2, 0, 0, 4, 0, 0, 0, b'a', 0xFF, 0, 0, 0x10, 0, 0, 0, 1, 0, 0, 0, 0, 0, 8, 0, 0xC3, 0x28, 0, 2, 0x10, 0, 0, 0, 2, 0, 0, 0, 0, 0, 16, 0];
+        let array = [0x3A, 0, 0, 0, 0, 0, 0, 0, 1, 2, 0, 0, 0, 0x15, 3, 0, 0, 5, 0, 0, 0, b'a', b'b', b'c'];
+        let mut samples = vec![compound.to_vec(), array.to_vec(), enumeration(2, b"no\0yes\0")];
+        samples.push(enumeration(4094, &[0; 4094]));
+        samples.push(enumeration(4095, &[0; 4095]));
+        samples.push(enumeration(3, &[[0xFF; 99].as_slice(), &[0, 0, 0]].concat()));
+        samples.push(enumeration(1, &[[0xFF; 22000].as_slice(), &[0]].concat()));
+        for sample in &samples {
+            assert_eq!(Type::from_message(sample, 5), by_full_room(sample));
+        }
+        let mut state = 1;
+        for _ in 0..4000 {
+            let mut message = samples[below(&mut state, 3)].clone();
+            for _ in 0..below(&mut state, 4) {
+                let at = below(&mut state, message.len());
+                message[at] = below(&mut state, 256) as u8;
+            }
+            message.truncate(message.len() + 1 - below(&mut state, message.len() / 2));
+            assert_eq!(Type::from_message(&message, 5), by_full_room(&message), "{message:?}");
+        }
+    }
+}
