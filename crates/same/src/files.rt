@@ -53,14 +53,18 @@ fn wrong(role: &[u8], path: &[u8], what: &[u8]) {
     text(b"\n");
 }
 
-fn too_long(role: &[u8], path: &[u8], most: u64) {
+fn too_long(role: &[u8], path: &[u8], most: u64, hdf5: bool) {
     text(b"error: the ");
     text(role);
     text(b" '");
     text(path);
     text(b"' has more than ");
     number(most);
-    text(b" bytes\n");
+    text(b" bytes");
+    if hdf5 {
+        text(b": it is an HDF5 file, not bytes taken from one");
+    }
+    text(b"\n");
 }
 
 // The bytes read, or a line that says what is wrong, and 0.
@@ -93,7 +97,7 @@ fn whole_or_line(role: &[u8], path: &[u8], buffer: &mut [u8]) -> usize
             0
         }
         Whole::TooLong => {
-            too_long(role, path, most);
+            too_long(role, path, most, command::is_hdf5_file(buffer));
             0
         }
     }

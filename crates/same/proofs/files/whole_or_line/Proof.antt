@@ -27,6 +27,7 @@ whole-or-line-spec =
     (λ c. search needs)  -- slice-aggregate-wrong-5
     (λ c κs. search needs)  -- wrong-requires-5
     (λ c. search needs)  -- enum-told-5
+    (λ c κs. search needs)  -- is-hdf5-file-requires
     (λ c κs. search needs)  -- too-long-requires
     (λ c. search needs)  -- same-length
     (λ c. search needs)  -- returns
