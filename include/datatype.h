@@ -6,9 +6,9 @@
  * never NULL.
  *
  * A type is a table of rows, 16 words a row, and a pool of bytes. A table of 65,536 words and a pool of 65,536 bytes hold every type that
- * can be read; more is never used. Each call looks at all that is lent, since whatever the type does not use must be zero: cut table and
- * pool to what datatype_extent says once a type is read. With
- * 65,536 words and 65,536 bytes lent, comparing two records of a small compound takes 7 microseconds; with both cut, 0.1.
+ * can be read; more is never used. Each call looks at all that is lent, since whatever the type does not use must be zero: once a type is
+ * read, cut table and pool to what datatype_extent says. With 65,536 words and 65,536 bytes lent, comparing two records of a small compound
+ * takes 7 microseconds; with both cut, 0.1.
  *
  * Each function but `class_may_hold_object_address` returns 0 or the number of a refusal, and writes its result, or the refusal's values,
  * to *first and *second, 0 where there is none. A refused reading leaves table and pool all zero; every other refusal leaves what is lent
@@ -43,16 +43,21 @@
  *   13      bias of the exponent                                              class 1
  *
  * Classes: 0 fixed-point, 1 floating-point, 2 time, 3 string, 4 bit field, 5 opaque, 6 compound, 7 reference, 8 enumeration,
- * 9 variable-length, 10 array. The size of a variable-length type is 16 and that of an array its base's times its dimensions.
+ * 9 variable-length, 10 array. The size of a variable-length type is 16 and that of an array its base's times its dimensions, at
+ * most 4,294,967,295.
  *
  * The pool has the pieces in the order of the rows, one behind the other: a name is column 3 bytes at column 2, without a NUL; the
  * dimensions are 4 bytes each, little-endian. The values of an enumeration lie behind the last of its names, in the order of its members,
  * each as long as column 4 of its member's row says: the first begins where the name of the last member's row ends.
  *
- * So the fields of a compound of k members are listed from its row r: row r + 1 is the first member's, with its offset and name; row r + 2
- * is its type, with class and size. The next member's row is the next row of kind 12 behind the rows of that type: a compound type has as
- * many members as its column 4 says, an enumeration its base and then column 4 rows of kind 13, an array or variable-length type its base,
- * and every other type one row. tests/host.c lists the fields of a type in this way. */
+ * So the fields of the compound at row r are listed thus: row r + 1 is the first member's, with its offset and name; row r + 2 begins its
+ * type, with class and size. The row behind the rows of that type is the next member's, and so on for the number of members. The rows of a
+ * compound type end behind those of its last member, those of an enumeration behind its base and its members' rows, those of an array or a
+ * variable-length type behind its base; any other type is one row. tests/host.c lists the fields of a type in this way.
+ *
+ * An example: a compound of 4 bytes, with a byte `a` at 0 and two bytes `b` at 2. The pool has the bytes `ab`. Row 0: kind 7, size 4, 2
+ * members. Row 1: kind 12, offset 0, name of 1 byte at place 0. Row 2: kind 1, size 1, precision 8. Row 3: kind 12, offset 2, name of 1
+ * byte at place 1. Row 4: kind 1, size 2, precision 16. */
 #ifndef DATATYPE_H
 #define DATATYPE_H
 
