@@ -26,10 +26,9 @@ use Rattle.table.specs.declared.Checked.{Checked}
 use Rattle.table.specs.declared.Checked.the-variants.{Bad}
 use Rattle.table.proofs.Surveys.{zero-code}
 use Rattle.table.proofs.ZeroClass.{zero-low}
-use Rattle.slots.specs.Slots.{mostSlots, mostEnd, CountedAs, AllBelow, Fits, Listed, PutAs, slotsNumber, slotsValues, answerOf, SlotsAre}
+use Rattle.slots.specs.Slots.{Counted, CountedAs, TallyAt, AllBelow, Fits, Listed, PutAs, PutAt, slotsNumber, slotsValues, answerOf, SlotsAre}
 use Rattle.slots.specs.declared.Tally.{Tally}
-use Rattle.slots.specs.declared.Tallied.{Tallied}
-use Rattle.slots.specs.declared.Tallied.the-variants.{At, Lost}
+use Rattle.slots.specs.declared.Put.{Put}
 use Rattle.slots.specs.declared.Slots.{Slots}
 use Rattle.slots.specs.declared.Slots.the-variants.{Found as SlotsFound, Refused}
 use Rattle.slots.proofs.Shifting.{shifted-zero}
@@ -88,84 +87,71 @@ module _ (table pool out : List ℕ) {s : Survey} (given : Sets table pool s) wh
   slots-zero z =
       refused table pool out _ (finding ∙ some-code (firstZero (given .type)) _ (λ f. z (zeroed table pool given ∙ f)) ∙ ap (λ (n : ℕ). refuses (ZeroSize (n - 1))) (sym (zeroed table pool given)))
 
-  module _ (z : s .zero ≡ 0) (y : Tallied) (g : CountedAs (typeAt 32 table pool 0 0) y) where
+  module _ (z : s .zero ≡ 0) (t : Tally) (g : TallyAt 32 table pool 0 t) where
     none-zero : firstZero (given .type) ≡ none
     none-zero = zero-code _ (sym (zeroed table pool given) ∙ z)
 
-    counted : y ≡ At (record { row = s .row; place = s .place; unmapped = holdsOtherReference (given .type) || holdsHiddenReference (given .type); count = mostSlots (slotCount (given .type)); end = mostEnd (slotEnd (given .type)) })
+    counted : Counted (holdsOtherReference (given .type) || holdsHiddenReference (given .type)) (slotCount (given .type)) (slotEnd (given .type)) t
     unfolding CountedAs
-    counted = rw (given .stands) at g none-zero
+    counted = rw (given .stands) at (g .counts 0) none-zero
 
-    pub slots-lost : y ≡ Lost → SlotsAre table pool (Refused Unmapped) out out
-    slots-lost f = let c = counted in let w : _≡_ {A = ℕ} 0 1 = cc in absurd (omega arith)
+    refused-unmapped : unmapped (given .type) ≡ true → SlotsAre table pool (Refused Unmapped) out out
+    unfolding slotting unlessZero unless
+    refused-unmapped u = refused table pool out Unmapped (finding ∙ rw (none-zero, u))
 
-    module _ {t : Tally} (f : y ≡ At t) where
-      tally : t ≡ record { row = s .row; place = s .place; unmapped = holdsOtherReference (given .type) || holdsHiddenReference (given .type); count = mostSlots (slotCount (given .type)); end = mostEnd (slotEnd (given .type)) }
-      tally = let c = counted in cc
+    pub slots-other : t .unmapped ≡ true → SlotsAre table pool (Refused Unmapped) out out
+    slots-other u =
+        refused-unmapped (unmapped-counted (given .type) ∙ go (holdsOtherReference (given .type)) (holdsHiddenReference (given .type)) _ (sym (counted .unmapped-is) ∙ u))
+      where
+        go : (a b c : Bool) → (a || b) ≡ true → (a || (b || c)) ≡ true
+        go true b c h = refl
+        go false b c h = rw h
 
-      count-is : t .count ≡ mostSlots (slotCount (given .type))
-      count-is = ap (λ (v : Tally). v .count) tally
+    pub slots-many : s .size / 8 < t .count → SlotsAre table pool (Refused Unmapped) out out
+    slots-many l =
+        let w : typeSize (given .type) / 8 < slotCount (given .type) = omega (arith, counted .count-is, ap (λ (n : ℕ). n / 8) sized) in
+        refused-unmapped (unmapped-counted (given .type) ∙ rw (lt-ltb (typeSize (given .type) / 8) (slotCount (given .type)) w, or-true, or-true))
 
-      end-is : t .end ≡ mostEnd (slotEnd (given .type))
-      end-is = ap (λ (v : Tally). v .end) tally
+    pub slots-far : s .size < t .end → SlotsAre table pool (Refused Unmapped) out out
+    slots-far l =
+        let w : typeSize (given .type) < slotEnd (given .type) = omega (arith, counted .end-is, sized) in
+        refused-unmapped (unmapped-counted (given .type) ∙ rw (lt-ltb (typeSize (given .type)) (slotEnd (given .type)) w, or-true, or-true, or-true))
 
-      refused-unmapped : unmapped (given .type) ≡ true → SlotsAre table pool (Refused Unmapped) out out
-      unfolding slotting unlessZero unless
-      refused-unmapped u = refused table pool out Unmapped (finding ∙ rw (none-zero, u))
+    module _ (u : t .unmapped ≡ false) (m : t .count ≤ s .size / 8) (n : t .end ≤ s .size) (low : s .size < 4294967296) where
+      all-counted : slotCount (given .type) ≡ t .count
+      all-counted = omega (arith, counted .count-is, div-mul-le-self (s .size) 8)
 
-      pub slots-other : t .unmapped ≡ true → SlotsAre table pool (Refused Unmapped) out out
-      slots-other u =
-          refused-unmapped (unmapped-counted (given .type) ∙ go (holdsOtherReference (given .type)) (holdsHiddenReference (given .type)) _ (sym (ap (λ (v : Tally). v .unmapped) tally) ∙ u))
-        where
-          go : (a b c : Bool) → (a || b) ≡ true → (a || (b || c)) ≡ true
-          go true b c h = refl
-          go false b c h = rw h
+      all-ends : slotEnd (given .type) ≤ typeSize (given .type)
+      all-ends = omega (arith, counted .end-is, sized)
 
-      pub slots-many : s .size / 8 < t .count → SlotsAre table pool (Refused Unmapped) out out
-      slots-many l =
-          let w : typeSize (given .type) / 8 < slotCount (given .type) = omega (arith, count-is, ap (λ (n : ℕ). n / 8) sized) in
-          refused-unmapped (unmapped-counted (given .type) ∙ rw (lt-ltb (typeSize (given .type) / 8) (slotCount (given .type)) w, or-true, or-true))
+      neither : (holdsOtherReference (given .type) || holdsHiddenReference (given .type)) ≡ false
+      neither = sym (counted .unmapped-is) ∙ u
 
-      pub slots-far : s .size < t .end → SlotsAre table pool (Refused Unmapped) out out
-      slots-far l =
-          let w : typeSize (given .type) < slotEnd (given .type) = omega (arith, end-is, sized) in
-          refused-unmapped (unmapped-counted (given .type) ∙ rw (lt-ltb (typeSize (given .type)) (slotEnd (given .type)) w, or-true, or-true, or-true))
+      mapped : unmapped (given .type) ≡ false
+      mapped =
+          let w = or-neither (holdsOtherReference (given .type)) (holdsHiddenReference (given .type)) neither in
+          let q : slotCount (given .type) ≤ typeSize (given .type) / 8 = omega (arith, all-counted, ap (λ (n : ℕ). n / 8) sized) in
+          unmapped-counted (given .type) ∙ rw (w .0, w .1, le-ltb (typeSize (given .type) / 8) (slotCount (given .type)) q, le-ltb (typeSize (given .type)) (slotEnd (given .type)) all-ends)
 
-      module _ (u : t .unmapped ≡ false) (m : t .count ≤ s .size / 8) (n : t .end ≤ s .size) (low : s .size < 4294967296) where
-        all-counted : slotCount (given .type) ≡ t .count
-        all-counted = omega (arith, count-is, div-mul-le-self (s .size) 8)
+      long : length (slots (given .type)) ≡ t .count
+      long = length-slots (given .type) ∙ all-counted
 
-        all-ends : slotEnd (given .type) ≤ typeSize (given .type)
-        all-ends = omega (arith, end-is, sized)
+      pub slots-room : length out < t .count → SlotsAre table pool (Refused (NoRoom (t .count))) out out
+      unfolding slotting unlessZero unless needed
+      slots-room l =
+          let e : min (t .count) 18446744073709551615 ≡ t .count = omega (arith, div-mul-le-self (s .size) 8) in
+          refused table pool out (NoRoom (t .count)) (finding ∙ rw (none-zero, mapped, long, lt-leb (t .count) (length out) l, e))
 
-        neither : (holdsOtherReference (given .type) || holdsHiddenReference (given .type)) ≡ false
-        neither = sym (ap (λ (v : Tally). v .unmapped) tally) ∙ u
-
-        mapped : unmapped (given .type) ≡ false
-        mapped =
-            let w = or-neither (holdsOtherReference (given .type)) (holdsHiddenReference (given .type)) neither in
-            let q : slotCount (given .type) ≤ typeSize (given .type) / 8 = omega (arith, all-counted, ap (λ (n : ℕ). n / 8) sized) in
-            unmapped-counted (given .type) ∙ rw (w .0, w .1, le-ltb (typeSize (given .type) / 8) (slotCount (given .type)) q, le-ltb (typeSize (given .type)) (slotEnd (given .type)) all-ends)
-
-        long : length (slots (given .type)) ≡ t .count
-        long = length-slots (given .type) ∙ all-counted
-
-        pub slots-room : length out < t .count → SlotsAre table pool (Refused (NoRoom (t .count))) out out
-        unfolding slotting unlessZero unless needed
-        slots-room l =
-            let e : min (t .count) 18446744073709551615 ≡ t .count = omega (arith, div-mul-le-self (s .size) 8) in
-            refused table pool out (NoRoom (t .count)) (finding ∙ rw (none-zero, mapped, long, lt-leb (t .count) (length out) l, e))
-
-        pub slots-found : (x : ℕ) (out′ : List ℕ) → t .count ≤ length out → PutAs (typeAt 32 table pool 0 0) 0 out 0 x out′ → SlotsAre table pool (SlotsFound (t .count)) out out′
-        unfolding PutAs slotting unlessZero unless answerOf outputAfter
-        slots-found x out′ r v =
-            let w = rw (given .stands) at v in
-            let q : shifted 0 (slots (given .type)) ≡ slots (given .type) = shifted-zero (slots (given .type)) in
-            let o : someOutside (typeSize (given .type)) (slots (given .type)) ≡ false =
-            slots-outside (given .type) (typeSize (given .type)) ∙ le-ltb (typeSize (given .type)) (slotEnd (given .type)) all-ends in
-            let p : Fits (slots (given .type)) out 0 = record { room = omega (arith, long); low = all-low (typeSize (given .type)) (slots (given .type)) (omega (arith, sized)) o } in
-            let l : Listed (slots (given .type)) out 0 x out′ = rw q at (w (record { sized = none-zero; mapped = neither }) (rw q p)) in
-            let d : findingSlots table pool (length out) ≡ gives (slots (given .type)) = finding ∙ rw (none-zero, mapped, long, le-leb (t .count) (length out) r) in
-            let a : SlotsFound (t .count) ≡ answerOf (findingSlots table pool (length out)) = rw (d, long) in
-            let n = told (findingSlots table pool (length out)) a in
-            record { answer = a; number = n .0; values = n .1; out-is = l .out-is ∙ rw d (sets-front (slots (given .type)) out (omega (arith, long))) }
+      pub slots-found : (x : Put) (out′ : List ℕ) → t .count ≤ length out → PutAt 32 table pool 0 0 out 0 x out′ → SlotsAre table pool (SlotsFound (t .count)) out out′
+      unfolding PutAs slotting unlessZero unless answerOf outputAfter
+      slots-found x out′ r v =
+          let w = rw (given .stands) at (v .lists 0) in
+          let q : shifted 0 (slots (given .type)) ≡ slots (given .type) = shifted-zero (slots (given .type)) in
+          let o : someOutside (typeSize (given .type)) (slots (given .type)) ≡ false =
+          slots-outside (given .type) (typeSize (given .type)) ∙ le-ltb (typeSize (given .type)) (slotEnd (given .type)) all-ends in
+          let p : Fits (slots (given .type)) out 0 = record { room = omega (arith, long); low = all-low (typeSize (given .type)) (slots (given .type)) (omega (arith, sized)) o } in
+          let l : Listed (slots (given .type)) out 0 (x .next) out′ = rw q at (w (record { sized = none-zero; mapped = neither }) (rw q p)) in
+          let d : findingSlots table pool (length out) ≡ gives (slots (given .type)) = finding ∙ rw (none-zero, mapped, long, le-leb (t .count) (length out) r) in
+          let a : SlotsFound (t .count) ≡ answerOf (findingSlots table pool (length out)) = rw (d, long) in
+          let n = told (findingSlots table pool (length out)) a in
+          record { answer = a; number = n .0; values = n .1; out-is = l .out-is ∙ rw d (sets-front (slots (given .type)) out (omega (arith, long))) }

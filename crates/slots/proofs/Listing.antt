@@ -2,60 +2,32 @@
 use Prim.Native.Nat.{ℕ, zero, suc, _+_, _-_, _*_, _<_, _≤_, min}
 use mathlib.Core.Path.{_≡_, refl, sym, ap, _∙_}
 use mathlib.Core.Bool.{Bool, true, false, cond, not, _&&_}
-use mathlib.Core.List.{List, [], _∷_}
+use mathlib.Core.List.{List, [], _∷_, _++_}
 use native.Mathlib.Omega.{arith}
-use native.Mathlib.Nat.{one-mul, add-zero}
+use native.Mathlib.Nat.{one-mul, add-zero, mul-comm, mul-zero, suc-mul}
 use native.Mathlib.Numerals.{add-one}
-use lib.ListN.{length, take, drop, set}
+use lib.ListN.{length, set}
+use lib.Seq.{sets}
 use lib.Dec.{eqb}
-use borrow.Author.Tests.{ne-eqb, not-true, not-false}
-use Rattle.format.specs.Bytes.{dimensionsFrom}
-use Rattle.format.specs.Datatype.{Datatype, leaf, compound, enumeration, variableLength, array, Members, noMembers, member, product, typeSize}
-use Rattle.format.specs.Sizes.{holdsObjectAddress, memberHoldsObjectAddress}
-use Rattle.format.specs.Slots.{isSlot, shifted, entries, slots, memberSlots, holdsOtherReference, holdsHiddenReference, firstZero}
+use borrow.Author.Tests.{ne-eqb, eqb-true, eqb-false}
+use Rattle.format.specs.Datatype.{Datatype, compound, array, Members, product, typeSize}
+use Rattle.format.specs.Slots.{isSlot, shifted, entries, slots, holdsOtherReference, holdsHiddenReference, firstZero}
 use Rattle.format.specs.Table.{Found, found, bad, Walk, andThen, typeAt, membersAt}
 use Rattle.format.proofs.Booleans.{or-neither}
-use Rattle.format.proofs.Slots.{refers-within, length-slots, first-zero-size, no-slot-no-reference, or-else-none}
-use Rattle.rows.specs.Entries.{entryAt, leafType, fromEntry}
+use Rattle.format.proofs.Slots.{length-shifted, length-entries, first-zero-size, or-else-none}
+use Rattle.rows.specs.Entries.{entryAt, leafType, fromEntry, RowSays}
 use Rattle.rows.specs.declared.Entry.{Entry}
 use Rattle.rows.specs.declared.Entry.the-variants.{Leaf, Compound, Enumeration, VariableLength, Array, Unknown}
-use Rattle.rows.proofs.Decode.{typeAt-entry}
 use Rattle.rows.proofs.Leaves.{leaf-law}
-use Rattle.table.specs.Survey.{surveyOf}
-use Rattle.table.specs.declared.Survey.{Survey}
-use Rattle.table.specs.declared.Surveyed.{Surveyed}
-use Rattle.table.specs.declared.Surveyed.the-variants.{Sound, Unsound}
-use Rattle.table.proofs.Surveys.{Told, told, untold}
+use Rattle.table.specs.Known.{PassesType, TotalAt, SizedTo, SizedAt}
+use Rattle.table.specs.Path.{topOf, Entered}
 use Rattle.table.specs.declared.Path.{Path}
-use Rattle.table.specs.Path.{topOf}
-use Rattle.slots.specs.Slots.{Standing, AllBelow, Fits, Listed, Listable, PutAs, PutOne, PutIn, PutEach}
-use Rattle.slots.proofs.Shifting.{first-low, few-entries, listed-none, shifted-none, entries-none}
-
--- ---- a type that holds a reference has slots
-
-some-slots : (t : Datatype) → Listable t → holdsObjectAddress t ≡ true → slots t ≡ [] → ⊥
-some-slots t l h e =
-    let m = or-neither _ _ (l .mapped) in
-    let n = no-slot-no-reference t (l .sized) (m .0) (m .1) (sym (length-slots t) ∙ ap length e) in
-    let z : _≡_ {A = ℕ} 0 1 = cc in
-    omega arith
-
--- and one that holds none has none
-mutual
-  unfolding slots holdsObjectAddress
-
-  no-slots : (t : Datatype) → holdsObjectAddress t ≡ false → slots t ≡ []
-  no-slots (leaf n x) h = rw (refers-within (isSlot n) x, h)
-  no-slots (compound n ms) h = no-member-slots ms h
-  no-slots (enumeration n t ms) h = refl
-  no-slots (variableLength i a d t) h = refl
-  no-slots (array ds t) h = rw (no-slots t h) (entries-none (typeSize t) 0 (product ds))
-
-  no-member-slots : (ms : Members) → memberHoldsObjectAddress ms ≡ false → memberSlots ms ≡ []
-  no-member-slots noMembers h = refl
-  no-member-slots (member b o t ms) h =
-      let u = or-neither (holdsObjectAddress t) (memberHoldsObjectAddress ms) h in
-      rw (shifted-none o (slots t) (no-slots t (u .0)), no-member-slots ms (u .1))
+use Rattle.table.proofs.Passing.{passes-none, passes-leaf, passes-compound, passes-array}
+use Rattle.slots.specs.Slots.{AllBelow, Fits, Listed, Listable, PutAs, PutIn, PutAt, PutInside, Passed, PutLeaf, movedOn, Repeats}
+use Rattle.slots.specs.declared.Put.{Put}
+use Rattle.slots.proofs.Repeating.{Reads, reads-sets, further, further-entries, moved-further}
+use Rattle.slots.proofs.Rows.{above, below, by-row}
+use Rattle.slots.proofs.Shifting.{all-append, first-low, few-entries, entries-more, fits-first, fits-second, listed-both, listed-none, shifted-none, entries-none}
 
 -- ---- where there is no slot, nothing is written
 
@@ -84,46 +56,61 @@ module _ (rd : Walk Datatype) (table pool : List ℕ) (r p : ℕ) where
 
 -- ---- a leaf
 
+module _ (row class base : ℕ) (out : List ℕ) (at : ℕ) where
+  pub leaf-other : (class ≡ 7 → ⊥) → PutLeaf row class base out at (record { row = row; next = at }) out
+  leaf-other h = record { behind = refl; one = λ i f. absurd (h i); none-else = λ i. listed-none out at }
+
+  module _ (reference : class ≡ 7) where
+    pub leaf-full : length out ≤ at → PutLeaf row class base out at (record { row = row; next = at }) out
+    leaf-full h = record { behind = refl; one = λ i f. absurd (omega arith); none-else = λ i. absurd (i reference) }
+
+    pub leaf-stored : PutLeaf row class base out at (record { row = row; next = at + 1 }) (set out at base)
+    leaf-stored = record { behind = refl; one = λ i f. record { next = refl; out-is = refl }; none-else = λ i. absurd (i reference) }
+
 -- what a leaf's row says of its type
-unfoldable LeafTold : (k n l x : ℕ) → Datatype → Type 0
-LeafTold k n l x t = (slots t ≡ cond (eqb k 7 && isSlot n x) (0 ∷ []) []) × (holdsOtherReference t ≡ (eqb k 7 && not (isSlot n x)))
+module _ (table pool : List ℕ) (r p : ℕ) {k n l x : ℕ} (q : Leaf k n l x ≡ entryAt table pool r p) where
+  leaf-slots : slots (leafType table pool r p k) ≡ cond (eqb k 7 && isSlot n x) (0 ∷ []) []
+  unfolding slots
+  leaf-slots = let h = leaf-law table pool r p q refl in rw (h .is, h .refers-by)
 
-module _ (table pool : List ℕ) (r p : ℕ) where
-  leaf-told : {k n l x : ℕ} {e : Entry} → e ≡ entryAt table pool r p → e ≡ Leaf k n l x → LeafTold k n l x (leafType table pool r p k)
-  unfolding LeafTold slots holdsOtherReference
-  leaf-told q e = let h = leaf-law table pool r p q e in (rw (h .is, h .refers-by), rw (h .is, h .refers-by))
+  leaf-others : holdsOtherReference (leafType table pool r p k) ≡ (eqb k 7 && not (isSlot n x))
+  unfolding holdsOtherReference
+  leaf-others = let h = leaf-law table pool r p q refl in rw (h .is, h .refers-by)
 
-  leaf-empty : {k n l x : ℕ} {e : Entry} → e ≡ entryAt table pool r p → e ≡ Leaf k n l x → (k ≡ 7 → ⊥) → slots (leafType table pool r p k) ≡ []
-  unfolding LeafTold
-  leaf-empty {k = k} q e h = leaf-told q e .0 ∙ rw (ne-eqb k 7 h)
+  leaf-none : (k ≡ 7 → ⊥) → slots (leafType table pool r p k) ≡ []
+  leaf-none h = leaf-slots ∙ rw (ne-eqb k 7 h)
 
-  leaf-slot : {k n l x : ℕ} {e : Entry} → e ≡ entryAt table pool r p → e ≡ Leaf k n l x → k ≡ 7 → Listable (leafType table pool r p k) → slots (leafType table pool r p k) ≡ 0 ∷ []
-  unfolding LeafTold
-  leaf-slot {k = k} {n = n} {x = x} q e h l =
-      let w = leaf-told q e in
-      let m = or-neither _ _ (l .mapped) .0 in
-      let f : (eqb k 7 && not (isSlot n x)) ≡ false = sym (w .1) ∙ m in
-      go (isSlot n x) (rw h at f) (w .0 ∙ rw h)
+  leaf-one : k ≡ 7 → Listable (leafType table pool r p k) → slots (leafType table pool r p k) ≡ 0 ∷ []
+  leaf-one h l = go (isSlot n x) (rw h at (sym leaf-others ∙ or-neither _ _ (l .mapped) .0)) (leaf-slots ∙ rw h)
     where
       go : (b : Bool) → not b ≡ false → slots (leafType table pool r p k) ≡ cond b (0 ∷ []) [] → slots (leafType table pool r p k) ≡ 0 ∷ []
       go true f g = g
       go false f g = let z : _≡_ {A = ℕ} 0 1 = cc in absurd (omega arith)
 
-one-listed : (base : ℕ) (out : List ℕ) (at : ℕ) (ss : List ℕ) → ss ≡ 0 ∷ [] → Listed (shifted base ss) out at (at + 1) (set out at base)
-unfolding shifted
-one-listed base out at ss e = rw (e, add-zero base) (record { next = refl; out-is = refl })
+  leaf-put : (row base : ℕ) (out : List ℕ) (at : ℕ) (y : Put) (out′ : List ℕ) (r′ p′ : ℕ) → PutLeaf row k base out at y out′ → PutAs (found (leafType table pool r p k) r′ p′) base out at (y .next) out′
+  unfolding PutAs
+  leaf-put row base out at y out′ r′ p′ w = λ l f. go (eqb k 7) refl l f
+    where
+      go : (b : Bool) → eqb k 7 ≡ b → Listable (leafType table pool r p k) → Fits (shifted base (slots (leafType table pool r p k))) out at → Listed (shifted base (slots (leafType table pool r p k))) out at (y .next) out′
+      go true i l f =
+          let h = eqb-true k 7 i in
+          let e : shifted base (slots (leafType table pool r p k)) ≡ base ∷ [] = rw (leaf-one h l) (unfold shifted in rw (add-zero base)) in
+          let g : Fits (base ∷ []) out at = rw e at f in
+          rw e (w .one h (g .room))
+      go false i l f = let h = eqb-false k 7 i in rw (leaf-none h, shifted-none base [] refl) (w .none-else h)
 
-one-fits : (base : ℕ) (out : List ℕ) (at : ℕ) (ss : List ℕ) → ss ≡ 0 ∷ [] → Fits (shifted base ss) out at → at + 1 ≤ length out
-unfolding shifted
-one-fits base out at ss e f =
-    let g : Fits ((base + 0) ∷ []) out at = rw e at f in
-    omega (arith, g .room)
-
--- ---- the types that hold another
+-- ---- an array
 
 array-listable : (ds : List ℕ) (t : Datatype) → Listable (array ds t) → Listable t
 unfolding firstZero holdsOtherReference holdsHiddenReference
 array-listable ds t l = record { sized = or-else-none _ _ (l .sized) .1; mapped = l .mapped }
+
+-- it has entries
+array-some : (ds : List ℕ) (t : Datatype) → Listable (array ds t) → product ds ≡ 0 → ⊥
+array-some ds t l e = omega (arith, first-zero-size (array ds t) (l .sized), none)
+  where
+    none : typeSize (array ds t) ≡ 0
+    none = unfold typeSize in rw (e, mul-zero (typeSize t))
 
 all-entries : (ds : List ℕ) (stride base : ℕ) (ss : List ℕ) {n : ℕ} → 0 < stride → (ss ≡ [] → ⊥) → AllBelow 4294967296 (shifted base (entries stride ss 0 (product ds))) → n ≡ min (1 * product ds) 4294967296 → n ≡ product ds
 all-entries ds stride base ss {n = n} h z f e = go (product ds) f (e ∙ ap (λ (k : ℕ). min k 4294967296) (one-mul (product ds)))
@@ -132,130 +119,137 @@ all-entries ds stride base ss {n = n} h z f e = go (product ds) f (e ∙ ap (λ 
     go zero f e = omega arith
     go (suc k) f e = omega (arith, few-entries 4294967296 stride base ss z h 0 k f)
 
-array-listed : (y : Found Datatype) (ds : List ℕ) (s : Survey) (base : ℕ) (out : List ℕ) (at x : ℕ) (out′ : List ℕ) {n : ℕ} → Told y s → s .object ≡ true → n ≡ min (1 * product ds) 4294967296
-    → PutEach y (s .size) n base out at x out′ → PutAs (andThen y (λ t r p. found (array ds t) r p)) base out at x out′
-unfolding Told andThen PutAs PutEach slots
-array-listed (found t r p) ds s base out at x out′ {n = n} h o e v = λ l f.
-    let k : s .size ≡ typeSize t = ap (λ (u : Survey). u .size) (h .is) in
-    let ho : holdsObjectAddress t ≡ true = sym (ap (λ (u : Survey). u .object) (h .is)) ∙ o in
-    let lt = array-listable ds t l in
-    let z = some-slots t lt ho in
-    let m = all-entries ds (typeSize t) base (slots t) (first-zero-size t (lt .sized)) z (f .low) e in
-    let w = rw (k, m) at v in
-    w lt z f
-array-listed bad ds s base out at x out′ h o e v = tt
+-- the first entry's numbers are listed, the others moved from them
+module _ (stride base : ℕ) (ss out : List ℕ) (at next : ℕ) (out₁ : List ℕ) (x : ℕ) (out′ : List ℕ) where
+  repeated : (c : ℕ) → (ss ≡ [] → ⊥) → Fits (shifted base (entries stride ss 0 (suc c))) out at → Listed (shifted base ss) out at next out₁ → Repeats stride (suc c) at next out₁ x out′
+      → Listed (shifted base (entries stride ss 0 (suc c))) out at x out′
+  repeated c z f a w =
+      let e = entries-more stride base ss c in
+      let g : Fits (shifted base ss ++ shifted (base + stride) (entries stride ss 0 c)) out at = rw e at f in
+      let d = fits-second _ _ out at g a in
+      let n : next - at ≡ length ss = omega (arith, a .next, length-shifted base ss) in
+      let some : 0 < length ss = some-length ss z in
+      let long : length (shifted (base + stride) (entries stride ss 0 c)) ≡ c * length ss = length-shifted (base + stride) (entries stride ss 0 c) ∙ length-entries stride ss 0 c in
+      let all : at + (next - at) * suc c ≡ next + c * length ss = whole n in
+      let room : next + c * length ss ≤ length out₁ = omega (arith, d .room, long) in
+      let m : at + (next - at) * suc c - next ≡ c * length ss = omega arith in
+      let s : Reads out₁ at (shifted base ss) = rw (a .out-is) (reads-sets (shifted base ss) out at (fits-first (shifted base ss) (shifted (base + stride) (entries stride ss 0 c)) out at g .room)) in
+      let k : movedOn stride (next - at) next (c * length ss) out₁ ≡ sets out₁ next (further stride (shifted base ss) (c * length ss)) =
+      moved-further stride (next - at) (c * length ss) (shifted base ss) out₁ at next (a .next) (omega (arith, length-shifted base ss)) (omega arith) s room (rw (further-entries stride base ss c) (d .low)) in
+      let v : Listed (shifted (base + stride) (entries stride ss 0 c)) out₁ next x out′ =
+      record {
+        next = w .next-is (omega arith) (omega arith) (omega arith) ∙ omega (arith, long);
+        out-is = w .out-is (omega arith) (omega arith) (omega arith) ∙ ap (λ (q : ℕ). movedOn stride (next - at) next q out₁) m ∙ k ∙ ap (sets out₁ next) (further-entries stride base ss c);
+      } in
+      rw e (listed-both _ _ out at next x out₁ out′ a v)
+    where
+      some-length : (ss : List ℕ) → (ss ≡ [] → ⊥) → 0 < length ss
+      some-length [] z = absurd (z refl)
+      some-length (s ∷ ss) z = omega arith
 
-array-empty : (y : Found Datatype) (ds : List ℕ) (s : Survey) → Told y s → s .object ≡ false → Empty (andThen y (λ t r p. found (array ds t) r p))
-unfolding Told andThen Empty slots
-array-empty (found t r p) ds s h o =
-    let ho : holdsObjectAddress t ≡ false = sym (ap (λ (u : Survey). u .object) (h .is)) ∙ o in
-    rw (no-slots t ho) (entries-none (typeSize t) 0 (product ds))
-array-empty bad ds s h o = tt
+      whole : next - at ≡ length ss → at + (next - at) * suc c ≡ next + c * length ss
+      whole n = rw n (omega (arith, mul-comm (length ss) (suc c), suc-mul c (length ss), a .next, length-shifted base ss))
 
--- ---- a level further down
-
--- where a survey found something there was a level left
-pub sound-deeper : (table pool : List ℕ) (depth row place : ℕ) {y : Surveyed} {s : Survey} → y ≡ surveyOf (typeAt (32 - depth) table pool row place) → y ≡ Sound s → depth < 32
-sound-deeper table pool depth row place {s = s} g u = go (32 - depth) refl (told _ s g u)
+array-listed : (ds : List ℕ) (t : Datatype) (stride n base : ℕ) (out : List ℕ) (at next : ℕ) (out₁ : List ℕ) (x : ℕ) (out′ : List ℕ)
+    → (Listable t → Fits (shifted base (slots t)) out at → Listed (shifted base (slots t)) out at next out₁) → stride ≡ typeSize t → n ≡ min (1 * product ds) 4294967296 → Repeats stride n at next out₁ x out′
+    → Listable (array ds t) → Fits (shifted base (entries (typeSize t) (slots t) 0 (product ds))) out at → Listed (shifted base (entries (typeSize t) (slots t) 0 (product ds))) out at x out′
+array-listed ds t stride n base out at next out₁ x out′ v s e w l f = go (slots t) refl (product ds) refl
   where
-    go : (l : ℕ) → 32 - depth ≡ l → Told (typeAt l table pool row place) s → depth < 32
-    go zero j h = absurd (unfold Told typeAt in h)
-    go (suc l) j h = omega arith
+    lt : Listable t
+    lt = array-listable ds t l
 
-pub standing-entered : {depth base : ℕ} (inner : Path) → inner .depth ≡ depth + 1 → depth < 32 → base < 4294967296 → Standing inner base
-standing-entered inner e h l = record { deep = omega arith; shallow = omega arith; low = l }
+    go : (ss : List ℕ) → slots t ≡ ss → (k : ℕ) → product ds ≡ k → Listed (shifted base (entries (typeSize t) (slots t) 0 (product ds))) out at x out′
+    go ss i zero j = absurd (array-some ds t l j)
+    go [] i (suc c) j =
+        let a : Listed [] out at next out₁ = rw (i, shifted-none base [] refl) at (v lt) (record { room = omega (arith, f .room); low = unfold AllBelow in tt }) in
+        let b = w .none-there (omega (arith, a .next)) in
+        rw (i, entries-none (typeSize t) 0 (product ds), shifted-none base [] refl) (listed-both [] [] out at next x out₁ out′ a b)
+    go (y ∷ ys) i (suc c) j =
+        let z : slots t ≡ [] → ⊥ = λ h. let q : _≡_ {A = ℕ} 0 1 = cc in omega arith in
+        let m : n ≡ product ds = all-entries ds (typeSize t) base (slots t) (first-zero-size t (lt .sized)) z (f .low) e in
+        let g : Fits (shifted base (entries (typeSize t) (slots t) 0 (suc c))) out at = rw j at f in
+        let h : Fits (shifted base (slots t) ++ shifted (base + typeSize t) (entries (typeSize t) (slots t) 0 c)) out at = rw (entries-more (typeSize t) base (slots t) c) at g in
+        rw j (repeated (typeSize t) base (slots t) out at next out₁ x out′ c z g (v lt (fits-first _ _ out at h)) (rw (s, m, j) at w))
+
+array-put : (ds : List ℕ) (stride n base : ℕ) (out : List ℕ) (at next : ℕ) (out₁ : List ℕ) (x : ℕ) (out′ : List ℕ) (y : Found Datatype) → PutAs y base out at next out₁ → SizedTo y stride
+    → n ≡ min (1 * product ds) 4294967296 → Repeats stride n at next out₁ x out′ → PutAs (andThen y (λ t r p. found (array ds t) r p)) base out at x out′
+unfolding PutAs SizedTo andThen slots
+array-put ds stride n base out at next out₁ x out′ (found t r p) v s e w = array-listed ds t stride n base out at next out₁ x out′ v s e w
+array-put ds stride n base out at next out₁ x out′ bad v s e w = tt
 
 -- ---- by the row
 
-module _ (table pool : List ℕ) (depth row place base : ℕ) (out : List ℕ) (at : ℕ) {e : Entry} (shallow : depth ≤ 32) (q : e ≡ entryAt table pool row place) where
-  type-as : {f : Entry} → e ≡ f → typeAt (33 - depth) table pool row place ≡ fromEntry (typeAt (32 - depth) table pool) table pool row place f
-  type-as h =
-      let j : 33 - depth ≡ suc (32 - depth) = omega arith in
-      ap (λ (k : ℕ). typeAt k table pool row place) j
-      ∙ typeAt-entry (32 - depth) table pool row place
-      ∙ ap (fromEntry (typeAt (32 - depth) table pool) table pool row place) (sym q ∙ h)
+module _ (table pool : List ℕ) (depth row base : ℕ) (out : List ℕ) (at : ℕ) {e : Entry} (shallow : depth ≤ 32) (s : RowSays table row e) where
+  lists-by : (x : ℕ) (out′ : List ℕ) {f : Entry} → e ≡ f → ((p : ℕ) → f ≡ entryAt table pool row p → PutAs (fromEntry (typeAt (32 - depth) table pool) table pool row p f) base out at x out′) → (p : ℕ)
+      → PutAs (typeAt (33 - depth) table pool row p) base out at x out′
+  lists-by x out′ i v p = by-row table pool depth row shallow s (λ (y : Found Datatype). PutAs y base out at x out′) (unfold PutAs in tt) p i (v p)
 
-  type-empty : {f : Entry} → e ≡ f → Empty (fromEntry (typeAt (32 - depth) table pool) table pool row place f) → PutAs (typeAt (33 - depth) table pool row place) base out at at out
-  type-empty h i = rw (type-as h) (put-empty _ base out at i)
+  deep : 33 - depth ≡ 0 → ⊥
+  deep = above depth shallow
 
-  pub type-unknown : e ≡ Unknown → PutAs (typeAt (33 - depth) table pool row place) base out at at out
-  type-unknown h = type-empty h (unfold fromEntry Empty in tt)
+  type-empty : {x : Put} {f : Entry} → Passed (33 - depth) table row at x → e ≡ f → ((p : ℕ) → Empty (fromEntry (typeAt (32 - depth) table pool) table pool row p f)) → PutAt (33 - depth) table pool row base out at x out
+  type-empty {x = x} v i h = record { passes = v .passes; lists = lists-by (x .next) out i (λ p q. rw (v .stays) (put-empty _ base out at (h p))) }
 
-  pub type-enumeration : {n k : ℕ} → e ≡ Enumeration n k → PutAs (typeAt (33 - depth) table pool row place) base out at at out
-  type-enumeration h = type-empty h (empty-enumeration _ table pool row place _ _)
+  pub type-unknown : {x : Put} → Passed (33 - depth) table row at x → e ≡ Unknown → PutAt (33 - depth) table pool row base out at x out
+  type-unknown v i = type-empty v i (λ p. unfold fromEntry Empty in tt)
 
-  pub type-variableLength : {i a c : ℕ} → e ≡ VariableLength i a c → PutAs (typeAt (33 - depth) table pool row place) base out at at out
-  type-variableLength h = type-empty h (empty-variableLength _ table pool row place _ _ _)
+  pub type-enumeration : {x : Put} {n k : ℕ} → Passed (33 - depth) table row at x → e ≡ Enumeration n k → PutAt (33 - depth) table pool row base out at x out
+  type-enumeration v i = type-empty v i (λ p. empty-enumeration _ table pool row p _ _)
 
-  pub type-leaf-other : {k n l x : ℕ} → e ≡ Leaf k n l x → (k ≡ 7 → ⊥) → PutAs (typeAt (33 - depth) table pool row place) base out at at out
-  unfolding fromEntry Empty
-  type-leaf-other h i = type-empty h (leaf-empty table pool row place q h i)
+  pub type-variableLength : {x : Put} {a c d : ℕ} → Passed (33 - depth) table row at x → e ≡ VariableLength a c d → PutAt (33 - depth) table pool row base out at x out
+  type-variableLength v i = type-empty v i (λ p. empty-variableLength _ table pool row p _ _ _)
 
-  pub type-leaf-full : {k n l x : ℕ} → e ≡ Leaf k n l x → k ≡ 7 → length out ≤ at → PutAs (typeAt (33 - depth) table pool row place) base out at at out
-  unfolding fromEntry PutAs
-  type-leaf-full h i g = rw (type-as h) (λ l f. absurd (omega (arith, one-fits base out at _ (leaf-slot table pool row place q h i l) f)))
+  pub type-leaf : (x : Put) (out′ : List ℕ) {k n l y : ℕ} → e ≡ Leaf k n l y → PutLeaf (row + 1) k base out at x out′ → PutAt (33 - depth) table pool row base out at x out′
+  type-leaf x out′ i v =
+      record {
+        passes = rw (v .behind) (passes-leaf table row (33 - depth) deep s i);
+        lists = lists-by (x .next) out′ i (λ p q. unfold fromEntry in leaf-put table pool row p q (row + 1) base out at x out′ _ _ v);
+      }
 
-  pub type-leaf : {k n l x : ℕ} → e ≡ Leaf k n l x → k ≡ 7 → PutAs (typeAt (33 - depth) table pool row place) base out at (at + 1) (set out at base)
-  unfolding fromEntry PutAs
-  type-leaf h i = rw (type-as h) (λ l f. one-listed base out at _ (leaf-slot table pool row place q h i l))
-
-  pub type-compound : (x : ℕ) (out′ : List ℕ) {n k : ℕ} → e ≡ Compound n k → PutIn (membersAt (typeAt (32 - depth) table pool) table pool k (row + 1) place) base out at x out′
-      → PutAs (typeAt (33 - depth) table pool row place) base out at x out′
-  unfolding fromEntry
-  type-compound x out′ {n = n} h v = rw (type-as h) (go _ (rw (add-one row) at v))
+  pub type-compound : (x : Put) (out′ : List ℕ) {n k : ℕ} → e ≡ Compound n k → PutInside (32 - depth) table pool (row + 1) k base out at x out′ → PutAt (33 - depth) table pool row base out at x out′
+  type-compound x out′ {n = n} i v =
+      record {
+        passes = passes-compound table row (33 - depth) deep s i (rw (below depth) (v .passes));
+        lists = lists-by (x .next) out′ i (λ p q. unfold fromEntry in go _ (rw (add-one row) at (v .lists p)));
+      }
     where
-      go : (y : Found Members) → PutIn y base out at x out′ → PutAs (andThen y (λ ms r′ p′. found (compound n ms) r′ p′)) base out at x out′
+      go : (y : Found Members) → PutIn y base out at (x .next) out′ → PutAs (andThen y (λ ms r′ p′. found (compound n ms) r′ p′)) base out at (x .next) out′
       go (found ms r p) w = unfold andThen PutAs PutIn slots firstZero holdsOtherReference holdsHiddenReference in λ l f. w (record { sized = or-else-none _ _ (l .sized) .1; mapped = l .mapped }) f
       go bad w = unfold andThen PutAs in tt
 
-  pub type-array : (x : ℕ) (out′ : List ℕ) {k : ℕ} → e ≡ Array k → PutAs (fromEntry (typeAt (32 - depth) table pool) table pool row place (Array k)) base out at x out′
-      → PutAs (typeAt (33 - depth) table pool row place) base out at x out′
-  type-array x out′ h v = rw (type-as h) v
+  pub row-is : {k : ℕ} → e ≡ Array k → RowSays table row (Array k)
+  row-is i = rw i at s
 
--- ---- an array
+pub type-array : (table pool : List ℕ) (depth row base : ℕ) (out : List ℕ) (at : ℕ) (out₁ : List ℕ) (x : ℕ) (out′ : List ℕ) {k stride n : ℕ} {y : Put} → depth ≤ 32 → RowSays table row (Array k)
+    → PutAt (32 - depth) table pool (row + 1) base out at y out₁ → SizedAt (32 - depth) table pool (row + 1) stride → TotalAt table pool row k 1 n → Repeats stride n at (y .next) out₁ x out′
+    → PutAt (33 - depth) table pool row base out at (record { row = y .row; next = x }) out′
+type-array table pool depth row base out at out₁ x out′ {k = k} {stride = stride} {n = n} {y = y} h s v z t w =
+    record {
+      passes = passes-array table row (33 - depth) (above depth h) s refl (rw (below depth) (v .passes));
+      lists = lists-by table pool depth row base out at h s x out′ refl (λ p q. unfold fromEntry in array-put _ stride n base out at (y .next) out₁ x out′ _ (rw (add-one row) at (v .lists (p + k * 4))) (rw (add-one row) at (z .sized (p + k * 4))) (t .total p q) w);
+    }
 
-module _ (table pool : List ℕ) (depth row place k base : ℕ) (out : List ℕ) (at : ℕ) where
-  module _ {y : Surveyed} (g : y ≡ surveyOf (typeAt (32 - depth) table pool (row + 1) (place + k * 4))) where
-    pub array-unsound : y ≡ Unsound → PutAs (fromEntry (typeAt (32 - depth) table pool) table pool row place (Array k)) base out at at out
-    unfolding fromEntry
-    array-unsound u = put-empty _ base out at (rw (← add-one row, untold _ g u) (unfold andThen Empty in tt))
+-- ---- a level further down
 
-    pub array-none : {s : Survey} → y ≡ Sound s → not (s .object) ≡ true → PutAs (fromEntry (typeAt (32 - depth) table pool) table pool row place (Array k)) base out at at out
-    unfolding fromEntry
-    array-none {s = s} u o = put-empty _ base out at (rw (← add-one row) (array-empty _ _ s (told _ s g u) (not-true (s .object) o)))
+-- a type that begins past all places of 32 bits has no slot that fits
+pub inner-far : (table pool : List ℕ) (levels row base : ℕ) (out : List ℕ) (at : ℕ) {x : Put} → Passed levels table row at x → 4294967296 ≤ base → PutAt levels table pool row base out at x out
+inner-far table pool levels row base out at v h = record { passes = v .passes; lists = λ p. rw (v .stays) (go _) }
+  where
+    lists : (ss : List ℕ) → Fits (shifted base ss) out at → Listed (shifted base ss) out at at out
+    lists [] f = unfold shifted in listed-none out at
+    lists (y ∷ ys) f = absurd (omega (arith, first-low 4294967296 base (y ∷ ys) (λ e. let q : _≡_ {A = ℕ} 0 1 = cc in omega arith) (f .low)))
 
-    pub array-put : (x : ℕ) (out′ : List ℕ) {n : ℕ} {s : Survey} (inner : Path) → y ≡ Sound s → not (s .object) ≡ false → n ≡ min (1 * product (dimensionsFrom k (take (k * 4) (drop place pool)))) 4294967296
-        → inner .depth ≡ depth + 1 → topOf inner ≡ row + 1
-        → PutEach (typeAt (33 - inner .depth) table pool (topOf inner) (place + k * 4)) (s .size) n base out at x out′
-        → PutAs (fromEntry (typeAt (32 - depth) table pool) table pool row place (Array k)) base out at x out′
-    unfolding fromEntry
-    array-put x out′ {s = s} inner u o i hd hr v =
-        let j : 33 - inner .depth ≡ 32 - depth = omega arith in
-        rw (← add-one row) (array-listed _ _ s base out at x out′ (told _ s g u) (not-false (s .object) o) i (rw (j, hr) at v))
+    go : (y : Found Datatype) → PutAs y base out at at out
+    go (found t r p) = unfold PutAs in λ l f. lists (slots t) f
+    go bad = unfold PutAs in tt
 
--- ---- a member's type
+pub inner-none : (table pool : List ℕ) (depth row base : ℕ) (out : List ℕ) (at : ℕ) (x : Put) → depth ≡ 32 → PutAt (32 - depth) table pool row base out at x out
+inner-none table pool depth row base out at x h =
+    let j : 32 - depth ≡ 0 = omega arith in
+    record { passes = passes-none table row (32 - depth) (x .row) j; lists = λ p. rw j (unfold typeAt PutAs in tt) }
 
-module _ (table pool : List ℕ) (depth row place base : ℕ) (object : Bool) (out : List ℕ) (at : ℕ) where
-  pub member-none : not object ≡ true → PutOne (typeAt (32 - depth) table pool row place) object base out at at out
-  member-none e = go _
-    where
-      go : (y : Found Datatype) → PutOne y object base out at at out
-      go (found t r p) = unfold PutOne in λ o l f. rw (shifted-none base (slots t) (no-slots t (sym o ∙ not-true object e))) (listed-none out at)
-      go bad = unfold PutOne in tt
-
-  pub member-far : not object ≡ false → 4294967296 ≤ base → PutOne (typeAt (32 - depth) table pool row place) object base out at at out
-  member-far e h = go _
-    where
-      go : (y : Found Datatype) → PutOne y object base out at at out
-      go (found t r p) = unfold PutOne in λ o l f. absurd (omega (arith, first-low 4294967296 base (slots t) (some-slots t l (sym o ∙ not-false object e)) (f .low)))
-      go bad = unfold PutOne in tt
-
-  pub member-put : (x : ℕ) (out′ : List ℕ) (inner : Path) → inner .depth ≡ depth + 1 → topOf inner ≡ row → PutAs (typeAt (33 - inner .depth) table pool (topOf inner) place) base out at x out′
-      → PutOne (typeAt (32 - depth) table pool row place) object base out at x out′
-  member-put x out′ inner hd hr v =
-      let j : 33 - inner .depth ≡ 32 - depth = omega arith in
-      go _ (rw (j, hr) at v)
-    where
-      go : (y : Found Datatype) → PutAs y base out at x out′ → PutOne y object base out at x out′
-      go (found t r p) w = unfold PutOne PutAs in λ o l f. w l f
-      go bad w = unfold PutOne in tt
+pub inner-type : (table pool : List ℕ) (path inner : Path) (row base : ℕ) (out : List ℕ) (at : ℕ) (x : Put) (out′ : List ℕ) → Entered path row inner → PutAt (33 - inner .depth) table pool (topOf inner) base out at x out′
+    → PutAt (32 - path .depth) table pool row base out at x out′
+inner-type table pool path inner row base out at x out′ e v =
+    let j : 33 - inner .depth ≡ 32 - path .depth = omega (arith, e .deeper) in
+    rw (j, e .top) at v

@@ -1,14 +1,16 @@
 -- The small counts: sums, products and ends that stop, and what a leaf counts.
 use Prim.Native.Nat.{ℕ, zero, suc, _+_, _-_, _*_, _<_, _≤_, min, max}
 use mathlib.Core.Path.{_≡_, refl, sym, ap, _∙_}
-use mathlib.Core.Bool.{true, false}
+use mathlib.Core.Bool.{Bool, true, false, _||_}
+use lib.Dec.{ltb}
 use native.Mathlib.Omega.{arith}
 use native.Mathlib.Decide.{decLe}
 use native.Mathlib.Nat.{mul-le-mul, mul-le-mul-right, le-mul-of-pos-right, zero-mul, mul-zero, one-mul}
 use borrow.Author.Tests.{ne-eqb}
 use Rattle.format.specs.Slots.{isSlot, lastEnd, movedEnd}
 use Rattle.format.proofs.Slots.{moved-end}
-use Rattle.slots.specs.Slots.{mostSlots, mostEnd, leafTally}
+use Rattle.slots.specs.Slots.{mostSlots, mostEnd, leafTally, hiddenTally, entriesTally}
+use Rattle.slots.specs.declared.Tally.{Tally}
 
 -- ---- n entries of so many slots
 
@@ -113,21 +115,32 @@ module _ (stride end n : ℕ) (e : end ≡ 0 → ⊥) (k : n ≡ 0 → ⊥) wher
 
 -- ---- a leaf
 
-pub leaf-slot : (c n x r p : ℕ) → c ≡ 7 → n ≡ 8 → x ≡ 0 → record { row = r; place = p; unmapped = false; count = 1; end = 8 } ≡ leafTally c n x r p
+pub leaf-slot : (c n x r : ℕ) → c ≡ 7 → n ≡ 8 → x ≡ 0 → record { row = r; unmapped = false; count = 1; end = 8 } ≡ leafTally c n x r
 unfolding leafTally isSlot
-leaf-slot c n x r p h i j = rw (h, i, j)
+leaf-slot c n x r h i j = rw (h, i, j)
 
-pub leaf-other-kind : (c n x r p : ℕ) → c ≡ 7 → n ≡ 8 → (x ≡ 0 → ⊥) → record { row = r; place = p; unmapped = true; count = 0; end = 0 } ≡ leafTally c n x r p
+pub leaf-other-kind : (c n x r : ℕ) → c ≡ 7 → n ≡ 8 → (x ≡ 0 → ⊥) → record { row = r; unmapped = true; count = 0; end = 0 } ≡ leafTally c n x r
 unfolding leafTally isSlot
-leaf-other-kind c n x r p h i j = rw (h, i, ne-eqb x 0 j)
+leaf-other-kind c n x r h i j = rw (h, i, ne-eqb x 0 j)
 
-pub leaf-other-size : (c n x r p : ℕ) → c ≡ 7 → (n ≡ 8 → ⊥) → record { row = r; place = p; unmapped = true; count = 0; end = 0 } ≡ leafTally c n x r p
+pub leaf-other-size : (c n x r : ℕ) → c ≡ 7 → (n ≡ 8 → ⊥) → record { row = r; unmapped = true; count = 0; end = 0 } ≡ leafTally c n x r
 unfolding leafTally isSlot
-leaf-other-size c n x r p h i = rw (h, ne-eqb n 8 i)
+leaf-other-size c n x r h i = rw (h, ne-eqb n 8 i)
 
-pub leaf-none : (c n x r p : ℕ) → (c ≡ 7 → ⊥) → record { row = r; place = p; unmapped = false; count = 0; end = 0 } ≡ leafTally c n x r p
+pub leaf-none : (c n x r : ℕ) → (c ≡ 7 → ⊥) → record { row = r; unmapped = false; count = 0; end = 0 } ≡ leafTally c n x r
 unfolding leafTally
-leaf-none c n x r p h = rw (ne-eqb c 7 h)
+leaf-none c n x r h = rw (ne-eqb c 7 h)
+
+-- ---- by the base's count
+
+pub hidden-is : (r : ℕ) (b : Tally) {u : Bool} → u ≡ (b .unmapped || ltb 0 (b .count)) → record { row = r; unmapped = u; count = 0; end = 0 } ≡ hiddenTally r b
+unfolding hiddenTally
+hidden-is r b e = rw e
+
+pub entries-are : (stride n : ℕ) (b : Tally) {c e : ℕ} → c ≡ mostSlots (n * b .count) → e ≡ mostEnd (lastEnd stride (b .end) n)
+    → record { row = b .row; unmapped = b .unmapped; count = c; end = e } ≡ entriesTally stride n b
+unfolding entriesTally
+entries-are stride n b h i = rw (h, i)
 
 -- ---- products and ends whose factors stopped before
 

@@ -1,22 +1,21 @@
 -- What the walks of slots answer of a type that is found; and what `embedded_reference_slots` promises.
-use Prim.Native.Nat.{ℕ, _+_, _*_, _<_, _≤_, min}
+use Prim.Native.Nat.{ℕ, zero, suc, _+_, _-_, _*_, _%_, _^_, _<_, _≤_, min}
 use mathlib.Core.Path.{_≡_}
 use mathlib.Core.Bool.{Bool, false, cond, not, _&&_, _||_}
 use mathlib.Core.List.{List, [], _∷_}
 use mathlib.Core.Option.{none}
-use lib.ListN.{length}
+use lib.ListN.{length, getD, set}
 use lib.Seq.{sets}
-use lib.Dec.{eqb}
+use lib.Dec.{eqb, ltb}
 use Rattle.refusal.specs.Refusal.{numberOf, valuesOf}
-use Rattle.format.specs.Datatype.{Datatype, Members, typeSize}
+use Rattle.format.specs.Datatype.{Datatype, Members}
 use Rattle.format.specs.Outcome.{Outcome, gives, refuses, outputAfter, outcomeNumber, outcomeValues}
-use Rattle.format.specs.Sizes.{holdsObjectAddress}
-use Rattle.format.specs.Slots.{isSlot, shifted, entries, slots, memberSlots, lastEnd, slotCount, memberSlotCount, slotEnd, memberSlotEnd, holdsOtherReference, memberHoldsOtherReference, holdsHiddenReference, memberHoldsHiddenReference, firstZero, memberFirstZero, findingSlots}
-use Rattle.format.specs.Table.{Found, found, bad}
+use Rattle.format.specs.Slots.{isSlot, shifted, slots, memberSlots, lastEnd, slotCount, memberSlotCount, slotEnd, memberSlotEnd, holdsOtherReference, memberHoldsOtherReference, holdsHiddenReference, memberHoldsHiddenReference, firstZero, memberFirstZero, findingSlots}
+use Rattle.format.specs.Table.{Found, found, bad, typeAt, membersAt}
 use Rattle.slots.specs.declared.Tally.{Tally}
-use Rattle.slots.specs.declared.Tallied.{Tallied}
-use Rattle.slots.specs.declared.Tallied.the-variants.{At, Lost}
+use Rattle.slots.specs.declared.Put.{Put}
 use Rattle.table.specs.declared.Path.{Path}
+use Rattle.table.specs.Known.{PassesType, PassesMembers}
 use Rattle.slots.specs.declared.Slots.{Slots}
 use Rattle.slots.specs.declared.Slots.the-variants.{Found as SlotsFound, Refused}
 
@@ -26,32 +25,47 @@ mostSlots n = min n 1073741824
 abbrev pub mostEnd : ℕ → ℕ
 mostEnd n = min n 4294967296
 
+-- ---- counting
+
+-- what is counted: whether a reference is unmapped, the number of slots and where the last ends
+pub record Counted (unmapped : Bool) (count end : ℕ) (x : Tally) : Type 0 where
+  pub unmapped-is : x .unmapped ≡ unmapped
+  pub count-is : x .count ≡ mostSlots count
+  pub end-is : x .end ≡ mostEnd end
+
 -- of a type without a type of size 0 in it; nothing is said of others
-unfoldable pub CountedAs : Found Datatype → Tallied → Type 0
-CountedAs (found t r p) x =
-    firstZero t ≡ none → x ≡ At (record { row = r; place = p; unmapped = holdsOtherReference t || holdsHiddenReference t; count = mostSlots (slotCount t); end = mostEnd (slotEnd t) })
+unfoldable pub CountedAs : Found Datatype → Tally → Type 0
+CountedAs (found t r p) x = firstZero t ≡ none → Counted (holdsOtherReference t || holdsHiddenReference t) (slotCount t) (slotEnd t) x
 CountedAs bad x = Unit {0}
 
-unfoldable pub CountedIn : Found Members → Tallied → Type 0
+unfoldable pub CountedIn : Found Members → Tally → Type 0
 CountedIn (found ms r p) x =
-    memberFirstZero ms ≡ none → x ≡ At (record { row = r; place = p; unmapped = memberHoldsOtherReference ms || memberHoldsHiddenReference ms; count = mostSlots (memberSlotCount ms); end = mostEnd (memberSlotEnd ms) })
+    memberFirstZero ms ≡ none → Counted (memberHoldsOtherReference ms || memberHoldsHiddenReference ms) (memberSlotCount ms) (memberSlotEnd ms) x
 CountedIn bad x = Unit {0}
 
--- what a leaf's row counts, the next row and place given
-unfoldable pub leafTally : (class size code r p : ℕ) → Tally
-leafTally c n x r p =
-    record { row = r; place = p; unmapped = eqb c 7 && not (isSlot n x); count = cond (eqb c 7 && isSlot n x) 1 0; end = cond (eqb c 7 && isSlot n x) 8 0 }
+-- the type at a row, wherever its pool bytes begin: the row behind it, and what is counted
+pub record TallyAt (levels : ℕ) (table pool : List ℕ) (row : ℕ) (x : Tally) : Type 0 where
+  pub passes : PassesType levels table row (x .row)
+  pub counts : (p : ℕ) → CountedAs (typeAt levels table pool row p) x
 
--- what a type counts below which no slot is
-unfoldable pub hiddenTally : Found Datatype → Tallied
-hiddenTally (found t r p) = At (record { row = r; place = p; unmapped = holdsObjectAddress t; count = 0; end = 0 })
-hiddenTally bad = Lost
+-- so many members from a row on
+pub record TallyIn (levels : ℕ) (table pool : List ℕ) (row count : ℕ) (x : Tally) : Type 0 where
+  pub passes : PassesMembers levels table row count (x .row)
+  pub counts : (p : ℕ) → CountedIn (membersAt (typeAt levels table pool) table pool count row p) x
+
+-- what a leaf's row counts, the next row given
+unfoldable pub leafTally : (class size code row : ℕ) → Tally
+leafTally c n x r = record { row = r; unmapped = eqb c 7 && not (isSlot n x); count = cond (eqb c 7 && isSlot n x) 1 0; end = cond (eqb c 7 && isSlot n x) 8 0 }
+
+-- what a type counts below which no slot is, by its base's count: every reference of the base is unmapped
+unfoldable pub hiddenTally : (row : ℕ) → Tally → Tally
+hiddenTally r b = record { row = r; unmapped = b .unmapped || ltb 0 (b .count); count = 0; end = 0 }
 
 -- n entries of a base that counts so much
-unfoldable pub entriesTally : Found Datatype → ℕ → Tally → Tallied
-entriesTally (found t r p) n b =
-    At (record { row = b .row; place = b .place; unmapped = b .unmapped; count = mostSlots (n * b .count); end = mostEnd (lastEnd (typeSize t) (b .end) n) })
-entriesTally bad n b = Lost
+unfoldable pub entriesTally : (stride n : ℕ) → Tally → Tally
+entriesTally stride n b = record { row = b .row; unmapped = b .unmapped; count = mostSlots (n * b .count); end = mostEnd (lastEnd stride (b .end) n) }
+
+-- ---- listing
 
 -- the path has a row at its end, and a type begins at a place that 32 bits hold
 pub record Standing (path : Path) (base : ℕ) : Type 0 where
@@ -87,21 +101,42 @@ unfoldable pub PutAs : Found Datatype → (base : ℕ) (out : List ℕ) (at x : 
 PutAs (found t r p) base out at x out′ = Listable t → Fits (shifted base (slots t)) out at → Listed (shifted base (slots t)) out at x out′
 PutAs bad base out at x out′ = Unit {0}
 
--- for a type of which it is known whether it holds a reference
-unfoldable pub PutOne : Found Datatype → (object : Bool) (base : ℕ) (out : List ℕ) (at x : ℕ) (out′ : List ℕ) → Type 0
-PutOne (found t r p) object base out at x out′ =
-    object ≡ holdsObjectAddress t → Listable t → Fits (shifted base (slots t)) out at → Listed (shifted base (slots t)) out at x out′
-PutOne bad object base out at x out′ = Unit {0}
-
 unfoldable pub PutIn : Found Members → (base : ℕ) (out : List ℕ) (at x : ℕ) (out′ : List ℕ) → Type 0
 PutIn (found ms r p) base out at x out′ = ListableIn ms → Fits (shifted base (memberSlots ms)) out at → Listed (shifted base (memberSlots ms)) out at x out′
 PutIn bad base out at x out′ = Unit {0}
 
--- for n entries of a base that has slots
-unfoldable pub PutEach : Found Datatype → (stride n base : ℕ) (out : List ℕ) (at x : ℕ) (out′ : List ℕ) → Type 0
-PutEach (found t r p) stride n base out at x out′ =
-    Listable t → (slots t ≡ [] → ⊥) → Fits (shifted base (entries stride (slots t) 0 n)) out at → Listed (shifted base (entries stride (slots t) 0 n)) out at x out′
-PutEach bad stride n base out at x out′ = Unit {0}
+-- the type at a row, wherever its pool bytes begin: the row behind it, and what is listed
+pub record PutAt (levels : ℕ) (table pool : List ℕ) (row base : ℕ) (out : List ℕ) (at : ℕ) (x : Put) (out′ : List ℕ) : Type 0 where
+  pub passes : PassesType levels table row (x .row)
+  pub lists : (p : ℕ) → PutAs (typeAt levels table pool row p) base out at (x .next) out′
+
+-- so many members from a row on
+pub record PutInside (levels : ℕ) (table pool : List ℕ) (row count base : ℕ) (out : List ℕ) (at : ℕ) (x : Put) (out′ : List ℕ) : Type 0 where
+  pub passes : PassesMembers levels table row count (x .row)
+  pub lists : (p : ℕ) → PutIn (membersAt (typeAt levels table pool) table pool count row p) base out at (x .next) out′
+
+-- a type is passed over, and nothing is listed
+pub record Passed (levels : ℕ) (table : List ℕ) (row at : ℕ) (x : Put) : Type 0 where
+  pub passes : PassesType levels table row (x .row)
+  pub stays : x .next ≡ at
+
+-- a leaf, the row behind it given: a reference is listed where there is room, any other leaf lists nothing
+pub record PutLeaf (row class base : ℕ) (out : List ℕ) (at : ℕ) (x : Put) (out′ : List ℕ) : Type 0 where
+  pub behind : x .row ≡ row
+  pub one : class ≡ 7 → at + 1 ≤ length out → Listed (base ∷ []) out at (x .next) out′
+  pub none-else : (class ≡ 7 → ⊥) → Listed [] out at (x .next) out′
+
+-- so many numbers from k on, each a stride more, in 64 bits, than the one n places before it
+unfoldable pub movedOn : (stride n k left : ℕ) → List ℕ → List ℕ
+movedOn stride n k zero out = out
+movedOn stride n k (suc left) out = movedOn stride n (suc k) left (set out k ((getD out (k - n) 0 + stride) % 2 ^ 64))
+
+-- what stands from a place up to the next is repeated, a stride further each time, so that it stands there so often; nothing is said where that
+-- does not fit
+pub record Repeats (stride count at next : ℕ) (out : List ℕ) (x : ℕ) (out′ : List ℕ) : Type 0 where
+  pub none-there : next ≤ at → Listed [] out next x out′
+  pub next-is : at < next → at + (next - at) * count ≤ length out → next ≤ length out → x ≡ at + (next - at) * count
+  pub out-is : at < next → at + (next - at) * count ≤ length out → next ≤ length out → out′ ≡ movedOn stride (next - at) next (at + (next - at) * count - next) out
 
 -- Document 01's number and values: 0 and the count, or the refusal's
 unfoldable pub slotsNumber : Slots → ℕ

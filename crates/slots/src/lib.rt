@@ -2,43 +2,43 @@
 use refusal::Refusal;
 use rows::Entry;
 use rows::Member;
-use rows::entry_at;
-use rows::member_at;
+use rows::row_entry;
+use rows::row_member;
+use std::num::wrapping_add_u64;
 use table::Checked;
 use table::Path;
 use table::Survey;
-use table::Surveyed;
+use table::array_total;
+use table::behind_enum_members;
 use table::check;
 use table::either;
 use table::enter;
-use table::scaled;
-use table::survey_type;
+use table::next_row;
+use table::size_at;
 ghost use mathlib.Core.Path.{_≡_};
 ghost use Prim.Native.Nat.{_+_, _*_, _-_, _≤_, _<_, max};
 ghost use lib.ListN.{length};
 ghost use Rattle.format.specs.Slots.{lastEnd, movedEnd};
-ghost use Rattle.format.specs.Table.{typeAt, membersAt};
-ghost use Rattle.rows.specs.Entries.{fromEntry};
+ghost use Rattle.rows.specs.Entries.{RowSays};
 ghost use Rattle.rows.specs.declared.Entry.the-variants.{Array};
+ghost use Rattle.table.specs.Known.{TotalAt};
 ghost use Rattle.table.specs.Path.{topOf};
 ghost use Rattle.table.specs.Survey.{Sets};
-ghost use Rattle.slots.specs.Slots.{mostSlots, mostEnd, leafTally, hiddenTally, entriesTally, CountedAs, CountedIn, Standing, PutAs, PutOne, PutIn, PutEach, SlotsAre};
+ghost use Rattle.slots.specs.Slots.{mostSlots, mostEnd, leafTally, hiddenTally, entriesTally, TallyAt, TallyIn, Standing, Passed, PutLeaf, Repeats, PutAt, PutInside, SlotsAre};
 
-// What a first walk finds, before anything is listed: the next row and pool place, whether the type holds a reference that is no slot's, the
-// number of slots and the greatest slot + 8; the last two stop at 1,073,741,824 and 4,294,967,296, past all that a type of 32-bit size can
-// have.
+// What a first walk finds, before anything is listed: the row behind the type, whether the type holds a reference that is no slot's, the number
+// of slots and the greatest slot + 8; the last two stop at 1,073,741,824 and 4,294,967,296, past all that a type of 32-bit size can have.
 pub struct Tally {
     pub row: usize,
-    pub place: usize,
     pub unmapped: bool,
     pub count: u64,
     pub end: u64,
 }
 
-// What the first walk finds: a type, or none.
-pub enum Tallied {
-    At(Tally),
-    Lost,
+// What the listing goes on with: the row behind the type, and where the next slot would go.
+pub struct Put {
+    pub row: usize,
+    pub next: usize,
 }
 
 // The answer: how many slots, or why none.
@@ -117,16 +117,15 @@ fn last_end(stride: u32, end: u64, n: u64) -> u64
     if last < 4294967296 { last } else { 4294967296 }
 }
 
-// A leaf: an 8-byte object reference is a slot, every other reference no slot's.
-fn leaf_tally(class: u32, size: u32, code: u32, row: usize, place: usize) -> Tally
-    ensures { λ r. ⌜ r ≡ leafTally class size code row place ⌝ }
+// A leaf, the row behind it given: an 8-byte object reference is a slot, every other reference no slot's.
+fn leaf_tally(class: u32, size: u32, code: u32, row: usize) -> Tally
+    ensures { λ r. ⌜ r ≡ leafTally class size code row ⌝ }
 {
     if class == 7 {
         if size == 8 {
             if code == 0 {
                 return Tally {
                     row: row,
-                    place: place,
                     unmapped: false,
                     count: 1,
                     end: 8,
@@ -135,7 +134,6 @@ fn leaf_tally(class: u32, size: u32, code: u32, row: usize, place: usize) -> Tal
         }
         return Tally {
             row: row,
-            place: place,
             unmapped: true,
             count: 0,
             end: 0,
@@ -143,329 +141,270 @@ fn leaf_tally(class: u32, size: u32, code: u32, row: usize, place: usize) -> Tal
     }
     Tally {
         row: row,
-        place: place,
         unmapped: false,
         count: 0,
         end: 0,
     }
 }
 
-// A type below which no slot is: an enumeration or a variable-length type.
-fn tally_hidden(table: &[u32], pool: &[u8], row: usize, place: usize, levels: usize) -> Tallied
-    ensures { λ r. ⌜ r ≡ hiddenTally (typeAt levels (now (table .entry)) (now (pool .entry)) row place) ⌝ }
+// A type below which no slot is, an enumeration or a variable-length type, by its base's count and the row behind it.
+fn hidden_tally(row: usize, base: Tally) -> Tally
+    ensures { λ r. ⌜ r ≡ hiddenTally row base ⌝ }
 {
-    let got = survey_type(table, pool, row, place, levels);
-    match got {
-        Surveyed::Unsound => Tallied::Lost,
-        Surveyed::Sound(s) => Tallied::At(Tally {
-            row: s.row,
-            place: s.place,
-            unmapped: s.object,
-            count: 0,
-            end: 0,
-        }),
+    Tally {
+        row: row,
+        unmapped: either(base.unmapped, 0 < base.count),
+        count: 0,
+        end: 0,
     }
 }
 
-// An array of n entries of a base that stands at a row and has been counted.
-fn tally_entries(
-    table: &[u32],
-    pool: &[u8],
-    row: usize,
-    place: usize,
-    levels: usize,
-    n: u64,
-    base: Tally,
-) -> Tallied
+// So many entries of a base, a stride apart.
+fn entries_tally(stride: u32, n: u64, base: Tally) -> Tally
     requires { ⌜ n ≤ 4294967296 ⌝ }
-    ensures { λ r. ⌜ r ≡ entriesTally (typeAt levels (now (table .entry)) (now (pool .entry)) row place) n base ⌝ }
+    ensures { λ r. ⌜ r ≡ entriesTally stride n base ⌝ }
 {
-    let got = survey_type(table, pool, row, place, levels);
-    match got {
-        Surveyed::Unsound => Tallied::Lost,
-        Surveyed::Sound(s) => Tallied::At(Tally {
-            row: base.row,
-            place: base.place,
-            unmapped: base.unmapped,
-            count: times_slots(n, base.count),
-            end: last_end(s.size, base.end, n),
-        }),
+    Tally {
+        row: base.row,
+        unmapped: base.unmapped,
+        count: times_slots(n, base.count),
+        end: last_end(stride, base.end, n),
     }
 }
 
-// The type at a row, its pool bytes at a place, with so many levels left. Costs a pass over its rows for each level of arrays.
-fn tally_type(table: &[u32], pool: &[u8], row: usize, place: usize, levels: usize) -> Tallied
-    ensures { λ r. ⌜ CountedAs (typeAt levels (now (table .entry)) (now (pool .entry)) row place) r ⌝ }
+// The number of entries of the array at a row, at most 4,294,967,296.
+fn entry_count(table: &[u32], pool: &[u8], row: usize, rank: u32) -> u64
+    requires { ⌜ row * 16 + 16 ≤ length (now table) ⌝ }
+    ensures total { λ r. ⌜ TotalAt (now (table .entry)) (now (pool .entry)) row rank 1 r ⌝ }
+    ensures low { λ r. ⌜ r ≤ 4294967296 ⌝ }
 {
-    if levels == 0 {
-        return Tallied::Lost;
-    }
-    let entry = entry_at(table, pool, row, place);
-    match entry {
-        Entry::Unknown => Tallied::Lost,
-        Entry::Leaf(class, size, length, code) => Tallied::At(leaf_tally(
-            class,
-            size,
-            code,
-            row + 1,
-            place + length as usize,
-        )),
-        Entry::Compound(_, count) => tally_members(table, pool, row + 1, place, count, levels - 1),
-        Entry::Enumeration(_, _) => tally_hidden(table, pool, row, place, levels),
-        Entry::VariableLength(_, _, _) => tally_hidden(table, pool, row, place, levels),
-        Entry::Array(rank) => {
-            let inner = place + (rank as usize) * 4;
-            let got = tally_type(table, pool, row + 1, inner, levels - 1);
-            match got {
-                Tallied::Lost => Tallied::Lost,
-                Tallied::At(base) => tally_entries(
-                    table,
-                    pool,
-                    row + 1,
-                    inner,
-                    levels - 1,
-                    scaled(pool, place, rank, 1),
-                    base,
-                ),
-            }
-        }
-    }
+    let n = array_total(table, pool, row, rank, 1);
+    if 4294967296 < n { 0 } else { n }
 }
 
-// The members of a compound.
-fn tally_members(
-    table: &[u32],
-    pool: &[u8],
-    row: usize,
-    place: usize,
-    count: u32,
-    levels: usize,
-) -> Tallied
-    ensures { λ r. ⌜ CountedIn (membersAt (typeAt levels (now (table .entry)) (now (pool .entry))) (now (table .entry)) (now (pool .entry)) count row place) r ⌝ }
-{
-    let mut r = row;
-    let mut p = place;
-    let mut left = count;
-    let mut unmapped = false;
-    let mut slots: u64 = 0;
-    let mut end: u64 = 0;
-    while left > 0 {
-        let member = member_at(table, pool, r, p);
-        match member {
-            Member::Unnamed => {
-                return Tallied::Lost;
-            }
-            Member::Named(offset, length) => {
-                let got = tally_type(table, pool, r + 1, p + length as usize, levels);
-                match got {
-                    Tallied::Lost => {
-                        return Tallied::Lost;
-                    }
-                    Tallied::At(t) => {
-                        r = t.row;
-                        p = t.place;
-                        unmapped = either(unmapped, t.unmapped);
-                        slots = sum_slots(slots, t.count);
-                        end = further_end(end, offset, t.end);
-                        left -= 1;
-                    }
-                }
-            }
-        }
-    }
-    Tallied::At(Tally {
-        row: r,
-        place: p,
-        unmapped: unmapped,
-        count: slots,
-        end: end,
-    })
-}
-
-// Lists the slots of the type at the top of the path, its pool bytes at a place, which begins at `base` in the record: from `at` on, and the
-// answer is where the next would go. What holds no reference is passed over, however large.
-fn put_type(
-    table: &[u32],
-    pool: &[u8],
-    path: Path,
-    place: usize,
-    base: u64,
-    out: &mut [u64],
-    at: usize,
-) -> usize
-    requires { ⌜ Standing path base ⌝ }
-    ensures { λ r. ⌜ PutAs (typeAt (33 - path .depth) (now (table .entry)) (now (pool .entry)) (topOf path) place) base (now (out .entry)) at r (now (out .exit)) ⌝ }
+// Counts the type at the top of the path. No row is tested again, and an enumeration's members are passed by their number: the cost is a step
+// for each other row.
+fn tally_type(table: &[u32], pool: &[u8], path: Path) -> Tally
+    requires { ⌜ (0 < path .depth) × (path .depth ≤ 32) ⌝ }
+    ensures { λ r. ⌜ TallyAt (33 - path .depth) (now (table .entry)) (now (pool .entry)) (topOf path) r ⌝ }
 {
     let depth = path.depth;
     // In a local of its own: read out of the path, the array is compiled to one copy more.
     let rows = path.rows;
     let row = rows[depth - 1];
-    let entry = entry_at(table, pool, row, place);
+    let entry = row_entry(table, row);
     match entry {
-        Entry::Unknown => at,
-        Entry::Enumeration(_, _) => at,
-        Entry::VariableLength(_, _, _) => at,
-        Entry::Leaf(class, _, _, _) => {
-            if class != 7 {
-                return at;
-            }
-            if out.len() <= at {
-                return at;
-            }
-            out[at] = base;
-            at + 1
+        Entry::Unknown => leaf_tally(0, 0, 0, row),
+        Entry::Leaf(class, size, _, code) => leaf_tally(class, size, code, row + 1),
+        Entry::Compound(_, count) => tally_members(table, pool, path, row + 1, count),
+        Entry::Enumeration(_, count) => {
+            let base = tally_inner(table, pool, path, row + 1);
+            hidden_tally(behind_enum_members(table, base.row, count), base)
         }
-        Entry::Compound(_, count) => put_members(
-            table,
-            pool,
-            path,
-            row + 1,
-            place,
-            count,
-            base,
-            out,
-            at,
-        ),
-        Entry::Array(rank) => put_array(table, pool, path, row, place, rank, base, out, at),
+        Entry::VariableLength(_, _, _) => {
+            let base = tally_inner(table, pool, path, row + 1);
+            hidden_tally(base.row, base)
+        }
+        Entry::Array(rank) => {
+            let base = tally_inner(table, pool, path, row + 1);
+            let stride = size_at(table, pool, row + 1, 32 - depth);
+            entries_tally(stride, entry_count(table, pool, row, rank), base)
+        }
     }
 }
 
-// The same of an array whose row is the top of the path. Where no level is left for its base, the survey finds none.
+// The same of a type at a row one level below the path; where no level is left, none is found there.
+fn tally_inner(table: &[u32], pool: &[u8], path: Path, row: usize) -> Tally
+    requires { ⌜ path .depth ≤ 32 ⌝ }
+    ensures { λ r. ⌜ TallyAt (32 - path .depth) (now (table .entry)) (now (pool .entry)) row r ⌝ }
+{
+    if path.depth == 32 {
+        return leaf_tally(0, 0, 0, row);
+    }
+    tally_type(table, pool, enter(path, row))
+}
+
+// The same of so many members of the compound at the top of the path, from a row on.
+fn tally_members(table: &[u32], pool: &[u8], path: Path, row: usize, count: u32) -> Tally
+    requires { ⌜ path .depth ≤ 32 ⌝ }
+    ensures { λ r. ⌜ TallyIn (32 - path .depth) (now (table .entry)) (now (pool .entry)) row count r ⌝ }
+{
+    let mut r = row;
+    let mut left = count;
+    let mut unmapped = false;
+    let mut slots: u64 = 0;
+    let mut end: u64 = 0;
+    while left > 0 {
+        let member = row_member(table, r);
+        let Member::Named(offset, _) = member else {
+            return leaf_tally(0, 0, 0, r);
+        };
+        let t = tally_inner(table, pool, path, r + 1);
+        r = t.row;
+        unmapped = either(unmapped, t.unmapped);
+        slots = sum_slots(slots, t.count);
+        end = further_end(end, offset, t.end);
+        left -= 1;
+    }
+    Tally {
+        row: r,
+        unmapped: unmapped,
+        count: slots,
+        end: end,
+    }
+}
+
+// Passes over a type that lists nothing.
+fn pass(table: &[u32], row: usize, levels: usize, at: usize) -> Put
+    ensures { λ r. ⌜ Passed levels (now (table .entry)) row at r ⌝ }
+{
+    let behind = next_row(table, row, levels);
+    Put {
+        row: behind,
+        next: at,
+    }
+}
+
+// Lists a leaf of a class that begins at `base` in the record, the row behind it given.
+fn put_leaf(row: usize, class: u32, base: u64, out: &mut [u64], at: usize) -> Put
+    ensures { λ r. ⌜ PutLeaf row class base (now (out .entry)) at r (now (out .exit)) ⌝ }
+{
+    if class != 7 {
+        return Put { row: row, next: at };
+    }
+    if out.len() <= at {
+        return Put { row: row, next: at };
+    }
+    out[at] = base;
+    Put {
+        row: row,
+        next: at + 1,
+    }
+}
+
+// Lists the slots of all entries of an array whose first entry's stand from `at` up to `next`: each is a stride more than that of the entry
+// before it. The answer is where the next slot would go.
+fn repeat_slots(out: &mut [u64], at: usize, next: usize, stride: u32, count: u64) -> usize
+    ensures { λ r. ⌜ Repeats stride count at next (now (out .entry)) r (now (out .exit)) ⌝ }
+{
+    if next <= at {
+        return next;
+    }
+    if out.len() < next {
+        return next;
+    }
+    let n = next - at;
+    if (((out.len() - at) / n) as u64) < count {
+        return next;
+    }
+    let end = at + n * (count as usize);
+    let by = stride as u64;
+    let mut k = next;
+    while k < end {
+        out[k] = wrapping_add_u64(out[k - n], by);
+        k += 1;
+    }
+    end
+}
+
+// Lists the slots of the type at the top of the path, which begins at `base` in the record: from `at` on. Each row is looked at once, and an
+// enumeration's members are passed by their number.
+fn put_type(table: &[u32], pool: &[u8], path: Path, base: u64, out: &mut [u64], at: usize) -> Put
+    requires { ⌜ Standing path base ⌝ }
+    ensures { λ r. ⌜ PutAt (33 - path .depth) (now (table .entry)) (now (pool .entry)) (topOf path) base (now (out .entry)) at r (now (out .exit)) ⌝ }
+{
+    let depth = path.depth;
+    // In a local of its own, as above.
+    let rows = path.rows;
+    let row = rows[depth - 1];
+    let entry = row_entry(table, row);
+    match entry {
+        Entry::Unknown => pass(table, row, 33 - depth, at),
+        Entry::Enumeration(_, _) => pass(table, row, 33 - depth, at),
+        Entry::VariableLength(_, _, _) => pass(table, row, 33 - depth, at),
+        Entry::Leaf(class, _, _, _) => put_leaf(row + 1, class, base, out, at),
+        Entry::Compound(_, count) => put_members(table, pool, path, row + 1, count, base, out, at),
+        Entry::Array(rank) => put_array(table, pool, path, row, rank, base, out, at),
+    }
+}
+
+// The same of an array whose row is the top of the path: the first entry is listed, the others are moved from it.
 fn put_array(
     table: &[u32],
     pool: &[u8],
     path: Path,
     row: usize,
-    place: usize,
     rank: u32,
     base: u64,
     out: &mut [u64],
     at: usize,
-) -> usize
-    requires { ⌜ Standing path base × ((row * 16 + 16 ≤ length (now table)) × (place + rank * 4 ≤ length (now pool))) ⌝ }
-    ensures { λ r. ⌜ PutAs (fromEntry (typeAt (32 - path .depth) (now (table .entry)) (now (pool .entry))) (now (table .entry)) (now (pool .entry)) row place (Array rank)) base (now (out .entry)) at r (now (out .exit)) ⌝ }
+) -> Put
+    requires { ⌜ Standing path base × RowSays (now table) row (Array rank) ⌝ }
+    ensures { λ r. ⌜ PutAt (33 - path .depth) (now (table .entry)) (now (pool .entry)) row base (now (out .entry)) at r (now (out .exit)) ⌝ }
 {
     let depth = path.depth;
-    let inner = place + (rank as usize) * 4;
-    let got = survey_type(table, pool, row + 1, inner, 32 - depth);
-    let Surveyed::Sound(s) = got else {
-        return at;
-    };
-    if !s.object {
-        return at;
+    let first = put_inner(table, pool, path, row + 1, base, out, at);
+    let stride = size_at(table, pool, row + 1, 32 - depth);
+    let count = entry_count(table, pool, row, rank);
+    let next = repeat_slots(out, at, first.next, stride, count);
+    Put {
+        row: first.row,
+        next: next,
     }
-    put_entries(
-        table,
-        pool,
-        enter(path, row + 1),
-        inner,
-        base,
-        s.size,
-        scaled(pool, place, rank, 1),
-        out,
-        at,
-    )
 }
 
-// The same of the members of a compound. Where no level is left for their types, the survey finds none.
+// The same of so many members of the compound at the top of the path, from a row on.
 fn put_members(
     table: &[u32],
     pool: &[u8],
     path: Path,
     row: usize,
-    place: usize,
     count: u32,
     base: u64,
     out: &mut [u64],
     at: usize,
-) -> usize
+) -> Put
     requires { ⌜ Standing path base ⌝ }
-    ensures { λ r. ⌜ PutIn (membersAt (typeAt (32 - path .depth) (now (table .entry)) (now (pool .entry))) (now (table .entry)) (now (pool .entry)) count row place) base (now (out .entry)) at r (now (out .exit)) ⌝ }
+    ensures { λ r. ⌜ PutInside (32 - path .depth) (now (table .entry)) (now (pool .entry)) row count base (now (out .entry)) at r (now (out .exit)) ⌝ }
 {
-    let depth = path.depth;
     let mut r = row;
-    let mut p = place;
     let mut left = count;
     let mut next = at;
     while left > 0 {
-        let member = member_at(table, pool, r, p);
-        let Member::Named(offset, name) = member else {
-            return next;
+        let member = row_member(table, r);
+        let Member::Named(offset, _) = member else {
+            return Put { row: r, next: next };
         };
-        let inner = p + name as usize;
-        let got = survey_type(table, pool, r + 1, inner, 32 - depth);
-        let Surveyed::Sound(s) = got else {
-            return next;
-        };
-        next = put_member(
-            table,
-            pool,
-            path,
-            r + 1,
-            inner,
-            base + offset as u64,
-            s.object,
-            out,
-            next,
-        );
-        r = s.row;
-        p = s.place;
+        let put = put_inner(table, pool, path, r + 1, base + offset as u64, out, next);
+        r = put.row;
+        next = put.next;
         left -= 1;
     }
-    next
+    Put { row: r, next: next }
 }
 
-// The same of a member's type at a row, of which it is known whether it holds a reference; it begins at `base` in the record.
-fn put_member(
+// The same of a type at a row one level below the path, which begins at `base` in the record. One that begins past all 32-bit places lists
+// nothing; where no level is left, none is found there.
+fn put_inner(
     table: &[u32],
     pool: &[u8],
     path: Path,
     row: usize,
-    place: usize,
     base: u64,
-    object: bool,
     out: &mut [u64],
     at: usize,
-) -> usize
-    requires { ⌜ path .depth < 32 ⌝ }
-    ensures { λ r. ⌜ PutOne (typeAt (32 - path .depth) (now (table .entry)) (now (pool .entry)) row place) object base (now (out .entry)) at r (now (out .exit)) ⌝ }
+) -> Put
+    requires { ⌜ path .depth ≤ 32 ⌝ }
+    ensures { λ r. ⌜ PutAt (32 - path .depth) (now (table .entry)) (now (pool .entry)) row base (now (out .entry)) at r (now (out .exit)) ⌝ }
 {
-    if !object {
-        return at;
-    }
+    let depth = path.depth;
     if base >= 4294967296 {
-        return at;
+        return pass(table, row, 32 - depth, at);
     }
-    put_type(table, pool, enter(path, row), place, base, out, at)
-}
-
-// The same of so many entries of an array, a base size apart; the path's top is the base's row.
-fn put_entries(
-    table: &[u32],
-    pool: &[u8],
-    path: Path,
-    place: usize,
-    base: u64,
-    stride: u32,
-    count: u64,
-    out: &mut [u64],
-    at: usize,
-) -> usize
-    requires { ⌜ Standing path base ⌝ }
-    ensures { λ r. ⌜ PutEach (typeAt (33 - path .depth) (now (table .entry)) (now (pool .entry)) (topOf path) place) stride count base (now (out .entry)) at r (now (out .exit)) ⌝ }
-{
-    let mut start = base;
-    let mut left = count;
-    let mut next = at;
-    while left > 0 {
-        if start >= 4294967296 {
-            return next;
-        }
-        next = put_type(table, pool, path, place, start, out, next);
-        start += stride as u64;
-        left -= 1;
+    if depth == 32 {
+        return pass(table, row, 0, at);
     }
-    next
+    put_type(table, pool, enter(path, row), base, out, at)
 }
 
 // Of a type that the check has surveyed.
@@ -476,37 +415,32 @@ fn slots_checked(table: &[u32], pool: &[u8], out: &mut [u64], s: Survey) -> Slot
     if s.zero != 0 {
         return Slots::Refused(Refusal::ZeroSize((s.zero - 1) as u8));
     }
-    let got = tally_type(table, pool, 0, 0, 32);
-    match got {
-        Tallied::Lost => Slots::Refused(Refusal::Unmapped),
-        Tallied::At(t) => {
-            if t.unmapped {
-                return Slots::Refused(Refusal::Unmapped);
-            }
-            let size = s.size as u64;
-            if size / 8 < t.count {
-                return Slots::Refused(Refusal::Unmapped);
-            }
-            if size < t.end {
-                return Slots::Refused(Refusal::Unmapped);
-            }
-            let count = t.count;
-            if (out.len() as u64) < count {
-                return Slots::Refused(Refusal::NoRoom(count));
-            }
-            let path = Path {
-                rows: [0; 32],
-                depth: 1,
-            };
-            put_type(table, pool, path, 0, 0, out, 0);
-            Slots::Found(count)
-        }
+    let path = Path {
+        rows: [0; 32],
+        depth: 1,
+    };
+    let t = tally_type(table, pool, path);
+    if t.unmapped {
+        return Slots::Refused(Refusal::Unmapped);
     }
+    let size = s.size as u64;
+    if size / 8 < t.count {
+        return Slots::Refused(Refusal::Unmapped);
+    }
+    if size < t.end {
+        return Slots::Refused(Refusal::Unmapped);
+    }
+    let count = t.count;
+    if (out.len() as u64) < count {
+        return Slots::Refused(Refusal::NoRoom(count));
+    }
+    put_type(table, pool, path, 0, out, 0);
+    Slots::Found(count)
 }
 
 // The slots of the type that a table and pool set out, in walking order, into the front of `out`; a refusal leaves it as it is. Refused, in
-// this order: BadTable, ZeroSize, Unmapped, NoRoom. Cost: the check of the table, a first walk that lists nothing, and the listing, which
-// walks over an array's base again for each entry.
+// this order: BadTable, ZeroSize, Unmapped, NoRoom. Cost: the check of the table; a count that steps over each row but for an enumeration's
+// members; and the listing, which steps over the same rows once and then costs one store a slot.
 pub fn embedded_reference_slots(table: &[u32], pool: &[u8], out: &mut [u64]) -> Slots
     ensures { λ r. ⌜ SlotsAre (now (table .entry)) (now (pool .entry)) r (now (out .entry)) (now (out .exit)) ⌝ }
 {

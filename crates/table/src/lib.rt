@@ -217,7 +217,7 @@ pub fn skip_enum_members(table: &[u32], pool: &[u8], row: usize, place: usize, c
 }
 
 // The row behind an enumeration's members, by their number; of use where they are known to be there.
-fn behind_enum_members(table: &[u32], row: usize, count: u32) -> usize
+pub fn behind_enum_members(table: &[u32], row: usize, count: u32) -> usize
     ensures { λ r. ⌜ PassesNames (now (table .entry)) row count r ⌝ }
 {
     if table.len() / 16 <= row {

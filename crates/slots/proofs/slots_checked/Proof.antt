@@ -1,10 +1,10 @@
-use Rattle.slots.proofs.Answers.{zero-fits, slots-zero, slots-lost, slots-other, slots-many, slots-far, slots-room, slots-found}
+use Rattle.slots.proofs.Answers.{zero-fits, slots-zero, slots-other, slots-many, slots-far, slots-room, slots-found}
 use borrow.Author.Needs.{needs}
 use Rattle.slots.proofs.slots_checked.Statement.{statement}
 use Rattle.slots.proofs.slots_checked.Tie as tie
 
-cast-t12 : tie.Need-cast-t12
-cast-t12 c = search zero-fits
+cast-t11 : tie.Need-cast-t11
+cast-t11 c = search zero-fits
 
 returns : tie.Need-returns
 returns c = search slots-zero
@@ -22,27 +22,21 @@ returns-5 : tie.Need-returns-5
 returns-5 c = search (slots-room, needs)
 
 returns-6 : tie.Need-returns-6
-returns-6 c = search slots-lost
-
-returns-7 : tie.Need-returns-7
-returns-7 c = search (slots-found, needs)
+returns-6 c = search (slots-found, needs)
 
 pub slots-checked-spec : {M : Type 1} → statement M
 slots-checked-spec =
     tie.close
     (tie.spec
-    (λ c. search needs)  -- sub-t11
-    cast-t12
+    (λ c. search needs)  -- sub-t10
+    cast-t11
     returns
     (λ c κs. search needs)  -- tally-type-requires
-    (λ c. search needs)  -- enum-told
-    (λ c. search needs)  -- enum-known-got
     returns-2
     (λ c. search needs)  -- cast-size
     returns-3
     returns-4
     returns-5
     (λ c κs. search needs)  -- put-type-requires
-    returns-6
     (λ c. search needs)  -- same-length
-    returns-7)
+    returns-6)
