@@ -54,14 +54,14 @@ no-bytes : AllBytes []
 unfolding AllBytes
 no-bytes = tt
 
-abbrev Reads-sound : Reader Datatype → Type 0
+abbrev pub Reads-sound : Reader Datatype → Type 0
 Reads-sound rd = (v at : ℕ) (s : List ℕ) (r p : ℕ) → AllBytes s → Sure (λ t at′ s′ r′ p′. Sound t × AllBytes s′) (rd v at s r p)
 
-sound-inner : (rd : Reader Datatype) → Reads-sound rd → Reads-sound (inner rd)
+pub sound-inner : (rd : Reader Datatype) → Reads-sound rd → Reads-sound (inner rd)
 unfolding inner
 sound-inner rd h v at s r p b = sure-moved {Q = λ t s′ r′ p′. Sound t × AllBytes s′} at (h (length s) 0 s r p b)
 
-sound-name : (ver v at : ℕ) (s : List ℕ) (r p : ℕ) → AllBytes s
+pub sound-name : (ver v at : ℕ) (s : List ℕ) (r p : ℕ) → AllBytes s
     → Sure (λ b at′ s′ r′ p′. (wellFormed b ≡ true) × AllBytes b × AllBytes s′) (readName ver v at s r p)
 unfolding readName
 sound-name ver v at s r p h =
@@ -233,7 +233,7 @@ sound-properties rd i h isArray v at s r p b =
     sound-array rd i _ v a2 s2 r2 p2 (h2 .3 (h1 .3 b))
 sound-properties rd i h isUnknown v at s r p b = nothing
 
-sound-type : (l k : ℕ) → Reads-sound (readType l k)
+pub sound-type : (l k : ℕ) → Reads-sound (readType l k)
 unfolding readType sized
 sound-type l zero v at s r p b = nothing
 sound-type l (suc k) v at s r p b =

@@ -12,10 +12,12 @@ pub mod Demand3
 pub mod Sure
 pub mod Counts
 pub mod Faithful
+pub mod Limits
 pub mod Ownership
 pub mod Slots
 pub mod Zeros
 pub mod Rows
+pub mod UsedRows
 pub mod Fields
 pub mod Image
 pub mod Same
