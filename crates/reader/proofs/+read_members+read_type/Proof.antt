@@ -104,7 +104,13 @@ read-members-returns-2 : (t : ℕ) → read-members-lts.Need-returns-2 (read-mem
 read-members-returns-2 t c = search members-refused
 
 read-members-add-at : (t : ℕ) → read-members-lts.Need-add-at (read-members-calls t) (read-members-at t) read-members.Post read-members-Inv-loop read-members-μ-loop
-read-members-add-at t c = search (entered-behind, needs)
+read-members-add-at t c =
+    let k : read-members-lts.After-got2 (read-members-calls t) (read-members-at t) read-members.Post read-members-Inv-loop read-members-μ-loop = search in
+    let g : read-members-lts.After-read-type (read-members-calls t) (read-members-at t) read-members.Post read-members-Inv-loop read-members-μ-loop = search in
+    let s : read-members-lts.After-entered2 (read-members-calls t) (read-members-at t) read-members.Post read-members-Inv-loop read-members-μ-loop = search in
+    let e : read-members-lts.After-enter-member (read-members-calls t) (read-members-at t) read-members.Post read-members-Inv-loop read-members-μ-loop = search in
+    let l : read-members-lts.At-loop (read-members-calls t) (read-members-at t) read-members.Post read-members-Inv-loop read-members-μ-loop = search in
+    entered-behind (l .loop .inv) (e .enter-member .ensures) (s .entered2 .given .1) (g .read-type .ensures) (k .got2 .given .1)
 
 read-members-add-i : (t : ℕ) → read-members-lts.Need-add-i (read-members-calls t) (read-members-at t) read-members.Post read-members-Inv-loop read-members-μ-loop
 read-members-add-i t c = search entered-next
