@@ -1,22 +1,20 @@
--- Laws on numbers in a message, on zeros, on masks and shifts, and the ways out of `ensure_len`.
+-- Laws on numbers in a message, on zeros, and on masks and shifts.
 use mathlib.Core.Path.{_≡_, refl, sym, ap, _∙_}
 use mathlib.Core.List.{List, [], _∷_, _++_, append-nil}
-use Prim.Native.Nat.{ℕ, zero, suc, _+_, _-_, _*_, _/_, _%_, _^_, _<_, _≤_, min}
-use native.Mathlib.Nat.{pow-suc, min-eq-left, min-eq-right}
+use Prim.Native.Nat.{ℕ, zero, suc, _+_, _-_, _*_, _/_, _%_, _^_, _<_, _≤_}
+use native.Mathlib.Nat.{pow-suc}
 use native.Mathlib.Numerals.{add-one}
 use native.Mathlib.Omega.{arith}
 use lib.ListN.{length, getD, take, drop, set}
 use lib.Seq.{sets, drop-cons, drop-length, sets-eq}
 use lib.Bits.{bitAnd, bitOr, and-mask}
 use lib.Pow.{shl-exact}
-use borrow.Author.Tests.{le-leb, lt-leb, eq-eqb, ne-eqb}
+use borrow.Author.Tests.{eq-eqb, ne-eqb}
 use Rattle.format.specs.Bytes.{numberFrom, littleEndian, zeros}
 use Rattle.format.specs.Bits.{lowBits, highBits, joinBits, bitAt, floatFlags, floatOrder}
 use Rattle.format.proofs.Bits.{join-lt, bit-of, float-flags-lt}
 use Rattle.format.proofs.Bytes.{length-zeros}
 use Rattle.format.proofs.Lists.{sets-append}
-use Rattle.primitives.specs.Ensured.{ensured}
-use Rattle.primitives.specs.declared.Ensured.the-variants.{Enough, Lacking}
 
 -- ---- numbers in a message
 
@@ -129,22 +127,3 @@ float-flags-made (suc (suc (suc o))) h = absurd (omega arith)
 
 pub float-flags-fit : (o : ℕ) → o < 3 → bitOr (bitOr (bitAnd o 1) 32) ((o / 2 * 64) % 4294967296) < 256
 float-flags-fit o h = rw (float-flags-made o h) (float-flags-lt o)
-
--- ---- the ways out of `ensure_len`
-
-module _ (n offset needed : ℕ) where
-  pub ensured-past : n ≤ 18446744073709551615 → 18446744073709551615 - offset < needed → Lacking 18446744073709551615 n ≡ ensured n offset needed
-  unfolding ensured
-  ensured-past h g =
-      let e : min (offset + needed) 18446744073709551615 ≡ 18446744073709551615 = min-eq-right (omega arith) in
-      rw (lt-leb (offset + needed) n (omega arith), e)
-
-  pub ensured-enough : offset + needed ≤ n → Enough ≡ ensured n offset needed
-  unfolding ensured
-  ensured-enough h = rw (le-leb (offset + needed) n h)
-
-  pub ensured-lacking : offset + needed ≤ 18446744073709551615 → n < offset + needed → Lacking (offset + needed) n ≡ ensured n offset needed
-  unfolding ensured
-  ensured-lacking h g =
-      let e : min (offset + needed) 18446744073709551615 ≡ offset + needed = min-eq-left h in
-      rw (lt-leb (offset + needed) n g, e)

@@ -1,4 +1,4 @@
-// The small functions that reading, writing and the walks share, from the Rust's `bytes.rs`, `convert.rs` and `datatype.rs`.
+// The small functions that reading, writing and the walks share, from the Rust's `datatype.rs`.
 ghost use mathlib.Core.Path.{_≡_};
 ghost use Prim.Native.Nat.{_+_, _*_, _-_, _≤_, _<_, min};
 ghost use mathlib.Core.List.{_++_};
@@ -7,28 +7,6 @@ ghost use lib.Seq.{sets};
 ghost use Rattle.format.specs.Bytes.{numberFrom, littleEndian, paddingTo8, zeros};
 ghost use Rattle.format.specs.Bits.{lowBits, highBits, bitAt, floatOrder, classAndVersion, fixedFlags, floatFlags, nibbles};
 ghost use Rattle.format.specs.Message.{namePadding, offsetWidth, skippedBytes, reservedBytes, permutationBytes};
-ghost use Rattle.primitives.specs.Ensured.{ensured};
-
-// The answer of `ensure_len`. Lacking (expected, available) are the values of the Rust's `UnexpectedEof`.
-pub enum Ensured {
-    Enough,
-    Lacking(usize, usize),
-}
-
-// Whether `needed` bytes are there at `offset`. No sum wraps, whatever the offset.
-pub fn ensure_len(data: &[u8], offset: usize, needed: usize) -> Ensured
-    ensures { λ r. ⌜ r ≡ ensured (length (now («data» .entry))) offset needed ⌝ }
-{
-    if needed > 18446744073709551615 - offset {
-        return Ensured::Lacking(18446744073709551615, data.len());
-    }
-    let end = offset + needed;
-    if end <= data.len() {
-        Ensured::Enough
-    } else {
-        Ensured::Lacking(end, data.len())
-    }
-}
 
 // The number of `width` bytes at `offset`, little-endian: from the last byte down.
 pub fn read_uint(data: &[u8], offset: usize, width: usize) -> u32
@@ -253,13 +231,6 @@ pub fn wide32(x: u8) -> u32
 // A byte as a size.
 pub fn wide(x: u8) -> usize
     ensures { λ r. ⌜ (r ≡ x) × (r < 256) ⌝ }
-{
-    x as usize
-}
-
-// A size of the message as a number of bytes: the Rust's `to_usize`, which cannot fail where `usize` has 64 bits.
-pub fn size_from(x: u32) -> usize
-    ensures { λ r. ⌜ (r ≡ x) × (r < 4294967296) ⌝ }
 {
     x as usize
 }
