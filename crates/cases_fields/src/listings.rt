@@ -6,14 +6,19 @@ use show::number;
 use show::refusal_line;
 use show::shown_text;
 use show::text;
+use show_lent::bytes_line;
 
 fn listing_lines(answer: Listing, out: &[u8]) {
     match answer {
-        Listing::Refused(e) => refusal_line(e),
+        Listing::Refused(e) => {
+            refusal_line(e);
+            bytes_line(out, 0);
+        }
         Listing::Listed(n) => {
             number(n as u64);
             text(b" bytes\n");
             shown_text(out, n);
+            bytes_line(out, n);
         }
     }
 }

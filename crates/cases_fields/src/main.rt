@@ -13,4 +13,5 @@ fn main() {
     listings::refused_cases();
     refusals::first_half();
     refusals::second_half();
+    refusals::short_room();
 }

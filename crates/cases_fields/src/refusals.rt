@@ -4,14 +4,31 @@ use listing::list_refusal;
 use refusal::Refusal;
 use show::refusal_line;
 use show::shown_text;
+use show::text;
+use show_lent::bytes_line;
+
+fn shown(answer: Listing, out: &[u8]) {
+    match answer {
+        Listing::Refused(e) => {
+            refusal_line(e);
+            bytes_line(out, 0);
+        }
+        Listing::Listed(n) => shown_text(out, n),
+    }
+}
 
 fn line(refusal: Refusal) {
     let mut out = [7u8; 64];
     let answer = list_refusal(refusal, &mut out);
-    match answer {
-        Listing::Refused(e) => refusal_line(e),
-        Listing::Listed(n) => shown_text(&out, n),
-    }
+    shown(answer, &out);
+}
+
+// A line of 11 bytes into 10.
+pub fn short_room() {
+    let mut out = [7u8; 10];
+    text(b"refusal 19 in 10 bytes: ");
+    let answer = list_refusal(Refusal::Unmapped, &mut out);
+    shown(answer, &out);
 }
 
 // Refusals 1 to 11.

@@ -5,6 +5,7 @@ use references::References;
 use show::number;
 use show::refusal_line;
 use show::text;
+use show_lent::numbers_line;
 use slots::Slots;
 use table::Held;
 use table::Sized;
@@ -28,13 +29,17 @@ fn list(numbers: &[u64], count: u64) {
 
 fn slots_line(answer: Slots, out: &[u64]) {
     match answer {
-        Slots::Refused(e) => refusal_line(e),
+        Slots::Refused(e) => {
+            refusal_line(e);
+            numbers_line(out, 0);
+        }
         Slots::Found(n) => {
             text(b"slots ");
             number(n);
             text(b":");
             list(out, n);
             text(b"\n");
+            numbers_line(out, n as usize);
         }
     }
 }
@@ -58,7 +63,11 @@ pub fn slots(label: &[u8], message: &[u8]) {
 
 fn references_line(answer: References, places: &[u64], values: &[u64]) {
     match answer {
-        References::Refused(e) => refusal_line(e),
+        References::Refused(e) => {
+            refusal_line(e);
+            numbers_line(places, 0);
+            numbers_line(values, 0);
+        }
         References::Found(n) => {
             text(b"references ");
             number(n);
@@ -67,6 +76,8 @@ fn references_line(answer: References, places: &[u64], values: &[u64]) {
             text(b" are");
             list(values, n);
             text(b"\n");
+            numbers_line(places, n as usize);
+            numbers_line(values, n as usize);
         }
     }
 }
@@ -167,6 +178,9 @@ pub fn bad_tables() {
     text(b"no type: ");
     size_lines(&table, &pool);
     name_line(&table, &pool, 0);
+    text(b"no type, slots: ");
+    let none = slots::embedded_reference_slots(&table, &pool, &mut places);
+    slots_line(none, &places);
     table[0] = 1;
     text(b"a fixed type of size 0: ");
     size_lines(&table, &pool);

@@ -1,21 +1,28 @@
 // The calls on a type that is read first, at limit 15, into 64 rows and 256 pool bytes; and what each gives.
 use reading::Reading;
+use refusal::Refusal;
 use round_trip::RoundTrip;
 use show::number;
 use show::refusal_line;
 use show::shown_bytes;
 use show::text;
+use show_lent::bytes_line;
+use show_lent::words_line;
 use writer::Writing;
 
 fn written_line(answer: Writing, out: &[u8]) {
     match answer {
-        Writing::Refused(e) => refusal_line(e),
+        Writing::Refused(e) => {
+            refusal_line(e);
+            bytes_line(out, 0);
+        }
         Writing::Written(n) => {
             text(b"written ");
             number(n as u64);
             text(b" ");
             shown_bytes(out, n);
             text(b"\n");
+            bytes_line(out, n);
         }
     }
 }
@@ -102,13 +109,27 @@ pub fn writing_array(label: &[u8], rank: u32, pool: &[u8]) {
     write_and_show(&table, pool, 3, &mut out);
 }
 
-fn round_trip_line(answer: RoundTrip) {
+// TooNew comes of reading back; every other refusal leaves all that is lent as it was.
+fn not_back_lines(e: Refusal, buffer: &[u8], table: &[u32], pool: &[u8]) {
+    refusal_line(e);
+    match e {
+        Refusal::TooNew(_) => {}
+        _ => {
+            bytes_line(buffer, 0);
+            words_line(table, 0);
+            bytes_line(pool, 0);
+        }
+    }
+}
+
+fn round_trip_lines(answer: RoundTrip, buffer: &[u8], table: &[u32], pool: &[u8]) {
     match answer {
-        RoundTrip::Refused(e) => refusal_line(e),
+        RoundTrip::Refused(e) => not_back_lines(e, buffer, table, pool),
         RoundTrip::Length(n) => {
             text(b"back ");
             number(n as u64);
             text(b"\n");
+            bytes_line(buffer, n);
         }
     }
 }
@@ -135,7 +156,7 @@ pub fn written_and_read(label: &[u8], message: &[u8], edition: u32, limit: u32) 
                 &mut second_table,
                 &mut second_pool,
             );
-            round_trip_line(answer);
+            round_trip_lines(answer, &buffer, &second_table, &second_pool);
         }
     }
 }

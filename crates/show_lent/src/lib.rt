@@ -1,0 +1,61 @@
+// For the programs that run cases: whether lent output, which is all 7 before a call, is as it was from a place on.
+use show::number;
+use show::text;
+
+fn lent_line(untouched: bool, from: usize) {
+    if untouched {
+        text(b"  untouched from ");
+    } else {
+        text(b"  changed from ");
+    }
+    number(from as u64);
+    text(b"\n");
+}
+
+fn bytes_untouched(out: &[u8], from: usize) -> bool {
+    let mut i = from;
+    while i < out.len() {
+        if out[i] != 7 {
+            return false;
+        }
+        i += 1;
+    }
+    true
+}
+
+// A line for lent bytes.
+pub fn bytes_line(out: &[u8], from: usize) {
+    lent_line(bytes_untouched(out, from), from);
+}
+
+fn words_untouched(out: &[u32], from: usize) -> bool {
+    let mut i = from;
+    while i < out.len() {
+        if out[i] != 7 {
+            return false;
+        }
+        i += 1;
+    }
+    true
+}
+
+// A line for lent words of 32 bits.
+pub fn words_line(out: &[u32], from: usize) {
+    lent_line(words_untouched(out, from), from);
+}
+
+fn numbers_untouched(out: &[u64], from: usize) -> bool {
+    let mut i = from;
+    while i < out.len() {
+        if out[i] != 7 {
+            return false;
+        }
+        i += 1;
+    }
+    true
+}
+
+// A line for lent numbers of 64 bits.
+pub fn numbers_line(out: &[u64], from: usize) {
+    lent_line(numbers_untouched(out, from), from);
+}
