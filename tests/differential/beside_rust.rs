@@ -20,7 +20,8 @@ fn main() {
     let mut counts = counts::Counts::new();
     generate::run(seed, rounds, &mut counts);
     counts.print();
-    println!("beside the Rust: seed {seed}, {} compared, {} left out, no difference", counts.total(), counts.left_out.iter().sum::<u64>());
+    let [rust, walk, out] = [counts.compared, counts.walked, counts.left_out].map(|by_call| by_call.iter().sum::<u64>());
+    println!("beside the Rust: seed {seed}, {rust} compared with the Rust, {walk} with the walk, {out} left out, no difference");
     let lacking = counts.lacking(least);
     for line in &lacking {
         println!("met too rarely: {line}");

@@ -1,4 +1,5 @@
-//! One message or type given to the library and to the oracle. The run ends at the first difference.
+//! One message or type given to the library and to the oracle, or, where the oracle has no answer, to the plain walk. The run ends at the first
+//! difference.
 use crate::counts::{Call, Counts};
 use crate::datatype::{self, Datatype};
 use crate::error::FormatError;
@@ -155,7 +156,7 @@ fn writing(t: &Datatype, table: &[u32], pool: &[u8], edition: u32, counts: &mut 
         if number(&ours) != walk::not_written(t, edition).unwrap_or(0) || out.iter().any(|b| *b != 7) {
             differs("the refusal to write", &of, ours, walk::not_written(t, edition));
         }
-        counts.left_out(Call::Write, number(&ours));
+        counts.walked(Call::Write, number(&ours));
         return;
     };
     if out[n..].iter().any(|b| *b != 7) {
@@ -197,7 +198,7 @@ fn slots(t: &Datatype, table: &[u32], pool: &[u8], counts: &mut Counts) -> Vec<u
         if walk::zero_class(t) != Some(class) {
             differs("ZeroSize in slots", &format!("{t:?}"), class, walk::zero_class(t));
         }
-        counts.left_out(Call::Slots, 12);
+        counts.walked(Call::Slots, 12);
         return vec![];
     }
     if t.type_size() > LISTED {
@@ -284,7 +285,7 @@ fn records(t: &Datatype, table: &[u32], pool: &[u8], r: &mut Random, counts: &mu
     if ours.map_err(|e| (e.number_and_values().0, e.number_and_values().1)) != theirs {
         differs("same", &format!("{} and {} of {t:?}", hex(&a), hex(&b)), ours, theirs);
     }
-    counts.compared(Call::Same, number(&ours));
+    counts.walked(Call::Same, number(&ours));
     if let Ok(same) = theirs {
         counts.names(&walk::bytes(t, &a), &walk::bytes(t, &b), same);
     }

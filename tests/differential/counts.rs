@@ -1,4 +1,4 @@
-//! What was compared, and what document 01 leaves out of the comparison.
+//! What was compared with the Rust's answers, what with the plain walk of walk.rs alone, and what document 01 leaves out of the comparison.
 use crate::walk::Byte;
 
 #[derive(Clone, Copy)]
@@ -28,7 +28,9 @@ pub const NAMES: [&str; 7] = [
 
 #[derive(Default)]
 pub struct Counts {
+    /// By call: answers compared with the Rust's; answers that the Rust has not, compared with the walk's; answers compared with neither.
     pub compared: [u64; 8],
+    pub walked: [u64; 8],
     pub left_out: [u64; 8],
     /// By call and number of the answer, 0 for a result.
     pub numbers: [[u64; 22]; 8],
@@ -49,6 +51,11 @@ impl Counts {
 
     pub fn compared(&mut self, call: Call, number: u32) {
         self.compared[call as usize] += 1;
+        self.numbers[call as usize][number as usize] += 1;
+    }
+
+    pub fn walked(&mut self, call: Call, number: u32) {
+        self.walked[call as usize] += 1;
         self.numbers[call as usize][number as usize] += 1;
     }
 
@@ -76,14 +83,11 @@ impl Counts {
         }
     }
 
-    pub fn total(&self) -> u64 {
-        self.compared.iter().sum()
-    }
-
     pub fn print(&self) {
         for (i, name) in CALLS.iter().enumerate() {
             let met: Vec<String> = self.numbers[i].iter().enumerate().filter(|(_, n)| **n > 0).map(|(k, n)| format!("{k}: {n}")).collect();
-            println!("{name}: {} compared, {} left out; by number {}", self.compared[i], self.left_out[i], met.join(", "));
+            let (rust, walk, out) = (self.compared[i], self.walked[i], self.left_out[i]);
+            println!("{name}: {rust} compared with the Rust, {walk} with the walk, {out} left out; by number {}", met.join(", "));
         }
         println!("types read, by class {:?}", self.classes);
         println!("types read, by version {:?}", self.versions);
