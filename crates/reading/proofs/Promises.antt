@@ -1,6 +1,6 @@
 -- What `Reads` says of `read`, in document 01's words.
 use Prim.Native.Nat.{ℕ, _+_, _*_, _/_, _<_, _≤_, min}
-use mathlib.Core.Path.{_≡_, refl, ap, _∙_}
+use mathlib.Core.Path.{_≡_, refl, sym, ap, _∙_}
 use mathlib.Core.Bool.{true}
 use mathlib.Core.List.{List, [], _∷_, _++_, List·Memᴰ, List·Memᴰ·not-nil, List·Memᴰ·cases-cons}
 use mathlib.Core.Logic.{⊎-elim}
@@ -19,6 +19,7 @@ use Rattle.format.proofs.Cases.{U1, P, typeP, twoR, sevenZeros, computing}
 use Rattle.format.proofs.Counts.{counts}
 use Rattle.format.proofs.Demand3.{round-trip, none-above}
 use Rattle.format.proofs.Faithful.{Faithful, reading-faithful}
+use Rattle.format.proofs.Limits.{limit-from-15}
 use Rattle.format.proofs.Rows.{length-rows}
 use Rattle.format.proofs.Sure.{Sure, met}
 use Rattle.format.proofs.Table.{setsOut-of, typeOf-complete}
@@ -68,6 +69,18 @@ pub record GivesType (limit : ℕ) (d table pool table′ pool′ : List ℕ) (n
   pub type-of : typeOf table′ pool′ ≡ gives type
 
 module _ {limit : ℕ} {d table pool : List ℕ} {r : Reading} {table′ pool′ : List ℕ} (h : Reads limit d table pool r table′ pool′) where
+  -- "15 or more is the Rust's reading": such a limit gives what 15 gives
+  pub reads-as-at-15 : AllBytes d → 15 ≤ limit → Reads 15 d table pool r table′ pool′
+  reads-as-at-15 b l =
+      let e : reading 15 (length table) (length pool) d ≡ reading limit (length table) (length pool) d = sym (limit-from-15 limit (length table) (length pool) d b l) in
+      record {
+        answer = rw e (h .answer);
+        number = rw e (h .number);
+        values = rw e (h .values);
+        table-is = rw e (h .table-is);
+        pool-is = rw e (h .pool-is);
+      }
+
   refuses-as : (e : Refusal) → reading limit (length table) (length pool) d ≡ refuses e → Refuses e table pool r table′ pool′
   unfolding answerOf tableAfter poolAfter
   refuses-as e q =
