@@ -19,7 +19,7 @@ fn hex(bytes: &[u8]) -> String {
 fn differs(what: &str, of: &str, ours: impl std::fmt::Debug, theirs: impl std::fmt::Debug) -> ! {
     println!("differs in {what}: {of}");
     println!("  here {ours:?}");
-    println!("  Rust {theirs:?}");
+    println!("  there {theirs:?}");
     std::process::exit(1);
 }
 
