@@ -25,7 +25,6 @@ use Rattle.table.specs.declared.Path.{Path}
 use Rattle.table.proofs.Passing.{passes-none, passes-leaf, passes-compound, passes-array}
 use Rattle.slots.specs.Slots.{AllBelow, Fits, Listed, Listable, PutAs, PutIn, PutAt, PutInside, Passed, PutLeaf, movedOn, Repeats}
 use Rattle.slots.specs.declared.Put.{Put}
-use Rattle.slots.proofs.Repeating.{Reads, reads-sets, further, further-entries, moved-further}
 use Rattle.slots.proofs.Rows.{above, below, by-row}
 use Rattle.slots.proofs.Shifting.{all-append, first-low, few-entries, entries-more, fits-first, fits-second, listed-both, listed-none, shifted-none, entries-none}
 
@@ -119,57 +118,32 @@ all-entries ds stride base ss {n = n} h z f e = go (product ds) f (e ∙ ap (λ 
     go zero f e = omega arith
     go (suc k) f e = omega (arith, few-entries 4294967296 stride base ss z h 0 k f)
 
--- the first entry's numbers are listed, the others moved from them
-module _ (stride base : ℕ) (ss out : List ℕ) (at next : ℕ) (out₁ : List ℕ) (x : ℕ) (out′ : List ℕ) where
-  repeated : (c : ℕ) → (ss ≡ [] → ⊥) → Fits (shifted base (entries stride ss 0 (suc c))) out at → Listed (shifted base ss) out at next out₁ → Repeats stride (suc c) at next out₁ x out′
-      → Listed (shifted base (entries stride ss 0 (suc c))) out at x out′
-  repeated c z f a w =
-      let e = entries-more stride base ss c in
-      let g : Fits (shifted base ss ++ shifted (base + stride) (entries stride ss 0 c)) out at = rw e at f in
-      let d = fits-second _ _ out at g a in
-      let n : next - at ≡ length ss = omega (arith, a .next, length-shifted base ss) in
-      let some : 0 < length ss = some-length ss z in
-      let long : length (shifted (base + stride) (entries stride ss 0 c)) ≡ c * length ss = length-shifted (base + stride) (entries stride ss 0 c) ∙ length-entries stride ss 0 c in
-      let all : at + (next - at) * suc c ≡ next + c * length ss = whole n in
-      let room : next + c * length ss ≤ length out₁ = omega (arith, d .room, long) in
-      let m : at + (next - at) * suc c - next ≡ c * length ss = omega arith in
-      let s : Reads out₁ at (shifted base ss) = rw (a .out-is) (reads-sets (shifted base ss) out at (fits-first (shifted base ss) (shifted (base + stride) (entries stride ss 0 c)) out at g .room)) in
-      let k : movedOn stride (next - at) next (c * length ss) out₁ ≡ sets out₁ next (further stride (shifted base ss) (c * length ss)) =
-      moved-further stride (next - at) (c * length ss) (shifted base ss) out₁ at next (a .next) (omega (arith, length-shifted base ss)) (omega arith) s room (rw (further-entries stride base ss c) (d .low)) in
-      let v : Listed (shifted (base + stride) (entries stride ss 0 c)) out₁ next x out′ =
-      record {
-        next = w .next-is (omega arith) (omega arith) (omega arith) ∙ omega (arith, long);
-        out-is = w .out-is (omega arith) (omega arith) (omega arith) ∙ ap (λ (q : ℕ). movedOn stride (next - at) next q out₁) m ∙ k ∙ ap (sets out₁ next) (further-entries stride base ss c);
-      } in
-      rw e (listed-both _ _ out at next x out₁ out′ a v)
-    where
-      some-length : (ss : List ℕ) → (ss ≡ [] → ⊥) → 0 < length ss
-      some-length [] z = absurd (z refl)
-      some-length (s ∷ ss) z = omega arith
-
-      whole : next - at ≡ length ss → at + (next - at) * suc c ≡ next + c * length ss
-      whole n = rw n (omega (arith, mul-comm (length ss) (suc c), suc-mul c (length ss), a .next, length-shifted base ss))
-
 array-listed : (ds : List ℕ) (t : Datatype) (stride n base : ℕ) (out : List ℕ) (at next : ℕ) (out₁ : List ℕ) (x : ℕ) (out′ : List ℕ)
     → (Listable t → Fits (shifted base (slots t)) out at → Listed (shifted base (slots t)) out at next out₁) → stride ≡ typeSize t → n ≡ min (1 * product ds) 4294967296 → Repeats stride n at next out₁ x out′
     → Listable (array ds t) → Fits (shifted base (entries (typeSize t) (slots t) 0 (product ds))) out at → Listed (shifted base (entries (typeSize t) (slots t) 0 (product ds))) out at x out′
-array-listed ds t stride n base out at next out₁ x out′ v s e w l f = go (slots t) refl (product ds) refl
+array-listed ds t stride n base out at next out₁ x out′ v s e w l f = go (slots t) refl
   where
     lt : Listable t
     lt = array-listable ds t l
 
-    go : (ss : List ℕ) → slots t ≡ ss → (k : ℕ) → product ds ≡ k → Listed (shifted base (entries (typeSize t) (slots t) 0 (product ds))) out at x out′
-    go ss i zero j = absurd (array-some ds t l j)
-    go [] i (suc c) j =
-        let a : Listed [] out at next out₁ = rw (i, shifted-none base [] refl) at (v lt) (record { room = omega (arith, f .room); low = unfold AllBelow in tt }) in
-        let b = w .none-there (omega (arith, a .next)) in
-        rw (i, entries-none (typeSize t) 0 (product ds), shifted-none base [] refl) (listed-both [] [] out at next x out₁ out′ a b)
-    go (y ∷ ys) i (suc c) j =
+    first : Fits (shifted base (slots t)) out at
+    first =
+        let c : product ds ≡ suc (product ds - 1) = omega (arith, array-some ds t l) in
+        let g : Fits (shifted base (slots t) ++ shifted (base + typeSize t) (entries (typeSize t) (slots t) 0 (product ds - 1))) out at =
+        rw (← entries-more (typeSize t) base (slots t) (product ds - 1), ← c) f in
+        fits-first (shifted base (slots t)) (shifted (base + typeSize t) (entries (typeSize t) (slots t) 0 (product ds - 1))) out at g
+
+    some : 0 < n
+    some = omega (arith, array-some ds t l, e, one-mul (product ds))
+
+    go : (ss : List ℕ) → slots t ≡ ss → Listed (shifted base (entries (typeSize t) (slots t) 0 (product ds))) out at x out′
+    go [] i =
+        let j : entries (typeSize t) (slots t) 0 n ≡ entries (typeSize t) (slots t) 0 (product ds) = rw (i, entries-none (typeSize t) 0 n, entries-none (typeSize t) 0 (product ds)) in
+        rw j at (rw s at (w .repeats base (slots t) out some) (rw j f) (v lt first))
+    go (y ∷ ys) i =
         let z : slots t ≡ [] → ⊥ = λ h. let q : _≡_ {A = ℕ} 0 1 = cc in omega arith in
         let m : n ≡ product ds = all-entries ds (typeSize t) base (slots t) (first-zero-size t (lt .sized)) z (f .low) e in
-        let g : Fits (shifted base (entries (typeSize t) (slots t) 0 (suc c))) out at = rw j at f in
-        let h : Fits (shifted base (slots t) ++ shifted (base + typeSize t) (entries (typeSize t) (slots t) 0 c)) out at = rw (entries-more (typeSize t) base (slots t) c) at g in
-        rw j (repeated (typeSize t) base (slots t) out at next out₁ x out′ c z g (v lt (fits-first _ _ out at h)) (rw (s, m, j) at w))
+        rw m at (rw s at (w .repeats base (slots t) out some) (rw m f) (v lt first))
 
 array-put : (ds : List ℕ) (stride n base : ℕ) (out : List ℕ) (at next : ℕ) (out₁ : List ℕ) (x : ℕ) (out′ : List ℕ) (y : Found Datatype) → PutAs y base out at next out₁ → SizedTo y stride
     → n ≡ min (1 * product ds) 4294967296 → Repeats stride n at next out₁ x out′ → PutAs (andThen y (λ t r p. found (array ds t) r p)) base out at x out′

@@ -1,13 +1,14 @@
 -- Slots moved by an offset, entry after entry, and stored one list behind another.
 use Prim.Native.Nat.{ℕ, zero, suc, _+_, _*_, _<_}
 use mathlib.Core.Path.{_≡_, refl, sym, ap, _∙_}
-use mathlib.Core.List.{List, [], _∷_, _++_}
+use mathlib.Core.List.{List, [], _∷_, _++_, append-assoc}
 use native.Mathlib.Omega.{arith}
-use native.Mathlib.Nat.{suc-mul, zero-mul, add-zero, le-mul-of-pos-right}
-use lib.ListN.{length-append}
+use native.Mathlib.Nat.{suc-mul, zero-mul, add-zero, zero-add, suc-add, le-mul-of-pos-right}
+use lib.ListN.{length, length-append}
 use lib.Seq.{length-sets}
 use Rattle.format.specs.Slots.{shifted, entries}
 use Rattle.format.proofs.Lists.{sets-append}
+use Rattle.format.proofs.Slots.{length-shifted, length-entries}
 use Rattle.slots.specs.Slots.{AllBelow, Fits, Listed}
 
 -- ---- lists of numbers
@@ -45,6 +46,19 @@ unfolding entries
 entries-more stride base ss n =
     let e : base + 0 * stride ≡ base = omega (arith, zero-mul stride) in
     shifted-append base (shifted (0 * stride) ss) (entries stride ss 1 n) ∙ rw (shifted-twice base (0 * stride) ss, e, entries-shift stride ss 0 n, shifted-twice base stride (entries stride ss 0 n))
+
+-- so many entries, then others
+pub entries-split : (stride base : ℕ) (ss : List ℕ) (c e : ℕ) → shifted base (entries stride ss 0 (c + e)) ≡ shifted base (entries stride ss 0 c) ++ shifted (base + c * stride) (entries stride ss 0 e)
+entries-split stride base ss zero e =
+    let i : base + 0 * stride ≡ base = omega (arith, zero-mul stride) in
+    rw (zero-add e, i) (unfold entries shifted in refl)
+entries-split stride base ss (suc c) e =
+    let i : base + suc c * stride ≡ base + stride + c * stride = omega (arith, suc-mul c stride) in
+    rw (suc-add c e, i, entries-more stride base ss (c + e), entries-more stride base ss c, append-assoc (shifted base ss) (shifted (base + stride) (entries stride ss 0 c)) (shifted (base + stride + c * stride) (entries stride ss 0 e)))
+    (ap (λ (l : List ℕ). shifted base ss ++ l) (entries-split stride (base + stride) ss c e))
+
+pub length-moved : (stride base : ℕ) (ss : List ℕ) (n : ℕ) → length (shifted base (entries stride ss 0 n)) ≡ n * length ss
+length-moved stride base ss n = length-shifted base (entries stride ss 0 n) ∙ length-entries stride ss 0 n
 
 -- entries of numbers that 32 bits hold are not many
 entries-cons : (stride base : ℕ) (ss : List ℕ) (k n : ℕ) → shifted base (entries stride ss k (suc n)) ≡ shifted (base + k * stride) ss ++ shifted base (entries stride ss (suc k) n)

@@ -10,7 +10,7 @@ use lib.Dec.{eqb, ltb}
 use Rattle.refusal.specs.Refusal.{numberOf, valuesOf}
 use Rattle.format.specs.Datatype.{Datatype, Members}
 use Rattle.format.specs.Outcome.{Outcome, gives, refuses, outputAfter, outcomeNumber, outcomeValues}
-use Rattle.format.specs.Slots.{isSlot, shifted, slots, memberSlots, lastEnd, slotCount, memberSlotCount, slotEnd, memberSlotEnd, holdsOtherReference, memberHoldsOtherReference, holdsHiddenReference, memberHoldsHiddenReference, firstZero, memberFirstZero, findingSlots}
+use Rattle.format.specs.Slots.{isSlot, shifted, entries, slots, memberSlots, lastEnd, slotCount, memberSlotCount, slotEnd, memberSlotEnd, holdsOtherReference, memberHoldsOtherReference, holdsHiddenReference, memberHoldsHiddenReference, firstZero, memberFirstZero, findingSlots}
 use Rattle.format.specs.Table.{Found, found, bad, typeAt, membersAt}
 use Rattle.slots.specs.declared.Tally.{Tally}
 use Rattle.slots.specs.declared.Put.{Put}
@@ -131,12 +131,10 @@ unfoldable pub movedOn : (stride n k left : ℕ) → List ℕ → List ℕ
 movedOn stride n k zero out = out
 movedOn stride n k (suc left) out = movedOn stride n (suc k) left (set out k ((getD out (k - n) 0 + stride) % 2 ^ 64))
 
--- what stands from a place up to the next is repeated, a stride further each time, so that it stands there so often; nothing is said where that
--- does not fit
+-- where the numbers of an array's first entry stand, those of all its entries are listed
 pub record Repeats (stride count at next : ℕ) (out : List ℕ) (x : ℕ) (out′ : List ℕ) : Type 0 where
-  pub none-there : next ≤ at → Listed [] out next x out′
-  pub next-is : at < next → at + (next - at) * count ≤ length out → next ≤ length out → x ≡ at + (next - at) * count
-  pub out-is : at < next → at + (next - at) * count ≤ length out → next ≤ length out → out′ ≡ movedOn stride (next - at) next (at + (next - at) * count - next) out
+  pub repeats : (base : ℕ) (ss out₀ : List ℕ) → 0 < count → Fits (shifted base (entries stride ss 0 count)) out₀ at → Listed (shifted base ss) out₀ at next out
+      → Listed (shifted base (entries stride ss 0 count)) out₀ at x out′
 
 -- Document 01's number and values: 0 and the count, or the refusal's
 unfoldable pub slotsNumber : Slots → ℕ

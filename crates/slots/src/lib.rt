@@ -16,7 +16,7 @@ use table::enter;
 use table::next_row;
 use table::size_at;
 ghost use mathlib.Core.Path.{_≡_};
-ghost use Prim.Native.Nat.{_+_, _*_, _-_, _≤_, _<_, max};
+ghost use Prim.Native.Nat.{_+_, _*_, _-_, _≤_, _<_, min, max};
 ghost use lib.ListN.{length};
 ghost use Rattle.format.specs.Slots.{lastEnd, movedEnd};
 ghost use Rattle.rows.specs.Entries.{RowSays};
@@ -24,7 +24,7 @@ ghost use Rattle.rows.specs.declared.Entry.the-variants.{Array};
 ghost use Rattle.table.specs.Known.{TotalAt};
 ghost use Rattle.table.specs.Path.{topOf};
 ghost use Rattle.table.specs.Survey.{Sets};
-ghost use Rattle.slots.specs.Slots.{mostSlots, mostEnd, leafTally, hiddenTally, entriesTally, TallyAt, TallyIn, Standing, Passed, PutLeaf, Repeats, PutAt, PutInside, SlotsAre};
+ghost use Rattle.slots.specs.Slots.{mostSlots, mostEnd, leafTally, hiddenTally, entriesTally, TallyAt, TallyIn, Standing, Passed, PutLeaf, movedOn, Repeats, PutAt, PutInside, SlotsAre};
 
 // What a first walk finds, before anything is listed: the row behind the type, whether the type holds a reference that is no slot's, the number
 // of slots and the greatest slot + 8; the last two stop at 1,073,741,824 and 4,294,967,296, past all that a type of 32-bit size can have.
@@ -282,9 +282,28 @@ fn put_leaf(row: usize, class: u32, base: u64, out: &mut [u64], at: usize) -> Pu
     }
 }
 
-// Lists the slots of all entries of an array whose first entry's stand from `at` up to `next`: each is a stride more than that of the entry
-// before it. The answer is where the next slot would go.
+fn lesser(a: u64, b: u64) -> u64
+    ensures { λ r. ⌜ r ≡ min a b ⌝ }
+{
+    if a < b { a } else { b }
+}
+
+// Each number from `from` up to `to` becomes `by` more than the one `back` places before it.
+fn move_on(out: &mut [u64], from: usize, to: usize, back: usize, by: u64)
+    requires { ⌜ (back ≤ from) × (to ≤ length (now out)) ⌝ }
+    ensures { λ r. ⌜ now (out .exit) ≡ movedOn by back from (to - from) (now (out .entry)) ⌝ }
+{
+    let mut k = from;
+    while k < to {
+        out[k] = wrapping_add_u64(out[k - back], by);
+        k += 1;
+    }
+}
+
+// Lists the slots of all entries of an array, a stride apart, whose first entry's stand from `at` up to `next`; the answer is where the next
+// slot would go. All that is listed is moved at once, so that the loop reads nothing that it has just written and its turns run side by side.
 fn repeat_slots(out: &mut [u64], at: usize, next: usize, stride: u32, count: u64) -> usize
+    requires { ⌜ count ≤ 4294967296 ⌝ }
     ensures { λ r. ⌜ Repeats stride count at next (now (out .entry)) r (now (out .exit)) ⌝ }
 {
     if next <= at {
@@ -297,14 +316,16 @@ fn repeat_slots(out: &mut [u64], at: usize, next: usize, stride: u32, count: u64
     if (((out.len() - at) / n) as u64) < count {
         return next;
     }
-    let end = at + n * (count as usize);
-    let by = stride as u64;
+    let mut done: u64 = 1;
     let mut k = next;
-    while k < end {
-        out[k] = wrapping_add_u64(out[k - n], by);
-        k += 1;
+    while done < count {
+        let more = lesser(done, count - done);
+        let end = k + n * (more as usize);
+        move_on(out, k, end, k - at, done * (stride as u64));
+        k = end;
+        done += more;
     }
-    end
+    k
 }
 
 // Lists the slots of the type at the top of the path, which begins at `base` in the record: from `at` on. Each row is looked at once, and an
