@@ -222,6 +222,12 @@ inner-none table pool depth row base out at x h =
     let j : 32 - depth ≡ 0 = omega arith in
     record { passes = passes-none table row (32 - depth) (x .row) j; lists = λ p. rw j (unfold typeAt PutAs in tt) }
 
+pub inner-leaf : (table pool : List ℕ) (depth row base : ℕ) (out : List ℕ) (at : ℕ) (x : Put) (out′ : List ℕ) {e : Entry} {k n l y : ℕ} → depth ≤ 32 → (depth ≡ 32 → ⊥) → RowSays table row e → e ≡ Leaf k n l y
+    → PutLeaf (row + 1) k base out at x out′ → PutAt (32 - depth) table pool row base out at x out′
+inner-leaf table pool depth row base out at x out′ h d s i v =
+    let c : 33 - (depth + 1) ≡ 32 - depth = omega arith in
+    rw c at (type-leaf table pool (depth + 1) row base out at (omega (arith, d)) s x out′ i v)
+
 pub inner-type : (table pool : List ℕ) (path inner : Path) (row base : ℕ) (out : List ℕ) (at : ℕ) (x : Put) (out′ : List ℕ) → Entered path row inner → PutAt (33 - inner .depth) table pool (topOf inner) base out at x out′
     → PutAt (32 - path .depth) table pool row base out at x out′
 inner-type table pool path inner row base out at x out′ e v =

@@ -206,6 +206,12 @@ inner-none table pool depth row x h =
     let j : 32 - depth ≡ 0 = omega arith in
     record { passes = passes-none table row (32 - depth) (x .row) j; counts = λ p. rw j (unfold typeAt CountedAs in tt) }
 
+pub inner-leaf : (table pool : List ℕ) (depth row : ℕ) {e : Entry} {k n l code : ℕ} {x : Tally} → depth ≤ 32 → (depth ≡ 32 → ⊥) → RowSays table row e → e ≡ Leaf k n l code → x ≡ leafTally k n code (row + 1)
+    → TallyAt (32 - depth) table pool row x
+inner-leaf table pool depth row h d s i j =
+    let c : 33 - (depth + 1) ≡ 32 - depth = omega arith in
+    rw c at (type-leaf table pool (depth + 1) row (omega (arith, d)) s i j)
+
 pub inner-type : (table pool : List ℕ) (path inner : Path) (row : ℕ) (x : Tally) → Entered path row inner → TallyAt (33 - inner .depth) table pool (topOf inner) x → TallyAt (32 - path .depth) table pool row x
 inner-type table pool path inner row x e v =
     let j : 33 - inner .depth ≡ 32 - path .depth = omega (arith, e .deeper) in

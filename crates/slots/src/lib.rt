@@ -213,7 +213,8 @@ fn tally_type(table: &[u32], pool: &[u8], path: Path) -> Tally
     }
 }
 
-// The same of a type at a row one level below the path; where no level is left, none is found there.
+// The same of a type at a row one level below the path; where no level is left, none is found there. A leaf is counted here, since a path costs
+// more than it; any other row is read again.
 fn tally_inner(table: &[u32], pool: &[u8], path: Path, row: usize) -> Tally
     requires { ⌜ path .depth ≤ 32 ⌝ }
     ensures { λ r. ⌜ TallyAt (32 - path .depth) (now (table .entry)) (now (pool .entry)) row r ⌝ }
@@ -221,7 +222,11 @@ fn tally_inner(table: &[u32], pool: &[u8], path: Path, row: usize) -> Tally
     if path.depth == 32 {
         return leaf_tally(0, 0, 0, row);
     }
-    tally_type(table, pool, enter(path, row))
+    let entry = row_entry(table, row);
+    match entry {
+        Entry::Leaf(class, size, _, code) => leaf_tally(class, size, code, row + 1),
+        _ => tally_type(table, pool, enter(path, row)),
+    }
 }
 
 // The same of so many members of the compound at the top of the path, from a row on.
@@ -405,7 +410,7 @@ fn put_members(
 }
 
 // The same of a type at a row one level below the path, which begins at `base` in the record. One that begins past all 32-bit places lists
-// nothing; where no level is left, none is found there.
+// nothing; where no level is left, none is found there. A leaf is listed here, as above.
 fn put_inner(
     table: &[u32],
     pool: &[u8],
@@ -425,7 +430,11 @@ fn put_inner(
     if depth == 32 {
         return pass(table, row, 0, at);
     }
-    put_type(table, pool, enter(path, row), base, out, at)
+    let entry = row_entry(table, row);
+    match entry {
+        Entry::Leaf(class, _, _, _) => put_leaf(row + 1, class, base, out, at),
+        _ => put_type(table, pool, enter(path, row), base, out, at),
+    }
 }
 
 // Of a type that the check has surveyed.

@@ -2,7 +2,7 @@ use Prim.Native.Nat.{ℕ, _<_, _+_, _-_, _*_}
 use borrow.Author.Needs.{needs}
 use Rattle.rows.proofs.Known.{says-leaf-next, says-compound-next, names-next}
 use Rattle.slots.proofs.Rows.{array-row, array-next}
-use Rattle.slots.proofs.Listing.{type-unknown, type-enumeration, type-variableLength, type-leaf, type-compound, row-is, type-array, inner-far, inner-none, inner-type}
+use Rattle.slots.proofs.Listing.{type-unknown, type-enumeration, type-variableLength, type-leaf, type-compound, row-is, type-array, inner-far, inner-none, inner-leaf, inner-type}
 use Rattle.slots.proofs.ListingInside.{Puts, members-start, members-unnamed, members-next, members-end}
 use Prim.Native.Nat.{ℕ, _<_}
 use borrow.Fn.Kinds.{In}
@@ -75,7 +75,7 @@ abbrev put-array-calls : ℕ → put-array-lts.Claims
 put-array-calls t = (put-inner-below t, put-inner.Post, size-at-reads.Asked, size-at-reads.Learnt, entry-count-reads.Asked, entry-count-reads.Learnt, repeat-slots-reads.Asked, repeat-slots-reads.Learnt)
 
 abbrev put-inner-calls : ℕ → put-inner-lts.Claims
-put-inner-calls t = (pass-reads.Asked, pass-reads.Learnt, enter-reads.Asked, enter-reads.Learnt, put-type-below t, put-type.Post)
+put-inner-calls t = (pass-reads.Asked, pass-reads.Learnt, row-entry-reads.Asked, row-entry-reads.Learnt, put-leaf-reads.Asked, put-leaf-reads.Learnt, enter-reads.Asked, enter-reads.Learnt, put-type-below t, put-type.Post)
 
 abbrev put-members-calls : ℕ → put-members-lts.Claims
 put-members-calls t = (row-member-reads.Asked, row-member-reads.Learnt, put-inner-below t, put-inner.Post)
@@ -101,8 +101,14 @@ put-inner-returns t c = search inner-far
 put-inner-returns-2 : (t : ℕ) → put-inner-lts.Need-returns-2 (put-inner-calls t) (put-inner-at t) put-inner.Post
 put-inner-returns-2 t c = search inner-none
 
+put-inner-add-put-leaf : (t : ℕ) → put-inner-lts.Need-add-put-leaf (put-inner-calls t) (put-inner-at t) put-inner.Post
+put-inner-add-put-leaf t c = search (says-leaf-next, needs)
+
 put-inner-returns-3 : (t : ℕ) → put-inner-lts.Need-returns-3 (put-inner-calls t) (put-inner-at t) put-inner.Post
-put-inner-returns-3 t c = search inner-type
+put-inner-returns-3 t c = search inner-leaf
+
+put-inner-returns-4 : (t : ℕ) → put-inner-lts.Need-returns-4 (put-inner-calls t) (put-inner-at t) put-inner.Post
+put-inner-returns-4 t c = search inner-type
 
 abbrev put-members-Inv-loop : put-members-lts.InvT-loop
 put-members-Inv-loop table pool path row count base out₀ at r₀ left₀ next₀ out r left next = Puts (32 - path .depth) table pool row count base out₀ at r left out next
@@ -176,10 +182,16 @@ pub +put-array+put-inner+put-members+put-type-spec : {M : Type 1} → statement 
     (put-inner-returns t)
     (λ c κs. search needs)  -- put-inner-pass-requires-2
     (put-inner-returns-2 t)
+    (λ c κs. search needs)  -- put-inner-row-entry-requires
+    (λ c. search needs)  -- put-inner-enum-known-entry
+    (put-inner-add-put-leaf t)
+    (λ c κs. search needs)  -- put-inner-put-leaf-requires
     (λ c κs. search needs)  -- put-inner-enter-requires
     (λ c κs. search needs)  -- put-inner-put-type-requires
     (λ c. search needs)  -- put-inner-same-length
-    (put-inner-returns-3 t))
+    (put-inner-returns-3 t)
+    (λ c. search needs)  -- put-inner-same-length-2
+    (put-inner-returns-4 t))
     (λ t. put-members-lts.spec
     (put-members-calls t)
     (put-members-at t)

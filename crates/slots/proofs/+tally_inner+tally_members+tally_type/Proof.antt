@@ -1,7 +1,7 @@
 use Prim.Native.Nat.{ℕ, _<_, _+_, _-_, _*_}
 use borrow.Author.Needs.{needs}
 use Rattle.rows.proofs.Known.{says-leaf-next, says-compound-next, says-enumeration-next, says-variableLength-next, says-array-next, says-array-row, names-next}
-use Rattle.slots.proofs.Tallying.{type-unknown, type-leaf, type-compound, type-enumeration, type-variableLength, type-array, inner-none, inner-type, Counts, members-start, members-end, members-unnamed, members-next}
+use Rattle.slots.proofs.Tallying.{type-unknown, type-leaf, type-compound, type-enumeration, type-variableLength, type-array, inner-none, inner-leaf, inner-type, Counts, members-start, members-end, members-unnamed, members-next}
 use Prim.Native.Nat.{ℕ, _<_}
 use borrow.Fn.Kinds.{In}
 use borrow.Fn.PlainCycle.{Measures, is, falls, and}
@@ -67,7 +67,7 @@ tally-type-below t =
     and 2 tally-type-kinds.ps (falls 2 tally-type-kinds.ps _<_ μ-tally-type t) tally-type.Pre
 
 abbrev tally-inner-calls : ℕ → tally-inner-lts.Claims
-tally-inner-calls t = (leaf-tally-reads.Asked, leaf-tally-reads.Learnt, enter-reads.Asked, enter-reads.Learnt, tally-type-below t, tally-type.Post)
+tally-inner-calls t = (leaf-tally-reads.Asked, leaf-tally-reads.Learnt, row-entry-reads.Asked, row-entry-reads.Learnt, enter-reads.Asked, enter-reads.Learnt, tally-type-below t, tally-type.Post)
 
 abbrev tally-members-calls : ℕ → tally-members-lts.Claims
 tally-members-calls t = (row-member-reads.Asked, row-member-reads.Learnt, leaf-tally-reads.Asked, leaf-tally-reads.Learnt, tally-inner-below t, tally-inner.Post, either-reads.Asked, either-reads.Learnt, sum-slots-reads.Asked, sum-slots-reads.Learnt, further-end-reads.Asked, further-end-reads.Learnt)
@@ -78,8 +78,14 @@ tally-type-calls t = (row-entry-reads.Asked, row-entry-reads.Learnt, leaf-tally-
 tally-inner-returns : (t : ℕ) → tally-inner-lts.Need-returns (tally-inner-calls t) (tally-inner-at t) tally-inner.Post
 tally-inner-returns t c = search inner-none
 
+tally-inner-add-leaf-tally : (t : ℕ) → tally-inner-lts.Need-add-leaf-tally (tally-inner-calls t) (tally-inner-at t) tally-inner.Post
+tally-inner-add-leaf-tally t c = search (says-leaf-next, needs)
+
 tally-inner-returns-2 : (t : ℕ) → tally-inner-lts.Need-returns-2 (tally-inner-calls t) (tally-inner-at t) tally-inner.Post
-tally-inner-returns-2 t c = search inner-type
+tally-inner-returns-2 t c = search inner-leaf
+
+tally-inner-returns-3 : (t : ℕ) → tally-inner-lts.Need-returns-3 (tally-inner-calls t) (tally-inner-at t) tally-inner.Post
+tally-inner-returns-3 t c = search inner-type
 
 abbrev tally-members-Inv-loop : tally-members-lts.InvT-loop
 tally-members-Inv-loop table pool path row count r₀ left₀ unmapped₀ slots₀ end₀ r left unmapped slots end = Counts (32 - path .depth) table pool row count r left unmapped slots end
@@ -149,9 +155,14 @@ pub +tally-inner+tally-members+tally-type-spec : {M : Type 1} → statement M
     tally-inner.Post
     (λ c κs. search needs)  -- tally-inner-leaf-tally-requires
     (tally-inner-returns t)
+    (λ c κs. search needs)  -- tally-inner-row-entry-requires
+    (λ c. search needs)  -- tally-inner-enum-known-entry
+    (tally-inner-add-leaf-tally t)
+    (λ c κs. search needs)  -- tally-inner-leaf-tally-requires-2
     (λ c κs. search needs)  -- tally-inner-enter-requires
     (λ c κs. search needs)  -- tally-inner-tally-type-requires
-    (tally-inner-returns-2 t))
+    (tally-inner-returns-2 t)
+    (tally-inner-returns-3 t))
     (λ t. tally-members-lts.spec
     (tally-members-calls t)
     (tally-members-at t)
