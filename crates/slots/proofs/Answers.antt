@@ -16,7 +16,6 @@ use Rattle.refusal.specs.declared.Refusal.the-variants.{BadTable, ZeroSize, Unm
 use Rattle.format.specs.Datatype.{typeSize}
 use Rattle.format.specs.Outcome.{Outcome, gives, refuses, whenGiven, unless, needed, outputAfter, outcomeNumber, outcomeValues}
 use Rattle.format.specs.Slots.{slots, slotCount, slotEnd, shifted, holdsOtherReference, holdsHiddenReference, someOutside, unmapped, firstZero, unlessZero, slotting, findingSlots}
-use Rattle.format.specs.Table.{typeAt}
 use Rattle.format.proofs.Booleans.{or-neither}
 use Rattle.format.proofs.Lists.{sets-front}
 use Rattle.format.proofs.Slots.{length-slots, slots-outside, unmapped-counted}

@@ -4,29 +4,28 @@ use mathlib.Core.Path.{_≡_, refl, sym, ap, _∙_}
 use mathlib.Core.Bool.{Bool, true, false, cond, not, _&&_}
 use mathlib.Core.List.{List, [], _∷_, _++_}
 use native.Mathlib.Omega.{arith}
-use native.Mathlib.Nat.{one-mul, add-zero, mul-comm, mul-zero, suc-mul}
+use native.Mathlib.Nat.{one-mul, add-zero, mul-zero}
 use native.Mathlib.Numerals.{add-one}
 use lib.ListN.{length, set}
-use lib.Seq.{sets}
 use lib.Dec.{eqb}
 use borrow.Author.Tests.{ne-eqb, eqb-true, eqb-false}
 use Rattle.format.specs.Datatype.{Datatype, compound, array, Members, product, typeSize}
 use Rattle.format.specs.Slots.{isSlot, shifted, entries, slots, holdsOtherReference, holdsHiddenReference, firstZero}
-use Rattle.format.specs.Table.{Found, found, bad, Walk, andThen, typeAt, membersAt}
+use Rattle.format.specs.Table.{Found, found, bad, Walk, andThen, typeAt}
 use Rattle.format.proofs.Booleans.{or-neither}
-use Rattle.format.proofs.Slots.{length-shifted, length-entries, first-zero-size, or-else-none}
+use Rattle.format.proofs.Slots.{first-zero-size, or-else-none}
 use Rattle.rows.specs.Entries.{entryAt, leafType, fromEntry, RowSays}
 use Rattle.rows.specs.declared.Entry.{Entry}
 use Rattle.rows.specs.declared.Entry.the-variants.{Leaf, Compound, Enumeration, VariableLength, Array, Unknown}
 use Rattle.rows.proofs.Leaves.{leaf-law}
-use Rattle.table.specs.Known.{PassesType, TotalAt, SizedTo, SizedAt}
+use Rattle.table.specs.Known.{TotalAt, SizedTo, SizedAt}
 use Rattle.table.specs.Path.{topOf, Entered}
 use Rattle.table.specs.declared.Path.{Path}
 use Rattle.table.proofs.Passing.{passes-none, passes-leaf, passes-compound, passes-array}
-use Rattle.slots.specs.Slots.{AllBelow, Fits, Listed, Listable, PutAs, PutIn, PutAt, PutInside, Passed, PutLeaf, movedOn, Repeats}
+use Rattle.slots.specs.Slots.{AllBelow, Fits, Listed, Listable, PutAs, PutIn, PutAt, PutInside, Passed, PutLeaf, Repeats}
 use Rattle.slots.specs.declared.Put.{Put}
 use Rattle.slots.proofs.Rows.{above, below, by-row}
-use Rattle.slots.proofs.Shifting.{all-append, first-low, few-entries, entries-more, fits-first, fits-second, listed-both, listed-none, shifted-none, entries-none}
+use Rattle.slots.proofs.Shifting.{first-low, few-entries, entries-more, fits-first, listed-none, shifted-none, entries-none}
 
 -- ---- where there is no slot, nothing is written
 

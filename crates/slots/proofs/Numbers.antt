@@ -81,14 +81,14 @@ unfolding lastEnd
 last-none stride zero n h = refl
 last-none stride (suc end) n h = rw h
 
-pub last-entry : (stride end n : ℕ) → 0 < end → 0 < n → lastEnd stride end n ≡ (n - 1) * stride + end
+last-entry : (stride end n : ℕ) → 0 < end → 0 < n → lastEnd stride end n ≡ (n - 1) * stride + end
 unfolding lastEnd
 last-entry stride zero n h k = omega arith
 last-entry stride (suc end) zero h k = omega arith
 last-entry stride (suc end) (suc n) h k = ap (λ (j : ℕ). j * stride + suc end) (omega arith)
 
 -- so a product of 64 bits holds it
-pub last-product : (stride n : ℕ) → stride < 4294967296 → n ≤ 4294967296 → (n - 1) * stride ≤ 18446744065119617025
+last-product : (stride n : ℕ) → stride < 4294967296 → n ≤ 4294967296 → (n - 1) * stride ≤ 18446744065119617025
 last-product stride n h i =
     let a : n - 1 ≤ 4294967295 = omega arith in
     let b : stride ≤ 4294967295 = omega arith in

@@ -14,7 +14,7 @@ use Rattle.rows.specs.declared.Entry.the-variants.{Array}
 use Rattle.rows.proofs.Known.{claim-of-type, says-array-row, says-array-next}
 
 -- a path of so many levels leaves others
-pub level : (depth : ℕ) → depth ≤ 32 → 33 - depth ≡ suc (32 - depth)
+level : (depth : ℕ) → depth ≤ 32 → 33 - depth ≡ suc (32 - depth)
 level depth h = omega arith
 
 pub above : (depth : ℕ) → depth ≤ 32 → 33 - depth ≡ 0 → ⊥

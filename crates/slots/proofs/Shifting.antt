@@ -13,7 +13,7 @@ use Rattle.slots.specs.Slots.{AllBelow, Fits, Listed}
 
 -- ---- lists of numbers
 
-pub all-append : (m : ℕ) (vs ws : List ℕ) → AllBelow m (vs ++ ws) → AllBelow m vs × AllBelow m ws
+all-append : (m : ℕ) (vs ws : List ℕ) → AllBelow m (vs ++ ws) → AllBelow m vs × AllBelow m ws
 unfolding AllBelow
 all-append m [] ws h = (tt, h)
 all-append m (v ∷ vs) ws h = let i = all-append m vs ws (h .1) in ((h .0, i .0), i .1)

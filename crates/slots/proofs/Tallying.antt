@@ -1,7 +1,6 @@
 -- The first walk: what it counts of a type, one law for each way out of it.
-use Prim.Native.Nat.{ℕ, zero, suc, _+_, _-_, _*_, _<_, _≤_, min, max}
+use Prim.Native.Nat.{ℕ, suc, _+_, _-_, _*_, _<_, _≤_, min, max}
 use mathlib.Core.Path.{_≡_, refl, sym, ap, _∙_}
-use mathlib.Core.Logic.{⊎-elim}
 use mathlib.Core.Bool.{Bool, true, false, cond, not, _&&_, _||_, or-false, or-true}
 use lib.Dec.{eqb, ltb}
 use mathlib.Core.List.{List}
@@ -9,14 +8,12 @@ use mathlib.Core.Option.{none}
 use native.Mathlib.Omega.{arith}
 use native.Mathlib.Nat.{one-mul, mul-zero}
 use native.Mathlib.Numerals.{add-one}
-use lib.ListN.{take, drop}
 use borrow.Author.Tests.{ltb-false}
-use Rattle.format.specs.Bytes.{dimensionsFrom}
 use Rattle.format.specs.Datatype.{Datatype, leaf, compound, enumeration, variableLength, array, EnumMember, Members, noMembers, member, product, typeSize}
 use Rattle.format.specs.Sizes.{holdsObjectAddress, memberHoldsObjectAddress}
-use Rattle.format.specs.Slots.{isSlot, slotCount, memberSlotCount, lastEnd, movedEnd, slotEnd, memberSlotEnd, holdsOtherReference, memberHoldsOtherReference, holdsHiddenReference, memberHoldsHiddenReference, firstZero, memberFirstZero}
+use Rattle.format.specs.Slots.{isSlot, slotCount, memberSlotCount, movedEnd, slotEnd, memberSlotEnd, holdsOtherReference, memberHoldsOtherReference, holdsHiddenReference, memberHoldsHiddenReference, firstZero, memberFirstZero}
 use Rattle.format.specs.Table.{Found, found, bad, Walk, andThen, typeAt, membersAt, enumNamesAt, enumValuesAt}
-use Rattle.format.proofs.Booleans.{and-both, or-either, or-second, or-neither}
+use Rattle.format.proofs.Booleans.{or-neither}
 use Rattle.format.proofs.Slots.{refers-within, first-zero-size, or-else-none, no-slot-no-reference}
 use Rattle.format.proofs.TableSteps.{then-found}
 use Rattle.rows.specs.Entries.{entryAt, leafType, fromEntry, fromMember, RowSays, RowNames}
@@ -33,7 +30,7 @@ use Rattle.table.proofs.Passing.{passes-none, passes-unknown, passes-leaf, pass
 use Rattle.slots.specs.Slots.{mostSlots, mostEnd, leafTally, hiddenTally, entriesTally, Counted, CountedAs, CountedIn, TallyAt, TallyIn}
 use Rattle.slots.specs.declared.Tally.{Tally}
 use Rattle.slots.proofs.Numbers.{times-stop, last-stops, sums-stop, moved-stops, ends-stop}
-use Rattle.slots.proofs.Rows.{level, above, below, by-row}
+use Rattle.slots.proofs.Rows.{above, below, by-row}
 
 -- ---- the number of entries
 

@@ -117,7 +117,8 @@ fn last_end(stride: u32, end: u64, n: u64) -> u64
     if last < 4294967296 { last } else { 4294967296 }
 }
 
-// A leaf, the row behind it given: an 8-byte object reference is a slot, every other reference no slot's.
+// A leaf, the row behind it given: an 8-byte object reference is a slot, every other reference no slot's. One of class 0 counts nothing, and
+// stands where no type is found.
 fn leaf_tally(class: u32, size: u32, code: u32, row: usize) -> Tally
     ensures { λ r. ⌜ r ≡ leafTally class size code row ⌝ }
 {
@@ -151,11 +152,12 @@ fn leaf_tally(class: u32, size: u32, code: u32, row: usize) -> Tally
 fn hidden_tally(row: usize, base: Tally) -> Tally
     ensures { λ r. ⌜ r ≡ hiddenTally row base ⌝ }
 {
+    let none: u64 = 0;
     Tally {
         row: row,
-        unmapped: either(base.unmapped, 0 < base.count),
-        count: 0,
-        end: 0,
+        unmapped: either(base.unmapped, none < base.count),
+        count: none,
+        end: none,
     }
 }
 
@@ -183,7 +185,7 @@ fn entry_count(table: &[u32], pool: &[u8], row: usize, rank: u32) -> u64
 }
 
 // Counts the type at the top of the path. No row is tested again, and an enumeration's members are passed by their number: the cost is a step
-// for each other row.
+// for each other row, and the steps of `size_at` for each array.
 fn tally_type(table: &[u32], pool: &[u8], path: Path) -> Tally
     requires { ⌜ (0 < path .depth) × (path .depth ≤ 32) ⌝ }
     ensures { λ r. ⌜ TallyAt (33 - path .depth) (now (table .entry)) (now (pool .entry)) (topOf path) r ⌝ }
@@ -207,8 +209,8 @@ fn tally_type(table: &[u32], pool: &[u8], path: Path) -> Tally
         }
         Entry::Array(rank) => {
             let base = tally_inner(table, pool, path, row + 1);
-            let stride = size_at(table, pool, row + 1, 32 - depth);
-            entries_tally(stride, entry_count(table, pool, row, rank), base)
+            let size = size_at(table, pool, row + 1, 32 - depth);
+            entries_tally(size, entry_count(table, pool, row, rank), base)
         }
     }
 }
@@ -259,7 +261,7 @@ fn tally_members(table: &[u32], pool: &[u8], path: Path, row: usize, count: u32)
     }
 }
 
-// Passes over a type that lists nothing.
+// Passes over a type with so many levels left, of which nothing is listed.
 fn pass(table: &[u32], row: usize, levels: usize, at: usize) -> Put
     ensures { λ r. ⌜ Passed levels (now (table .entry)) row at r ⌝ }
 {
@@ -306,7 +308,8 @@ fn move_on(out: &mut [u64], from: usize, to: usize, back: usize, by: u64)
 }
 
 // Lists the slots of all entries of an array, a stride apart, whose first entry's stand from `at` up to `next`; the answer is where the next
-// slot would go. All that is listed is moved at once, so that the loop reads nothing that it has just written and its turns run side by side.
+// slot would go. Each turn moves all that is listed so far, or as much of it as is left: `move_on` then reads nothing that it writes, and is
+// compiled to steps of several numbers.
 fn repeat_slots(out: &mut [u64], at: usize, next: usize, stride: u32, count: u64) -> usize
     requires { ⌜ count ≤ 4294967296 ⌝ }
     ensures { λ r. ⌜ Repeats stride count at next (now (out .entry)) r (now (out .exit)) ⌝ }
@@ -470,7 +473,7 @@ fn slots_checked(table: &[u32], pool: &[u8], out: &mut [u64], s: Survey) -> Slot
 
 // The slots of the type that a table and pool set out, in walking order, into the front of `out`; a refusal leaves it as it is. Refused, in
 // this order: BadTable, ZeroSize, Unmapped, NoRoom. Cost: the check of the table; a count that steps over each row but for an enumeration's
-// members; and the listing, which steps over the same rows once and then costs one store a slot.
+// members; and the listing, which steps over the same rows once and then costs one store a slot, however many entries an array has.
 pub fn embedded_reference_slots(table: &[u32], pool: &[u8], out: &mut [u64]) -> Slots
     ensures { λ r. ⌜ SlotsAre (now (table .entry)) (now (pool .entry)) r (now (out .entry)) (now (out .exit)) ⌝ }
 {
