@@ -156,23 +156,26 @@ fn main() {
         let (again, loaded) = times(|| drop(black_box(library::same(&table, &pool, black_box(&a), &b))), || drop(black_box(equal_by_16(black_box(&a), black_box(&b)))));
         println!("| same, loads of 16 bytes | array of {size} equal bytes | 0 | {again:.0}, its checks {checks:.0} | {loaded:.0} | {:.2}, without the checks {:.2} |", again / loaded, (again - checks) / loaded);
     }
-    // an enumeration of 4,000 names inside an array beside one of 1: names are passed by their number, not for each entry
-    let [(many, few), (many_pointed, few_pointed)] = [vec![], vec![CompoundMember { name: "points".into(), byte_offset: 8, datatype: Datatype::Reference { size: 8, ref_type: ReferenceType::Object } }]]
-        .map(|members| (entries(4000, if members.is_empty() { 2 } else { 16 }, members.clone()), entries(1, if members.is_empty() { 2 } else { 16 }, members)));
-    let [many, few, many_pointed, few_pointed] = [many, few, many_pointed, few_pointed].map(|t| {
+    // an enumeration of 4,000 names inside an array beside one of 1: its names are looked at once, by the checks, and not for each entry
+    let beside = |what: &str, many: (f64, f64), few: (f64, f64)| {
+        let ((many, few), (checks_many, checks_few)) = ((many.0, few.0), (many.1, few.1));
+        println!("| {what} | array of 100,000 entries with an enumeration of 4,000 names, of 1 name | | {many:.0}, its checks {checks_many:.0} | {few:.0}, its checks {checks_few:.0} | {:.2}, without the checks {:.2} |", many / few, (many - checks_many) / (few - checks_few));
+    };
+    let rows_of = |t: Datatype| {
         let rows = Flat::of(&t);
         (rows.words(), rows.pool.clone())
-    });
+    };
+    let (many, few) = (rows_of(entries(4000, 2, vec![])), rows_of(entries(1, 2, vec![])));
+    let checks = times(|| drop(black_box(library::type_size(black_box(&many.0), &many.1))), || drop(black_box(library::type_size(black_box(&few.0), &few.1))));
     let (a, b) = (vec![1u8; 200_000], (0..200_000).map(|i| 1 + i as u8 % 2).collect::<Vec<u8>>());
     assert_eq!(library::same(&many.0, &many.1, &a, &b), Ok(true));
-    line("same with 4,000 names, with 1", "array of 100,000 entries with an enumeration", 1, times(|| drop(black_box(library::same(&many.0, &many.1, black_box(&a), &b))), || drop(black_box(library::same(&few.0, &few.1, black_box(&a), &b)))));
-    let mut slots = vec![0; 100_000];
-    let mut again = slots.clone();
-    assert_eq!(library::embedded_reference_slots(&many_pointed.0, &many_pointed.1, &mut slots), Ok(100_000));
-    line(
-        "slots with 4,000 names, with 1",
-        "array of 100,000 entries with an enumeration",
-        2,
-        times(|| drop(black_box(library::embedded_reference_slots(&many_pointed.0, &many_pointed.1, black_box(&mut slots)))), || drop(black_box(library::embedded_reference_slots(&few_pointed.0, &few_pointed.1, black_box(&mut again))))),
-    );
+    let whole = times(|| drop(black_box(library::same(&many.0, &many.1, black_box(&a), &b))), || drop(black_box(library::same(&few.0, &few.1, black_box(&a), &b))));
+    beside("same, same", (whole.0, checks.0), (whole.1, checks.1));
+    let pointer = || vec![CompoundMember { name: "points".into(), byte_offset: 8, datatype: Datatype::Reference { size: 8, ref_type: ReferenceType::Object } }];
+    let (many, few) = (rows_of(entries(4000, 16, pointer())), rows_of(entries(1, 16, pointer())));
+    let checks = times(|| drop(black_box(library::type_size(black_box(&many.0), &many.1))), || drop(black_box(library::type_size(black_box(&few.0), &few.1))));
+    let (mut slots, mut again) = (vec![0; 100_000], vec![0; 100_000]);
+    assert_eq!(library::embedded_reference_slots(&many.0, &many.1, &mut slots), Ok(100_000));
+    let whole = times(|| drop(black_box(library::embedded_reference_slots(&many.0, &many.1, black_box(&mut slots)))), || drop(black_box(library::embedded_reference_slots(&few.0, &few.1, black_box(&mut again)))));
+    beside("slots, slots", (whole.0, checks.0), (whole.1, checks.1));
 }
