@@ -1,4 +1,4 @@
-// The sizes, predicates, names, slots and references of a type that is read first, at limit 15, into 64 rows and 256 pool bytes; and what
+// The sizes, extents, predicates, names, slots and references of a type that is read first, at limit 15, into 64 rows and 256 pool bytes; and what
 // each gives.
 use reading::Reading;
 use references::References;
@@ -9,6 +9,7 @@ use show_lent::numbers_line;
 use slots::Slots;
 use table::Held;
 use table::Sized;
+use table::Using;
 
 fn shown(numbers: &[u64], i: usize, count: u64) {
     if (i as u64) < count {
@@ -117,17 +118,31 @@ fn held_line(answer: Held) {
     }
 }
 
+fn extent_line(answer: Using) {
+    match answer {
+        Using::Refused(e) => refusal_line(e),
+        Using::Used(rows, bytes) => {
+            number(rows as u64);
+            text(b" rows, ");
+            number(bytes as u64);
+            text(b" pool bytes\n");
+        }
+    }
+}
+
 fn size_lines(table: &[u32], pool: &[u8]) {
     size_line(table::type_size(table, pool));
     text(b"  element: ");
     size_line(table::element_size(table, pool));
+    text(b"  extent: ");
+    extent_line(table::extent(table, pool));
     text(b"  object address: ");
     held_line(table::datatype_holds_object_address(table, pool));
     text(b"  file address: ");
     held_line(table::datatype_holds_file_address(table, pool));
 }
 
-// The sizes and address predicates of the type of a message.
+// The sizes, extent and address predicates of the type of a message.
 pub fn sizes(label: &[u8], message: &[u8]) {
     let mut table = [7u32; 1024];
     let mut pool = [7u8; 256];
