@@ -18,7 +18,7 @@
 //! The functions take a type as it is: a table of rows, 16 words a row, and a pool of bytes, both lent by the caller. [`read`] fills them
 //! from a message; the other calls take them. [`ROW`], [`ROWS`] and [`POOL`] say how much of either can be used, and include/datatype.h of
 //! the repository what each column of a row has. Each call looks at all that is lent: with 65,536 words and 65,536 bytes, comparing two
-//! records of a small compound takes 7 microseconds; with both cut to what [`extent`] says, as those of a [`Type`] are, 0.1.
+//! records of a small compound takes 6 microseconds; with both cut to what [`extent`] says, as those of a [`Type`] are, 0.1.
 //!
 //! ```
 //! use datatype_message::{read, same, write, ROW, Refusal};
