@@ -1,0 +1,4 @@
+pub mod Chains
+pub mod Duplicates
+pub mod Groups
+pub mod Runs
