@@ -66,7 +66,7 @@ fn equal_block(a: &[u8], b: &[u8], at: usize) -> bool
 }
 
 // Whether n bytes from `at` on are equal.
-fn equal_range(a: &[u8], b: &[u8], at: usize, n: usize) -> bool
+pub fn equal_range(a: &[u8], b: &[u8], at: usize, n: usize) -> bool
     requires { ⌜ (at + n ≤ length (now a)) × (at + n ≤ length (now b)) ⌝ }
     ensures { λ r. ⌜ r ≡ equalRange (now (a .entry)) (now (b .entry)) at n ⌝ }
 {
@@ -119,7 +119,7 @@ fn common(a: &[u8], b: &[u8], at: usize, n: usize) -> usize
 }
 
 // Whether a NUL is among the n bytes from `at` on. From their end, where a name's NUL most often is if what follows it differs.
-fn has_nul(s: &[u8], at: usize, n: usize) -> bool
+pub fn has_nul(s: &[u8], at: usize, n: usize) -> bool
     requires { ⌜ at + n ≤ length (now s) ⌝ }
     ensures { λ r. ⌜ r ≡ not (noNulBetween (now (s .entry)) at (at + n)) ⌝ }
 {
@@ -134,7 +134,7 @@ fn has_nul(s: &[u8], at: usize, n: usize) -> bool
 }
 
 // Whether a NUL-terminated string of n bytes from `at` on is the same in both: they are equal, or as far as they are there is a NUL.
-fn equal_string(a: &[u8], b: &[u8], at: usize, n: usize) -> bool
+pub fn equal_string(a: &[u8], b: &[u8], at: usize, n: usize) -> bool
     requires { ⌜ (at + n ≤ length (now a)) × (at + n ≤ length (now b)) ⌝ }
     ensures { λ r. ⌜ StringSame (now (a .entry)) (now (b .entry)) at n r ⌝ }
 {
@@ -161,7 +161,7 @@ fn agree_field(a: &[u8], b: &[u8], at: usize, n: usize, next: usize) -> Agreed
 }
 
 // Whether a leaf of a class and a code, its row's column 5, is a NUL-terminated string.
-fn nul_terminated(class: u32, code: u32) -> bool
+pub fn nul_terminated(class: u32, code: u32) -> bool
     ensures { λ r. ⌜ r ≡ nulTerminated class code ⌝ }
 {
     if class != 3 {
@@ -238,7 +238,7 @@ fn agree_enumeration(
 }
 
 // Whether a row's type is a field, an entry of which follows the one before without a gap.
-fn is_field(entry: Entry) -> bool
+pub fn is_field(entry: Entry) -> bool
     ensures { λ r. ⌜ r ≡ isField entry ⌝ }
 {
     match entry {
@@ -252,7 +252,7 @@ fn is_field(entry: Entry) -> bool
 }
 
 // Whether a row's type is a NUL-terminated string.
-fn is_string(entry: Entry) -> bool
+pub fn is_string(entry: Entry) -> bool
     ensures { λ r. ⌜ r ≡ isString entry ⌝ }
 {
     match entry {
