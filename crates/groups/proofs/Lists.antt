@@ -2,11 +2,11 @@
 use Prim.Native.Nat.{ℕ, zero, suc, _+_, _<_, _≤_}
 use mathlib.Core.Logic.{⊎-elim}
 use mathlib.Core.Path.{_≡_, refl, sym, ap, _∙_}
-use mathlib.Core.List.{List, [], _∷_, _++_, append-nil}
+use mathlib.Core.List.{List, [], _∷_, _++_}
 use native.Mathlib.Nat.{add-zero, zero-add}
 use native.Mathlib.Numerals.{add-one}
 use native.Mathlib.Omega.{arith}
-use lib.ListN.{length, getD, take, drop, set, replicate, drop-of-length-le, getD-replicate, List·getD-eq-default, length-replicate}
+use lib.ListN.{length, getD, take, drop, set, replicate, getD-replicate, List·getD-eq-default, length-replicate}
 use lib.Seq.{sets, sets-eq, take-suc, take-all, length-take-le}
 use Rattle.format.proofs.Lists.{sets-append}
 use Rattle.groups.specs.Groups.{count, firstsTo, sizesTo, sizeAt, Grown}
@@ -59,11 +59,9 @@ pub sizes-none : (l ns : List ℕ) → (0 ≡ length (firstsTo ns 0)) × (l ≡ 
 unfolding firstsTo sizesTo
 sizes-none l ns = (refl, refl)
 
--- a list that was zeroed from the front to its end, and what stands in it
-pub cleared : (l l₁ : List ℕ) (i : ℕ) → length l ≤ i → i ≤ length l → l₁ ≡ replicate i 0 ++ drop i l → l₁ ≡ replicate (length l) 0
-cleared l l₁ i h g e =
-    let q : i ≡ length l = omega arith in
-    e ∙ rw (drop-of-length-le l h, append-nil, q)
+-- a list that was zeroed up to a place, and what stands in it
+pub cleared : (end : ℕ) (l l₁ : List ℕ) (i : ℕ) → l₁ ≡ replicate i 0 ++ drop i l → i ≤ end → end ≤ i → l₁ ≡ replicate end 0 ++ drop end l
+cleared end l l₁ i e g h = let q : i ≡ end = omega arith in e ∙ rw q
 
 pub zero-at : (n i : ℕ) → getD (replicate {A = ℕ} n 0) i 0 ≡ 0
 zero-at n i =

@@ -13,7 +13,7 @@ use Rattle.groups.specs.Chains.{bucketOf, Built, Sought, namesIn, Named,
 use Rattle.groups.proofs.Firsts.{length-numbers, number-at}
 use Rattle.groups.proofs.Counts.{firsts-le, count-take-hit, count-take-miss, length-hit, length-miss}
 use Rattle.groups.proofs.Building.{built-none, built-first, built-later, name-at, length-names, tallied-none, tallied-own, tallied-for, tallied-all}
-use Rattle.groups.proofs.Lists.{copy-more, group-room, group-here, group-not, zero-at}
+use Rattle.groups.proofs.Lists.{copy-more, copy-all, group-room, group-here, group-not, zero-at}
 
 -- ---- entries counted
 
@@ -52,9 +52,11 @@ module _ (keys : List (List ℕ)) (n k d d′ f : ℕ) (l : n ≡ length keys) (
   pub distinct-none : (f ≡ k → ⊥) → d′ ≡ d → d′ ≡ length (firstsTo (numbersOf keys) (k + 1))
   distinct-none q r = firsts-none (numbersOf keys) k d d′ f e named q r
 
-pub distinct-all : (keys : List (List ℕ)) (n k d : ℕ) → n ≡ length keys → k ≡ n → d ≡ length (firstsTo (numbersOf keys) k) → d ≡ distinctOf keys
+pub distinct-all : (keys : List (List ℕ)) (n k d : ℕ) → d ≡ length (firstsTo (numbersOf keys) k) → n ≡ length keys → k ≤ n → n ≤ k → d ≡ distinctOf keys
 unfolding distinctOf firstsOf
-distinct-all keys n k d l e g = g ∙ ap (λ (m : ℕ). length (firstsTo (numbersOf keys) m)) (e ∙ l)
+distinct-all keys n k d g l h i =
+    let e : k ≡ n = omega arith in
+    g ∙ ap (λ (m : ℕ). length (firstsTo (numbersOf keys) m)) (e ∙ l)
 
 -- ---- numbers stored
 
@@ -62,6 +64,9 @@ pub number-more : (keys : List (List ℕ)) (l l₁ : List ℕ) (n k v : ℕ) →
     → set l₁ k v ≡ sets l 0 (take (k + 1) (numbersOf keys))
 number-more keys l l₁ n k v e h g i =
     copy-more l l₁ (numbersOf keys) k v (omega (arith, length-numbers keys)) (g ∙ sym (number-at keys k (omega arith))) i
+
+pub numbers-all : (keys : List (List ℕ)) (l l₁ : List ℕ) (n k : ℕ) → l₁ ≡ sets l 0 (take k (numbersOf keys)) → n ≡ length keys → n ≤ k → l₁ ≡ sets l 0 (numbersOf keys)
+numbers-all keys l l₁ n k e g h = copy-all l l₁ (numbersOf keys) k (omega (arith, length-numbers keys)) e
 
 pub name-more : (n buckets k : ℕ) (w l l₁ : List ℕ) → buckets + n + n ≤ length w → k < n → l₁ ≡ sets l 0 (take k (namesIn n buckets w))
     → set l₁ k (getD w (buckets + n + k) 0) ≡ sets l 0 (take (k + 1) (namesIn n buckets w))

@@ -1,0 +1,76 @@
+-- Laws of the answer, one for each way out.
+use Prim.Native.Nat.{ℕ, _/_, _%_, _<_, _≤_}
+use mathlib.Core.Path.{_≡_, refl, sym, ap, _∙_}
+use mathlib.Core.Bool.{true, false}
+use mathlib.Core.List.{List}
+use native.Mathlib.Omega.{arith}
+use lib.ListN.{length, take, replicate}
+use lib.Seq.{sets, take-at}
+use lib.Dec.{ltb, eqb}
+use borrow.Author.Tests.{lt-ltb, le-ltb, eq-eqb, ne-eqb}
+use Rattle.refusal.specs.declared.Refusal.the-variants.{NoRoom}
+use Rattle.format.proofs.Lists.{sets-front}
+use Rattle.groups.specs.Groups.{numbersOf, firstsTo, sizesTo, firstsOf, distinctOf, sizesOf}
+use Rattle.groups.specs.Chains.{namesIn, Tallied}
+use Rattle.groups.proofs.Firsts.{length-numbers}
+use Rattle.groups.proofs.Counts.{length-sizes}
+use Rattle.groups.proofs.Building.{length-names}
+use Rattle.duplicates.specs.Answers.{fitting, written, Listed}
+use Rattle.duplicates.specs.declared.outcome.Duplicates.{Duplicates}
+use Rattle.duplicates.specs.declared.outcome.Duplicates.the-variants.{Found, Refused}
+
+-- ---- the records listed
+
+module _ (ns : List ℕ) (n d : ℕ) (m s : List ℕ) (e : length ns ≡ n) (g : d ≡ length (firstsTo ns n)) where
+  groups : d ≡ length (firstsTo ns (length ns))
+  groups = g ∙ ap (λ (k : ℕ). length (firstsTo ns k)) (sym e)
+
+  pub listed-full : length s < d → Listed ns (Refused (NoRoom d)) m m s s
+  unfolding fitting written
+  listed-full h =
+      let q : ltb (length s) (length (firstsTo ns (length ns))) ≡ true = rw (← groups) (lt-ltb (length s) d h) in
+      record { answer = rw q (ap (λ (k : ℕ). Refused (NoRoom k)) groups); numbers-are = refl; sizes-are = refl }
+
+  pub listed-found : (m′ s′ : List ℕ) → d ≤ length s → n ≤ length m → m′ ≡ sets m 0 ns → s′ ≡ sets s 0 (sizesTo ns n) → Listed ns (Found n d) m m′ s s′
+  unfolding fitting written
+  listed-found m′ s′ h r a b =
+      let q : ltb (length s) (length (firstsTo ns (length ns))) ≡ false = rw (← groups) (le-ltb (length s) d h) in
+      let t : Found n d ≡ Found (length ns) (length (firstsTo ns (length ns))) = rw (e, g) in
+      record {
+        answer = rw q t;
+        numbers-are = a ∙ sets-front ns m (omega arith);
+        sizes-are = b ∙ rw (← e) (sets-front (sizesTo ns (length ns)) s (omega (arith, groups, length-sizes ns (length ns))));
+      }
+
+-- by the names of the workspace
+module _ (n buckets d : ℕ) (w m s : List ℕ) (t : Tallied (namesIn n buckets w) n buckets n w) (g : d ≡ length (firstsTo (namesIn n buckets w) n)) where
+  pub finish-full : length s < d → Listed (namesIn n buckets w) (Refused (NoRoom d)) m m s s
+  finish-full h = listed-full (namesIn n buckets w) n d m s (length-names n buckets w (t .room)) g h
+
+  pub finish-found : (m′ s′ : List ℕ) → d ≤ length s → n ≤ length m → m′ ≡ sets m 0 (namesIn n buckets w)
+      → s′ ≡ sets s 0 (sizesTo (namesIn n buckets w) n) → Listed (namesIn n buckets w) (Found n d) m m′ s s′
+  finish-found m′ s′ h r a b = listed-found (namesIn n buckets w) n d m s (length-names n buckets w (t .room)) g m′ s′ h r a b
+
+pub listed-as : (ns : List ℕ) (n buckets : ℕ) (w : List ℕ) (r : Duplicates) (m m′ s s′ : List ℕ) → Tallied ns n buckets n w
+    → Listed (namesIn n buckets w) r m m′ s s′ → Listed ns r m m′ s s′
+listed-as ns n buckets w r m m′ s s′ t l = rw (t .names) at l
+
+-- by the keys
+groups-of : (keys : List (List ℕ)) (n d : ℕ) → n ≡ length keys → d ≡ distinctOf keys → d ≡ length (firstsTo (numbersOf keys) n)
+unfolding distinctOf firstsOf
+groups-of keys n d e g = g ∙ rw e
+
+pub plain-full : (keys : List (List ℕ)) (n d : ℕ) (m s : List ℕ) → n ≡ length keys → d ≡ distinctOf keys → length s < d → Listed (numbersOf keys) (Refused (NoRoom d)) m m s s
+plain-full keys n d m s e g h = listed-full (numbersOf keys) n d m s (length-numbers keys ∙ sym e) (groups-of keys n d e g) h
+
+-- the numbers stored are the first n of what is lent
+pub numbers-taken : (keys : List (List ℕ)) (n : ℕ) (m m′ : List ℕ) → n ≡ length keys → n ≤ length m → m′ ≡ sets m 0 (numbersOf keys) → take n m′ ≡ numbersOf keys
+numbers-taken keys n m m′ e r a =
+    rw (a, sets-front (numbersOf keys) m (omega (arith, length-numbers keys)))
+    (take-at (numbersOf keys) _ n (length-numbers keys ∙ sym e))
+
+pub plain-found : (keys : List (List ℕ)) (n d : ℕ) (m m′ s s′ : List ℕ) → n ≡ length keys → d ≡ distinctOf keys → d ≤ length s → n ≤ length m
+    → m′ ≡ sets m 0 (numbersOf keys) → s′ ≡ sets s 0 (sizesTo (take n m′) n) → Listed (numbersOf keys) (Found n d) m m′ s s′
+plain-found keys n d m m′ s s′ e g h r a b =
+    listed-found (numbersOf keys) n d m s (length-numbers keys ∙ sym e) (groups-of keys n d e g) m′ s′ h r a
+    (b ∙ ap (λ (x : List ℕ). sets s 0 (sizesTo x n)) (numbers-taken keys n m m′ e r a))

@@ -1,0 +1,36 @@
+use native.Mathlib.Omega.{arith}
+use lib.ListN.{length-set}
+use Rattle.groups.proofs.Building.{count-fits, tallied-more}
+use borrow.Author.Needs.{needs}
+use Rattle.duplicates.proofs.lists.tally_one.Statement.{statement}
+use Rattle.duplicates.proofs.lists.tally_one.Tie as tie
+
+slice-read-c : tie.Need-slice-read-c
+slice-read-c c = simp length-set (omega arith)
+
+add-work-2 : tie.Need-add-work-2
+add-work-2 c = search (count-fits, arith)
+
+slice-write-work-2 : tie.Need-slice-write-work-2
+slice-write-work-2 c = simp length-set (omega arith)
+
+returns : tie.Need-returns
+returns c = search (tallied-more, needs)
+
+pub tally-one-spec : {M : Type 1} → statement M
+tally-one-spec =
+    tie.close
+    (tie.spec
+    (λ c κs. search needs)  -- name-of-requires
+    (λ c. search needs)  -- add-work
+    (λ c. search needs)  -- mul-work
+    (λ c. search needs)  -- slice-write-work
+    (λ c. search needs)  -- add-c
+    (λ c. search needs)  -- mul-c
+    slice-read-c
+    add-work-2
+    (λ c. search needs)  -- add-work-3
+    (λ c. search needs)  -- mul-work-2
+    slice-write-work-2
+    (λ c. search needs)  -- same-length
+    returns)

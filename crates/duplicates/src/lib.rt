@@ -1,0 +1,5 @@
+// `duplicates`: which records of a block are the same as an earlier one.
+pub mod outcome;
+mod lists;
+mod plain;
+mod records;
