@@ -1,0 +1,5 @@
+pub mod Words
+pub mod Hashing
+pub mod Strings
+pub mod Walking
+pub mod Images

@@ -1,0 +1,47 @@
+use Prim.Native.Nat.{_-_}
+use lib.ListN.{length}
+use Rattle.keys.proofs.Walking.{run-here, SameFrom, same-begun, same-next, same-apart, same-all}
+use borrow.Author.Needs.{needs}
+use Rattle.keys.proofs.same_each.Statement.{statement}
+use Rattle.keys.proofs.same_each.Tie as tie
+
+abbrev Inv-loop : tie.InvT-loop
+Inv-loop runs a b i₀ i = SameFrom runs a b i
+
+abbrev μ-loop : tie.MeasureT-loop
+μ-loop runs a b i₀ i = length runs - i
+
+loop-holds : tie.Need-loop-holds Inv-loop μ-loop
+loop-holds c = search same-begun
+
+same-run-requires : tie.Need-same-run-requires Inv-loop μ-loop
+same-run-requires c κs = (search run-here, search needs)
+
+loop-again : tie.Need-loop-again Inv-loop μ-loop
+loop-again c = search (same-next, c .before .same-run .ensures, c .if1 .taken)
+
+returns : tie.Need-returns Inv-loop μ-loop
+returns c = search same-apart
+
+returns-2 : tie.Need-returns-2 Inv-loop μ-loop
+returns-2 c = search same-all
+
+pub same-each-spec : {M : Type 1} → statement M
+same-each-spec =
+    tie.close
+    (tie.spec
+    Inv-loop
+    μ-loop
+    loop-holds
+    (λ c. search needs)  -- sub-loop
+    (λ c. search needs)  -- mul-place
+    (λ c. search needs)  -- shared-slice-read-place
+    (λ c. search needs)  -- add-code
+    (λ c. search needs)  -- mul-code
+    (λ c. search needs)  -- shared-slice-read-code
+    same-run-requires
+    (λ c. search needs)  -- add-i
+    (λ c. search needs)  -- loop-less
+    loop-again
+    returns
+    returns-2)

@@ -1,0 +1,38 @@
+-- The hash of a record by its runs: arithmetic modulo the prime 2^33 - 9 = 8589934583, reduced to below 2^35 at each step and fully at the end.
+use Prim.Native.Nat.{ℕ, zero, suc, _+_, _*_, _/_, _%_, _<_}
+use mathlib.Core.List.{List, [], _∷_}
+use lib.ListN.{length, take, drop}
+use Rattle.format.specs.Bytes.{numberFrom}
+use Rattle.format.specs.Image.{Field, comparedOf}
+use Rattle.keys.specs.declared.Multipliers.{Multipliers}
+
+-- both below 2^28, so that no step passes 64 bits
+pub record Small (m : Multipliers) : Type 0 where
+  pub first-small : m .first < 268435456
+  pub second-small : m .second < 268435456
+
+unfoldable pub seededBy : (seed : ℕ) → Multipliers
+seededBy s = record { first = (s % 4294967296 + 2654435761) % 268435455 + 1; second = (s / 4294967296 + 2246822507) % 268435455 + 1 }
+
+-- a number with the same remainder: 2^33 leaves 9
+unfoldable pub reduced : ℕ → ℕ
+reduced t = t % 8589934592 + t / 8589934592 * 9
+
+unfoldable pub step : Multipliers → (h v w : ℕ) → ℕ
+step m h v w = reduced ((h + v) * m .first + w * m .second)
+
+-- n times eight bytes, as two numbers of four; where bytes are missing, as if zeros followed
+unfoldable pub hashChunks : Multipliers → (h n : ℕ) → List ℕ → ℕ
+hashChunks m h zero s = h
+hashChunks m h (suc n) s = hashChunks m (step m h (numberFrom (take 4 s)) (numberFrom (take 4 (drop 4 s)))) n (drop 8 s)
+
+unfoldable pub hashBytes : Multipliers → (h : ℕ) → List ℕ → ℕ
+hashBytes m h s = hashChunks m h ((length s + 7) / 8) s
+
+-- each run's bytes that are compared, in the list's order
+unfoldable pub hashRuns : Multipliers → (h : ℕ) → List Field → List ℕ → ℕ
+hashRuns m h [] r = h
+hashRuns m h (f ∷ fs) r = hashRuns m (hashBytes m h (comparedOf f r)) fs r
+
+unfoldable pub hashOf : Multipliers → List Field → List ℕ → ℕ
+hashOf m rs r = hashRuns m 0 rs r % 8589934583
