@@ -78,6 +78,14 @@ fn find<'a>(
     0
 }
 
+// The words from a place on.
+fn words_from(work: &[u64], from: usize) -> &[u64]
+    requires { ⌜ from ≤ length (now work) ⌝ }
+    ensures { λ r. ⌜ now r ≡ drop from (now (work .entry)) ⌝ }
+{
+    &work[from..]
+}
+
 // Where record k goes.
 fn look_up<'a>(
     a: &'a [u8],
@@ -92,7 +100,7 @@ fn look_up<'a>(
     requires { ⌜ Placed (drop (buckets + n + n) (now work)) m (now a) (now b) size n buckets k (now work) × (k < n) ⌝ }
     ensures { λ r. ⌜ SpotIs (drop (buckets + n + n) (now (work .entry))) m (now (a .entry)) (now (b .entry)) size buckets k r ⌝ }
 {
-    let runs = &work[buckets + n + n..];
+    let runs = words_from(work, buckets + n + n);
     let bucket = bucket_of(a, b, size, runs, m, buckets, k);
     let first = find(a, b, size, runs, buckets, k, work, bucket);
     Spot {
