@@ -69,13 +69,16 @@ fn store_run(s: Runs, work: &mut [u64]) -> usize
     if s.closed >= 9223372036854775808 {
         return 9223372036854775808;
     }
-    if s.size < 4294967296 {
-        if s.closed < work.len() / 2 {
-            let at = work.len() - 2 * s.closed - 2;
-            work[at] = s.place as u64;
-            work[at + 1] = run_code(s.size, s.ended);
-        }
+    if s.size >= 4294967296 {
+        return s.closed + 1;
     }
+    if work.len() / 2 <= s.closed {
+        return s.closed + 1;
+    }
+    let at = work.len() - 2 * s.closed - 2;
+    let code = run_code(s.size, s.ended);
+    work[at] = s.place as u64;
+    work[at + 1] = code;
     s.closed + 1
 }
 
