@@ -3,13 +3,14 @@ use Prim.Native.Nat.{ℕ, zero, suc, _+_, _-_, _*_, _/_, _%_, _<_, _≤_}
 use mathlib.Core.Path.{_≡_, refl, sym, ap, _∙_}
 use mathlib.Core.Logic.{inl, inr, ⊎-elim}
 use mathlib.Core.Bool.{Bool, true, false, cond, not, _&&_, _||_, or-assoc, or-false, false≢true}
-use mathlib.Core.List.{List, [], _∷_, List·Memᴰ, List·Memᴰ·head, List·Memᴰ·tail}
+use mathlib.Core.List.{List, [], _∷_, _++_, List·Memᴰ, List·Memᴰ·head, List·Memᴰ·tail}
 use mathlib.Core.Option.{none}
 use native.Mathlib.Omega.{arith}
+use native.Mathlib.Nat.{suc-mul}
 use lib.Dec.{ltb, eqb}
 use borrow.Author.Tests.{ltb-true, ltb-false, eqb-true, eq-eqb, not-true}
 use Rattle.format.specs.Datatype.{Datatype, leaf, compound, enumeration, variableLength, array, Members, noMembers, member, typeSize}
-use Rattle.format.specs.Image.{Field, fieldOf, fieldsOf, ownedBy, countedBy, someField, countedIn, takenIn, imageFrom}
+use Rattle.format.specs.Image.{Field, fieldOf, moveField, moveFields, fieldEntries, fieldsOf, ownedBy, countedBy, someField, countedIn, takenIn, imageFrom}
 use Rattle.format.specs.Ownership.{FieldAt, MemberFieldAt, outside}
 use Rattle.format.specs.Slots.{firstZero, memberFirstZero}
 use Rattle.format.proofs.Booleans.{and-both, or-either, or-second, same-test, not-true-false, true-or-false}
@@ -17,7 +18,7 @@ use Rattle.format.proofs.Fields.{fields-sound}
 use Rattle.format.proofs.Image.{counted-owned, owned-says, owned-if}
 use Rattle.format.proofs.Same.{listed-inside}
 use Rattle.format.proofs.Slots.{first-zero-size, or-else-none}
-use Rattle.format.proofs.Walking.{counted-whole}
+use Rattle.format.proofs.Walking.{counted-whole, entry-walked}
 use Rattle.groups.specs.Runs.{RunList, joins, joined, addRun, addRuns, noRun, allRuns, runsOf, runCode, wordsOf, runsIn, Inside}
 
 -- ---- a field that lengthens a run
@@ -43,6 +44,57 @@ run-longer v f h = rw h
 pub run-new : (v : RunList) (f : Field) → joins (v .last) f ≡ false → addRun v f ≡ record { last = f; before = v .last ∷ v .before }
 unfolding addRun
 run-new v f h = rw h
+
+-- ---- lists of fields
+
+pub runs-append : (v : RunList) (fs gs : List Field) → addRuns v (fs ++ gs) ≡ addRuns (addRuns v fs) gs
+unfolding addRuns
+runs-append v [] gs = refl
+runs-append v (f ∷ fs) gs = runs-append (addRun v f) fs gs
+
+-- a field that counts whole
+abbrev pub wholeAt : (at n : ℕ) → Field
+wholeAt at n = record { place = at; size = n; ended = false }
+
+-- whether it lengthens a run depends on where it begins only
+joins-place : (g : Field) (at m n : ℕ) {c : Bool} → joins g (wholeAt at m) ≡ c → joins g (wholeAt at n) ≡ c
+unfolding joins
+joins-place g at m n h = h
+
+-- two that touch are added as one
+run-both : (v : RunList) (at m n : ℕ) → addRun (addRun v (wholeAt at m)) (wholeAt (at + m) n) ≡ addRun v (wholeAt at (m + n))
+run-both v at m n =
+    ⊎-elim
+    (λ (h : joins (v .last) (wholeAt at m) ≡ true).
+    let w = joins-says (v .last) (wholeAt at m) h in
+    let t : joins (joined (v .last) (wholeAt at m)) (wholeAt (at + m) n) ≡ true = unfold joins joined in eq-eqb (v .last .place + (v .last .size + m)) (at + m) (omega (arith, w .touches)) in
+    let k : joins (v .last) (wholeAt at (m + n)) ≡ true = joins-place (v .last) at m (m + n) h in
+    rw (run-longer v (wholeAt at m) h, run-longer (record { last = joined (v .last) (wholeAt at m); before = v .before }) (wholeAt (at + m) n) t, run-longer v (wholeAt at (m + n)) k) (three (v .last) (v .before)))
+    (λ (h : joins (v .last) (wholeAt at m) ≡ false).
+    let t : joins (wholeAt at m) (wholeAt (at + m) n) ≡ true = unfold joins in eq-eqb (at + m) (at + m) refl in
+    let k : joins (v .last) (wholeAt at (m + n)) ≡ false = joins-place (v .last) at m (m + n) h in
+    rw (run-new v (wholeAt at m) h, run-longer (record { last = wholeAt at m; before = v .last ∷ v .before }) (wholeAt (at + m) n) t, run-new v (wholeAt at (m + n)) k) two)
+    (true-or-false (joins (v .last) (wholeAt at m)))
+  where
+    three : (g : Field) (b : List Field) → _≡_ {A = RunList} (record { last = joined (joined g (wholeAt at m)) (wholeAt (at + m) n); before = b }) (record { last = joined g (wholeAt at (m + n)); before = b })
+    three g b = unfold joined in (let e : g .size + m + n ≡ g .size + (m + n) = omega arith in rw e)
+
+    two : _≡_ {A = RunList} (record { last = joined (wholeAt at m) (wholeAt (at + m) n); before = v .last ∷ v .before }) (record { last = wholeAt at (m + n); before = v .last ∷ v .before })
+    two = unfold joined in refl
+
+-- entries of a field that counts whole, one behind the other, are added as one field
+pub runs-entries : (v : RunList) (at n k : ℕ) → addRuns v (moveFields at (fieldEntries n (wholeAt 0 n ∷ []) 0 (suc k))) ≡ addRun v (wholeAt at (suc k * n))
+unfolding addRuns moveFields moveField fieldEntries
+runs-entries v at n zero =
+    let e : at + (0 * n + 0) ≡ at = omega arith in
+    let i : 1 * n ≡ n = omega arith in
+    rw (e, i)
+runs-entries v at n (suc k) =
+    let e : at + suc k * n + 0 ≡ at + suc k * n = omega arith in
+    let i : suc (suc k) * n ≡ suc k * n + n = suc-mul (suc k) n in
+    ap (addRuns v) (entry-walked at n (wholeAt 0 n ∷ []) (suc k))
+    ∙ runs-append v (moveFields at (fieldEntries n (wholeAt 0 n ∷ []) 0 (suc k))) (moveFields (at + suc k * n) (wholeAt 0 n ∷ []))
+    ∙ rw (runs-entries v at n k, e, i) (run-both v at (suc k * n) n)
 
 -- ---- what is counted
 
