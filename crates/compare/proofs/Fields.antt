@@ -83,7 +83,7 @@ pub record IsField (t : Datatype) (n : ℕ) (e : Bool) : Type 0 where
   pub size : typeSize t ≡ n
   pub fields : fieldsOf t ≡ fieldAt 0 n e ∷ []
 
-field-moved : (at n : ℕ) (e : Bool) → moveFields at (fieldAt 0 n e ∷ []) ≡ fieldAt at n e ∷ []
+pub field-moved : (at n : ℕ) (e : Bool) → moveFields at (fieldAt 0 n e ∷ []) ≡ fieldAt at n e ∷ []
 unfolding moveFields moveField
 field-moved at n e = let q : at + 0 ≡ at = omega arith in rw q
 

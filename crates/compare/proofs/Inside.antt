@@ -34,12 +34,12 @@ use Rattle.compare.proofs.Ranges.{answers-together, answers-apart}
 -- ---- one member more
 
 -- what is known of an admitted compound's first member, and of the others
-record First (size offset : ℕ) (t : Datatype) (ms : Members) : Type 0 where
+pub record First (size offset : ℕ) (t : Datatype) (ms : Members) : Type 0 where
   pub type : Admitted t
   pub ends : offset + typeSize t ≤ size
   pub others : AdmittedIn size ms
 
-first-of : (size : ℕ) (name : List ℕ) (offset : ℕ) (t : Datatype) (ms : Members) → AdmittedIn size (member name offset t ms) → First size offset t ms
+pub first-of : (size : ℕ) (name : List ℕ) (offset : ℕ) (t : Datatype) (ms : Members) → AdmittedIn size (member name offset t ms) → First size offset t ms
 unfolding firstZero outside heapHeld
 first-of size name offset t ms d =
     let z = or-else-none (firstZero t) (memberFirstZero ms) (d .sized) in

@@ -42,7 +42,7 @@ module _ (ds : List ℕ) (t : Datatype) (d : Admitted (array ds t)) where
   unfolding typeSize
   none-sized e = rw (e, mul-zero)
 
-  base-admitted : Admitted t
+  pub base-admitted : Admitted t
   unfolding firstZero outside heapHeld
   base-admitted =
       record {
@@ -51,7 +51,7 @@ module _ (ds : List ℕ) (t : Datatype) (d : Admitted (array ds t)) where
         plain = d .plain;
       }
 
-  base-sized : 0 < typeSize t
+  pub base-sized : 0 < typeSize t
   base-sized = first-zero-size t (base-admitted .sized)
 
   -- its size, uncapped
@@ -59,13 +59,13 @@ module _ (ds : List ℕ) (t : Datatype) (d : Admitted (array ds t)) where
   unfolding outside
   true-size = ltb-false maxSize (typeSize t * product ds) (or-neither (ltb maxSize (typeSize t * product ds)) (outside t) (d .inside) .0)
 
-  total-is : {size total : ℕ} → size ≡ typeSize t → total ≡ min (size * product ds) 4294967296 → total ≡ typeSize t * product ds
+  pub total-is : {size total : ℕ} → size ≡ typeSize t → total ≡ min (size * product ds) 4294967296 → total ≡ typeSize t * product ds
   total-is e h = omega (arith, true-size, h, ap (λ (k : ℕ). k * product ds) e)
 
-  count-is : {size total : ℕ} → size ≡ typeSize t → total ≡ min (size * product ds) 4294967296 → total / size ≡ product ds
+  pub count-is : {size total : ℕ} → size ≡ typeSize t → total ≡ min (size * product ds) 4294967296 → total / size ≡ product ds
   count-is e h = rw (total-is e h, e) (mul-div-cancel-left (product ds) base-sized)
 
-  count-some : {size total : ℕ} → size ≡ typeSize t → total ≡ min (size * product ds) 4294967296 → 0 < total / size
+  pub count-some : {size total : ℕ} → size ≡ typeSize t → total ≡ min (size * product ds) 4294967296 → 0 < total / size
   count-some e h = rw (count-is e h) (go (product ds) refl)
     where
       go : (k : ℕ) → product ds ≡ k → 0 < k

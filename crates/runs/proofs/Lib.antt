@@ -1,1 +1,3 @@
 pub mod Storing
+pub mod Types
+pub mod Inside
