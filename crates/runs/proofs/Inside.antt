@@ -5,7 +5,7 @@ use mathlib.Core.List.{List, [], _∷_, _++_}
 use native.Mathlib.Omega.{arith}
 use native.Mathlib.Numerals.{add-one}
 use native.Mathlib.Nat.{suc-mul, mul-le-mul-right}
-use lib.ListN.{take, drop}
+use lib.ListN.{length, take, drop}
 use Rattle.format.specs.Datatype.{Datatype, Members, member, typeSize}
 use Rattle.format.specs.Image.{Field, moveFields, fieldEntries, fieldsOf, memberFields}
 use Rattle.format.specs.Table.{Found, found, bad, Walk, andThen, typeAt, membersAt}
@@ -83,62 +83,55 @@ module _ (name : List ℕ) (o : ℕ) (rest : Walk Members) (limit at : ℕ) wher
 -- ---- members
 
 -- what is listed of the members from here on is listed of all
-pub record Leads (levels : ℕ) (table pool : List ℕ) (left count row limit at : ℕ) (s : Runs) (w : List ℕ) (s₁ : Runs) (w₁ : List ℕ) : Type 0 where
-  pub leads : (s′ : Runs) (w′ : List ℕ) → ListsMembers levels table pool left (s₁ .row) limit at s₁ w₁ s′ w′ → ListsMembers levels table pool count row limit at s w s′ w′
+pub record Leads (levels : ℕ) (table pool : List ℕ) (left r count row limit at : ℕ) (s : Runs) (w : List ℕ) (s₁ : Runs) (w₁ : List ℕ) : Type 0 where
+  pub same : length w₁ ≡ length w
+  pub leads : (s′ : Runs) (w′ : List ℕ) → ListsMembers levels table pool left r limit at s₁ w₁ s′ w′ → ListsMembers levels table pool count row limit at s w s′ w′
 
--- the row in a state tells nothing of the runs
-pub leads-start : (levels : ℕ) (table pool : List ℕ) (count row limit at : ℕ) (s : Runs) (w : List ℕ)
-    → Leads levels table pool count count row limit at s w (record { row = row; closed = s .closed; place = s .place; size = s .size; ended = s .ended }) w
-leads-start levels table pool count row limit at s w = record { leads = λ s′ w′ h. record { lists = λ p. go s′ w′ (membersAt (typeAt levels table pool) table pool count row p) (h .lists p) } }
-  where
-    go : (s′ : Runs) (w′ : List ℕ) (y : Found Members) → ListsIn y limit at (record { row = row; closed = s .closed; place = s .place; size = s .size; ended = s .ended }) w s′ w′ → ListsIn y limit at s w s′ w′
-    go s′ w′ (found ms r p) h =
-        unfold ListsIn in λ n d l.
-        let i = h n d l in
-        record { row-is = i .row-is; holds = λ len v k. i .holds len v (record { open-is = k .open-is; low = k .low; closed-is = k .closed-is; stored = k .stored }) }
-    go s′ w′ bad h = unfold ListsIn in tt
+pub members-start : (levels : ℕ) (table pool : List ℕ) (count row limit at : ℕ) (s : Runs) (w : List ℕ) → Leads levels table pool count row count row limit at s w s w
+members-start levels table pool count row limit at s w = record { same = refl; leads = λ s′ w′ h. h }
 
-module _ (table pool : List ℕ) (depth left count row limit at : ℕ) (s : Runs) (w : List ℕ) (s₁ : Runs) (w₁ : List ℕ) (inv : Leads (32 - depth) table pool left count row limit at s w s₁ w₁) where
-  pub members-end : left ≤ 0 → ListsMembers (32 - depth) table pool count row limit at s w s₁ w₁
+module _ (table pool : List ℕ) (depth left r count row limit at : ℕ) (s : Runs) (w : List ℕ) (s₁ : Runs) (w₁ : List ℕ) (inv : Leads (32 - depth) table pool left r count row limit at s w s₁ w₁) where
+  pub members-end : left ≤ 0 → ListsMembers (32 - depth) table pool count row limit at s w (record { row = r; closed = s₁ .closed; place = s₁ .place; size = s₁ .size; ended = s₁ .ended }) w₁
   members-end e =
       let k : left ≡ 0 = omega arith in
-      inv .leads _ _ (record { lists = λ p. rw k (unfold membersAt ListsIn in λ n d l. unfold fieldsOf moveFields in (record { row-is = refl; holds = adds-none .holds })) })
+      inv .leads _ _ (record { lists = λ p. rw k (unfold membersAt ListsIn in λ n d l. unfold fieldsOf moveFields addRuns in (record { row-is = refl; holds = λ len v h. record { open-is = h .open-is; low = h .low; closed-is = h .closed-is; stored = h .stored } })) })
 
   module _ (some-left : 0 < left) where
     abbrev rd : Walk Datatype
     rd = typeAt (32 - depth) table pool
 
-    members-as : (s′ : Runs) (w′ : List ℕ) → ((p : ℕ) → ListsIn (membersAt rd table pool (suc (left - 1)) (s₁ .row) p) limit at s₁ w₁ s′ w′) → ListsMembers (32 - depth) table pool count row limit at s w s′ w′
+    members-as : (s′ : Runs) (w′ : List ℕ) → ((p : ℕ) → ListsIn (membersAt rd table pool (suc (left - 1)) r p) limit at s₁ w₁ s′ w′) → ListsMembers (32 - depth) table pool count row limit at s w s′ w′
     members-as s′ w′ h =
         let j : left ≡ suc (left - 1) = omega arith in
         inv .leads s′ w′ (record { lists = λ p. rw j (h p) })
 
     pub members-deep : 32 ≤ depth → ListsMembers (32 - depth) table pool count row limit at s w s₁ w₁
-    members-deep h = members-as s₁ w₁ (λ p. rw (membersAt-entry table pool (left - 1) (s₁ .row) p rd) (go p (memberAt table pool (s₁ .row) p)))
+    members-deep h = members-as s₁ w₁ (λ p. rw (membersAt-entry table pool (left - 1) r p rd) (go p (memberAt table pool r p)))
       where
-        go : (p : ℕ) (m : Member) → ListsIn (fromMember (typeAt (32 - depth) table pool) (membersAt (typeAt (32 - depth) table pool) table pool (left - 1)) pool (s₁ .row) p m) limit at s₁ w₁ s₁ w₁
+        go : (p : ℕ) (m : Member) → ListsIn (fromMember (typeAt (32 - depth) table pool) (membersAt (typeAt (32 - depth) table pool) table pool (left - 1)) pool r p m) limit at s₁ w₁ s₁ w₁
         go p (Named o n) = let k : 32 - depth ≡ 0 = omega arith in rw k (unfold fromMember typeAt andThen ListsIn in tt)
         go p Unnamed = unfold fromMember ListsIn in tt
 
-    module _ {m : Member} (names : RowNames table (s₁ .row) m) where
-      by-member : (s′ : Runs) (w′ : List ℕ) {f : Member} → m ≡ f → ((p : ℕ) → ListsIn (fromMember rd (membersAt rd table pool (left - 1)) pool (s₁ .row) p f) limit at s₁ w₁ s′ w′)
+    module _ {m : Member} (names : RowNames table r m) where
+      by-member : (s′ : Runs) (w′ : List ℕ) {f : Member} → m ≡ f → ((p : ℕ) → ListsIn (fromMember rd (membersAt rd table pool (left - 1)) pool r p f) limit at s₁ w₁ s′ w′)
           → ListsMembers (32 - depth) table pool count row limit at s w s′ w′
       by-member s′ w′ e h =
-          members-as s′ w′ (λ p. claim-of-members table pool (s₁ .row) p (λ (y : Found Members). ListsIn y limit at s₁ w₁ s′ w′) (unfold ListsIn in tt) rd (left - 1) m (names .is pool p) (λ q. rw e (h p)))
+          members-as s′ w′ (λ p. claim-of-members table pool r p (λ (y : Found Members). ListsIn y limit at s₁ w₁ s′ w′) (unfold ListsIn in tt) rd (left - 1) m (names .is pool p) (λ q. rw e (h p)))
 
       pub members-unnamed : m ≡ Unnamed → ListsMembers (32 - depth) table pool count row limit at s w s₁ w₁
       members-unnamed e = by-member s₁ w₁ e (λ p. unfold fromMember ListsIn in tt)
 
       module _ {o n : ℕ} (e : m ≡ Named o n) where
-        members-named : (s′ : Runs) (w′ : List ℕ) → ((p : ℕ) → ListsIn (Behind (take n (drop p pool)) o (membersAt rd table pool (left - 1)) limit at (rd (s₁ .row + 1) (p + n))) limit at s₁ w₁ s′ w′)
+        members-named : (s′ : Runs) (w′ : List ℕ) → ((p : ℕ) → ListsIn (Behind (take n (drop p pool)) o (membersAt rd table pool (left - 1)) limit at (rd (r + 1) (p + n))) limit at s₁ w₁ s′ w′)
             → ListsMembers (32 - depth) table pool count row limit at s w s′ w′
-        members-named s′ w′ h = by-member s′ w′ e (λ p. unfold fromMember in (rw (add-one (s₁ .row)) at (h p)))
+        members-named s′ w′ h = by-member s′ w′ e (λ p. unfold fromMember in (rw (add-one r) at (h p)))
 
         pub members-past : limit - at < o → ListsMembers (32 - depth) table pool count row limit at s w s₁ w₁
         members-past h = members-named s₁ w₁ (λ p. past _ o _ limit at s₁ w₁ s₁ w₁ _ h)
 
-        pub members-next : (s₂ : Runs) (w₂ : List ℕ) → ListsAt (32 - depth) table pool (s₁ .row + 1) limit (at + o) s₁ w₁ s₂ w₂ → Leads (32 - depth) table pool (left - 1) count row limit at s w s₂ w₂
-        members-next s₂ w₂ g = record { leads = λ s′ w′ h. members-named s′ w′ (λ p. next _ o _ limit at s₁ w₁ s₂ w₂ _ (g .lists (p + n)) s′ w′ (h .lists)) }
+        pub members-next : (s₂ : Runs) (w₂ : List ℕ) → ListsAt (32 - depth) table pool (r + 1) limit (at + o) s₁ w₁ s₂ w₂ → length w₂ ≡ length w₁
+            → Leads (32 - depth) table pool (left - 1) (s₂ .row) count row limit at s w s₂ w₂
+        members-next s₂ w₂ g q = record { same = q ∙ inv .same; leads = λ s′ w′ h. members-named s′ w′ (λ p. next _ o _ limit at s₁ w₁ s₂ w₂ _ (g .lists (p + n)) s′ w′ (h .lists)) }
 
 -- ---- entries
 
@@ -149,6 +142,7 @@ Done bad stride k at s w s₁ w₁ = Unit {0}
 
 -- k of so many entries are done, and the next begins at `start`
 pub record Going (levels : ℕ) (table pool : List ℕ) (row stride count k start limit at : ℕ) (s : Runs) (w : List ℕ) (s₁ : Runs) (w₁ : List ℕ) : Type 0 where
+  pub same : length w₁ ≡ length w
   pub within : k ≤ count
   pub here : start ≡ at + k * stride
   pub begins : start ≤ limit
@@ -156,7 +150,7 @@ pub record Going (levels : ℕ) (table pool : List ℕ) (row stride count k star
 
 module _ (levels : ℕ) (table pool : List ℕ) (row stride count limit at : ℕ) (s : Runs) (w : List ℕ) where
   pub entries-start : at ≤ limit → Going levels table pool row stride count 0 at limit at s w s w
-  entries-start h = record { within = omega arith; here = omega arith; begins = h; done = λ p. go (typeAt levels table pool row p) }
+  entries-start h = record { same = refl; within = omega arith; here = omega arith; begins = h; done = λ p. go (typeAt levels table pool row p) }
     where
       go : (x : Found Datatype) → Done x stride 0 at s w s w
       go (found t r p) = unfold Done fieldEntries moveFields in λ d e. (adds-none, λ z. absurd (omega arith))
@@ -184,11 +178,12 @@ module _ (levels : ℕ) (table pool : List ℕ) (row stride count limit at : ℕ
           go (found t r p) = unfold ListsEach in λ d e n l. absurd (omega (arith, ends l))
           go bad = unfold ListsEach in tt
 
-      pub entries-next : (s₂ : Runs) (w₂ : List ℕ) (k′ start′ : ℕ) → ListsAt levels table pool row limit start s₁ w₁ s₂ w₂ → k′ ≡ k + 1 → start′ ≡ start + stride → stride ≤ limit - start
+      pub entries-next : (s₂ : Runs) (w₂ : List ℕ) (k′ start′ : ℕ) → ListsAt levels table pool row limit start s₁ w₁ s₂ w₂ → length w₂ ≡ length w₁ → k′ ≡ k + 1 → start′ ≡ start + stride → stride ≤ limit - start
           → Going levels table pool row stride count k′ start′ limit at s w s₂ w₂
-      entries-next s₂ w₂ k′ start′ v i j l =
+      entries-next s₂ w₂ k′ start′ v q i j l =
           rw (i, j)
           (record {
+            same = q ∙ g .same;
             within = omega arith;
             here = rw (add-one k) (omega (arith, g .here, suc-mul k stride));
             begins = omega (arith, g .begins);

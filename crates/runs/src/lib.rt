@@ -242,32 +242,33 @@ fn list_members(
 {
     let depth = path.depth;
     let mut state = s;
-    state.row = row;
+    let mut r = row;
     let mut left = count;
     while left > 0 {
         if depth >= 32 {
             return state;
         }
-        let member = row_member(table, state.row);
+        let member = row_member(table, r);
         let Member::Named(offset, _) = member else {
             return state;
         };
         if limit - at < offset as usize {
             return state;
         }
-        let below = state.row + 1;
         state = list_member(
             table,
             pool,
             path,
-            below,
+            r + 1,
             limit,
             at + offset as usize,
             state,
             work,
         );
+        r = state.row;
         left -= 1;
     }
+    state.row = r;
     state
 }
 
