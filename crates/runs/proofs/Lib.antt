@@ -1,3 +1,4 @@
 pub mod Storing
 pub mod Types
 pub mod Inside
+pub mod Listed
