@@ -1,13 +1,13 @@
 -- `list_runs`: from an empty run on, the runs of the type that is set out.
-use Prim.Native.Nat.{ℕ, _+_, _-_, _*_}
-use mathlib.Core.Path.{_≡_, refl, sym, ap, _∙_}
+use Prim.Native.Nat.{ℕ, _-_, _*_}
+use mathlib.Core.Path.{_≡_, refl}
 use mathlib.Core.Bool.{false}
 use mathlib.Core.List.{List, []}
 use native.Mathlib.Omega.{arith}
 use lib.ListN.{length}
 use lib.Seq.{drop-length}
-use Rattle.format.specs.Datatype.{Datatype, typeSize}
-use Rattle.format.specs.Image.{moveFields, fieldsOf}
+use Rattle.format.specs.Datatype.{Datatype}
+use Rattle.format.specs.Image.{fieldsOf}
 use Rattle.format.proofs.Table.{type-found}
 use Rattle.format.proofs.Walking.{moved-none}
 use Rattle.compare.specs.Agreeing.{Admits}

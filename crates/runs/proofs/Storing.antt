@@ -1,6 +1,6 @@
 -- One field added to the runs that a state and a workspace hold, and a run stored: one law for each way out.
 use Prim.Native.Nat.{ℕ, suc, _+_, _-_, _*_, _/_, _<_, _≤_}
-use mathlib.Core.Path.{_≡_, refl, sym, ap, _∙_}
+use mathlib.Core.Path.{_≡_, refl, sym, _∙_}
 use mathlib.Core.Bool.{Bool, true, false, not, _&&_, and-true}
 use mathlib.Core.List.{List, [], _∷_}
 use native.Mathlib.Omega.{arith}
@@ -8,14 +8,13 @@ use native.Mathlib.Numerals.{add-one}
 use lib.ListN.{length, drop, set, length-set}
 use lib.Seq.{drop-cons, drop-set-lt, getD-set-same, getD-set-other}
 use lib.Dec.{eqb}
-use borrow.Author.Tests.{eqb-true, eqb-false, eq-eqb, ne-eqb}
-use Rattle.format.specs.Image.{Field}
+use borrow.Author.Tests.{eqb-true, eq-eqb, ne-eqb}
 use Rattle.format.proofs.Booleans.{same-test}
 use Rattle.rows.specs.declared.Entry.{Entry}
 use Rattle.compare.specs.Agreeing.{isField, isString}
 use Rattle.groups.specs.Runs.{RunList, joins, joined, addRuns, runCode, wordsOf}
 use Rattle.groups.proofs.Runs.{joins-says, run-longer, run-new}
-use Rattle.runs.specs.Listing.{openRun, fieldAt, mostRuns, StoredIn, Held, Stores, Lists, ListsField}
+use Rattle.runs.specs.Listing.{openRun, fieldAt, Stores, Lists, ListsField}
 use Rattle.runs.specs.declared.Runs.{Runs}
 
 -- ---- whether a field lengthens the open run

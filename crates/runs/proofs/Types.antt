@@ -1,6 +1,6 @@
 -- The walk's ways out at a type's row, but for what its members and entries list.
-use Prim.Native.Nat.{ℕ, zero, suc, _+_, _-_, _*_, _/_, _<_, _≤_, min}
-use mathlib.Core.Path.{_≡_, refl, sym, ap, _∙_}
+use Prim.Native.Nat.{ℕ, suc, _+_, _-_, _*_, _/_, _<_, _≤_, min}
+use mathlib.Core.Path.{_≡_, refl, sym, _∙_}
 use mathlib.Core.Bool.{Bool, true, false, not, _&&_, false≢true}
 use mathlib.Core.List.{List, [], _∷_}
 use native.Mathlib.Omega.{arith}
@@ -8,13 +8,13 @@ use native.Mathlib.Numerals.{add-one}
 use native.Mathlib.Nat.{mul-comm}
 use borrow.Author.Tests.{not-true}
 use Rattle.format.specs.Datatype.{Datatype, compound, enumeration, variableLength, array, Members, EnumMember, product, typeSize}
-use Rattle.format.specs.Image.{Field, moveFields, fieldEntries, fieldsOf}
+use Rattle.format.specs.Image.{Field, moveFields, fieldsOf}
 use Rattle.format.specs.Ownership.{outside, heapHeld}
 use Rattle.format.specs.Slots.{firstZero}
 use Rattle.format.specs.Table.{Found, found, bad, andThen, typeAt, membersAt, enumNamesAt, enumValuesAt}
 use Rattle.format.proofs.Booleans.{and-both}
 use Rattle.format.proofs.Ownership.{array-size}
-use Rattle.format.proofs.Slots.{or-else-none, first-zero-size}
+use Rattle.format.proofs.Slots.{or-else-none}
 use Rattle.rows.specs.Entries.{entryAt, leafType, fromEntry, RowSays}
 use Rattle.rows.specs.declared.Entry.{Entry}
 use Rattle.rows.specs.declared.Entry.the-variants.{Leaf, Compound, Enumeration, VariableLength, Array, Unknown}
@@ -22,12 +22,12 @@ use Rattle.rows.proofs.Known.{claim-of-type}
 use Rattle.table.specs.Known.{PassesTo, PassesType, TotalAt, SizedTo, SizedAt}
 use Rattle.table.specs.Path.{topOf, Entered}
 use Rattle.table.specs.declared.Path.{Path}
-use Rattle.compare.specs.Agreeing.{nulTerminated, isField, isString, Admitted}
+use Rattle.compare.specs.Agreeing.{nulTerminated, isField, isString}
 use Rattle.compare.proofs.Fields.{IsField, field-moved, leaf-field, enumeration-field, OneField, type-field}
 use Rattle.compare.proofs.Types.{base-admitted, base-sized, total-is, count-is, count-some}
-use Rattle.groups.specs.Runs.{RunList, addRuns, addRun}
+use Rattle.groups.specs.Runs.{RunList, addRuns}
 use Rattle.groups.proofs.Runs.{wholeAt, runs-entries}
-use Rattle.runs.specs.Listing.{fieldAt, Standing, Lists, ListsField, ListsAs, ListsIn, ListsEach, ListsAt, ListsMembers, ListsEntries, ListsArray}
+use Rattle.runs.specs.Listing.{Standing, Lists, ListsField, ListsAs, ListsIn, ListsEach, ListsAt, ListsMembers, ListsEntries, ListsArray}
 use Rattle.runs.specs.declared.Runs.{Runs}
 
 -- ---- one field

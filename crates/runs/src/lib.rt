@@ -16,7 +16,7 @@ ghost use mathlib.Core.Bool.{not, _&&_};
 ghost use mathlib.Core.List.{[], _∷_};
 ghost use Prim.Native.Nat.{_+_, _*_, _-_, _≤_, _<_};
 ghost use lib.ListN.{length};
-ghost use Rattle.compare.specs.Agreeing.{Admits, nulTerminated, isField, isString};
+ghost use Rattle.compare.specs.Agreeing.{Admits, isField, isString};
 ghost use Rattle.groups.specs.Duplicates.{fieldsIn};
 ghost use Rattle.groups.specs.Runs.{joins, runCode, runsOf};
 ghost use Rattle.rows.specs.Entries.{RowSays};
