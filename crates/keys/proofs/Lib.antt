@@ -1,4 +1,5 @@
 pub mod Words
+pub mod Ranges
 pub mod Hashing
 pub mod Strings
 pub mod Walking

@@ -9,7 +9,7 @@ use lib.ListN.{length, getD, take, drop}
 use lib.Seq.{drop-cons}
 use mir.Syntax.{w64}
 use mir.Val.{Fits}
-use Rattle.format.specs.Bytes.{numberFrom}
+use Rattle.format.specs.Bytes.{numberFrom, AllBytes}
 use Rattle.keys.specs.Hash.{Small, reduced, step}
 use Rattle.keys.specs.Runs.{Word, Steps}
 use Rattle.keys.specs.declared.Multipliers.{Multipliers}
@@ -19,56 +19,55 @@ abbrev pub ByteIs : (b x : ℕ) → Type 0
 ByteIs b x = (b ≡ x) × (b < 256)
 
 module _ (x : List ℕ) where
-  number-next : (at n : ℕ) → at < length x → numberFrom (take (suc n) (drop at x)) ≡ getD x at 0 + 256 * numberFrom (take n (drop (at + 1) x))
-  unfolding numberFrom
-  number-next at n h = rw (drop-cons x at 0 h, add-one at)
-
-  number-none : (at : ℕ) → numberFrom (take 0 (drop at x)) ≡ 0
-  unfolding numberFrom
-  number-none at = refl
-
-  number-one : (at : ℕ) → at + 1 ≤ length x → numberFrom (take 1 (drop at x)) ≡ getD x at 0
-  number-one at h = number-next at 0 (omega arith) ∙ rw (number-none (at + 1)) (omega arith)
-
-  number-two : (at : ℕ) → at + 2 ≤ length x → numberFrom (take 2 (drop at x)) ≡ getD x at 0 + 256 * getD x (at + 1) 0
-  number-two at h = number-next at 1 (omega arith) ∙ rw (number-one (at + 1) (omega arith))
-
-  number-three : (at : ℕ) → at + 3 ≤ length x → numberFrom (take 3 (drop at x)) ≡ getD x at 0 + 256 * (getD x (at + 1) 0 + 256 * getD x (at + 2) 0)
-  number-three at h =
-      let e : at + 1 + 1 ≡ at + 2 = omega arith in
-      number-next at 2 (omega arith) ∙ rw (number-two (at + 1) (omega arith), e)
-
-  number-four : (at : ℕ) → at + 4 ≤ length x → numberFrom (take 4 (drop at x)) ≡ getD x at 0 + 256 * (getD x (at + 1) 0 + 256 * (getD x (at + 2) 0 + 256 * getD x (at + 3) 0))
-  number-four at h =
-      let e : at + 1 + 1 ≡ at + 2 = omega arith in
-      let f : at + 1 + 2 ≡ at + 3 = omega arith in
-      number-next at 3 (omega arith) ∙ rw (number-three (at + 1) (omega arith), e, f)
+  part-next : (at n : ℕ) → at < length x → take (suc n) (drop at x) ≡ getD x at 0 ∷ take n (drop (at + 1) x)
+  part-next at n h = rw (drop-cons x at 0 h, add-one at)
 
   pub word-none : (at n : ℕ) → n ≡ 0 → Word (take n (drop at x)) 0
-  word-none at n e = rw e (record { is = sym (number-none at); small = omega arith })
+  unfolding numberFrom AllBytes
+  word-none at n e = rw e (record { is = refl; small = omega arith; bytes = tt })
 
   module _ (at : ℕ) {a : ℕ} (ea : ByteIs a (getD x at 0)) where
+    first-of : (n : ℕ) → at + suc n ≤ length x → take (suc n) (drop at x) ≡ a ∷ take n (drop (at + 1) x)
+    first-of n h = part-next at n (omega arith) ∙ rw (← ea .0)
+
     pub word-one : (n : ℕ) → n ≡ 1 → at + n ≤ length x → Word (take n (drop at x)) a
+    unfolding numberFrom AllBytes
     word-one n e h =
-        let l : at + 1 ≤ length x = omega arith in
-        rw e (record { is = ea .0 ∙ sym (number-one at l); small = omega (arith, ea .1) })
+        let l : at + suc 0 ≤ length x = omega arith in
+        rw (e, first-of 0 l) (record { is = omega arith; small = omega (arith, ea .1); bytes = (ea .1, tt) })
 
     module _ {b : ℕ} (eb : ByteIs b (getD x (at + 1) 0)) where
+      second-of : (n : ℕ) → at + suc (suc n) ≤ length x → take (suc (suc n)) (drop at x) ≡ a ∷ b ∷ take n (drop (at + 2) x)
+      second-of n h =
+          let f : at + 1 + 1 ≡ at + 2 = omega arith in
+          let e : take (suc n) (drop (at + 1) x) ≡ b ∷ take n (drop (at + 2) x) = part-next (at + 1) n (omega arith) ∙ rw (← eb .0, f) in
+          first-of (suc n) h ∙ rw e
+
       pub word-two : (n : ℕ) → n ≡ 2 → at + n ≤ length x → Word (take n (drop at x)) (a + b * 256)
+      unfolding numberFrom AllBytes
       word-two n e h =
-          let l : at + 2 ≤ length x = omega arith in
-          rw e (record { is = omega (arith, ea .0, eb .0, number-two at l); small = omega (arith, ea .1, eb .1) })
+          let l : at + suc (suc 0) ≤ length x = omega arith in
+          rw (e, second-of 0 l) (record { is = omega arith; small = omega (arith, ea .1, eb .1); bytes = (ea .1, (eb .1, tt)) })
 
       module _ {c : ℕ} (ec : ByteIs c (getD x (at + 2) 0)) where
+        third-of : (n : ℕ) → at + suc (suc (suc n)) ≤ length x → take (suc (suc (suc n))) (drop at x) ≡ a ∷ b ∷ c ∷ take n (drop (at + 3) x)
+        third-of n h =
+            let f : at + 2 + 1 ≡ at + 3 = omega arith in
+            let e : take (suc n) (drop (at + 2) x) ≡ c ∷ take n (drop (at + 3) x) = part-next (at + 2) n (omega arith) ∙ rw (← ec .0, f) in
+            second-of (suc n) h ∙ rw e
+
         pub word-three : (n : ℕ) → (n ≡ 0 → ⊥) → (n ≡ 1 → ⊥) → (n ≡ 2 → ⊥) → n < 4 → at + n ≤ length x → Word (take n (drop at x)) (a + b * 256 + c * 65536)
+        unfolding numberFrom AllBytes
         word-three n n0 n1 n2 g h =
             let e : n ≡ 3 = omega arith in
-            let l : at + 3 ≤ length x = omega arith in
-            rw e (record { is = omega (arith, ea .0, eb .0, ec .0, number-three at l); small = omega (arith, ea .1, eb .1, ec .1) })
+            let l : at + suc (suc (suc 0)) ≤ length x = omega arith in
+            rw (e, third-of 0 l) (record { is = omega arith; small = omega (arith, ea .1, eb .1, ec .1); bytes = (ea .1, (eb .1, (ec .1, tt))) })
 
         pub word-four : {d : ℕ} → ByteIs d (getD x (at + 3) 0) → at + 4 ≤ length x → Word (take 4 (drop at x)) (a + b * 256 + c * 65536 + d * 16777216)
-        word-four ed h =
-            record { is = omega (arith, ea .0, eb .0, ec .0, ed .0, number-four at h); small = omega (arith, ea .1, eb .1, ec .1, ed .1) }
+        unfolding numberFrom AllBytes
+        word-four {d = d} ed h =
+            let e : take 4 (drop at x) ≡ a ∷ b ∷ c ∷ d ∷ [] = third-of 1 h ∙ rw (part-next (at + 3) 0 (omega arith), ← ed .0) in
+            rw e (record { is = omega arith; small = omega (arith, ea .1, eb .1, ec .1, ed .1); bytes = (ea .1, (eb .1, (ec .1, (ed .1, tt)))) })
 
 -- nothing in a step passes 64 bits
 module _ (m : Multipliers) (h v w : ℕ) (s : Small m) (lh : h < 34359738368) (lv : v < 4294967296) (lw : w < 4294967296) where

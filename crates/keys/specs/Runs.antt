@@ -5,7 +5,7 @@ use mathlib.Core.Bool.{Bool, true, false}
 use mathlib.Core.List.{List, []}
 use lib.ListN.{take, drop}
 use lib.Dec.{eqb}
-use Rattle.format.specs.Bytes.{numberFrom}
+use Rattle.format.specs.Bytes.{numberFrom, AllBytes}
 use Rattle.format.specs.Image.{Field, FieldsAgree, FieldsDiffer, upToNul}
 use Rattle.keys.specs.Hash.{step, hashBytes}
 use Rattle.keys.specs.declared.Multipliers.{Multipliers}
@@ -19,10 +19,11 @@ pub record SameIn (fs : List Field) (a b : List ℕ) (r : Bool) : Type 0 where
   pub same : r ≡ true → FieldsAgree fs a b
   pub differs : r ≡ false → FieldsDiffer fs a b
 
--- the number that bytes stand for, of which there are at most 4
+-- the number that at most 4 bytes stand for; being bytes, they are told by it
 pub record Word (s : List ℕ) (r : ℕ) : Type 0 where
   pub is : r ≡ numberFrom s
   pub small : r < 4294967296
+  pub bytes : AllBytes s
 
 -- one step of the hash, below 2^35
 pub record Steps (m : Multipliers) (h v w r : ℕ) : Type 0 where

@@ -150,12 +150,61 @@ pub fn hash_by_runs(runs: &[u64], m: Multipliers, record: &[u8]) -> u64
     h % 8589934583
 }
 
-// Whether n bytes from `at` on are equal.
+// Whether 8 bytes from `at` on are equal.
+fn same_eight(a: &[u8], b: &[u8], at: usize) -> bool
+    requires { ⌜ (at + 8 ≤ length (now a)) × (at + 8 ≤ length (now b)) ⌝ }
+    ensures { λ r. ⌜ r ≡ equalRange (now (a .entry)) (now (b .entry)) at 8 ⌝ }
+{
+    if word(a, at) != word(b, at) {
+        return false;
+    }
+    word(a, at + 4) == word(b, at + 4)
+}
+
+// Whether n bytes from `at` on are equal, fewer than 8.
+fn same_rest(a: &[u8], b: &[u8], at: usize, n: usize) -> bool
+    requires { ⌜ (at + n ≤ length (now a)) × (at + n ≤ length (now b)) × (n < 8) ⌝ }
+    ensures { λ r. ⌜ r ≡ equalRange (now (a .entry)) (now (b .entry)) at n ⌝ }
+{
+    if n < 4 {
+        return short_word(a, at, n) == short_word(b, at, n);
+    }
+    if word(a, at) != word(b, at) {
+        return false;
+    }
+    short_word(a, at + 4, n - 4) == short_word(b, at + 4, n - 4)
+}
+
+// Whether n bytes from `at` on are equal, eight at a time.
+fn same_few(a: &[u8], b: &[u8], at: usize, n: usize) -> bool
+    requires { ⌜ (at + n ≤ length (now a)) × (at + n ≤ length (now b)) ⌝ }
+    ensures { λ r. ⌜ r ≡ equalRange (now (a .entry)) (now (b .entry)) at n ⌝ }
+{
+    let mut i = 0;
+    while n - i >= 8 {
+        if same_eight(a, b, at + i) {
+            i += 8;
+        } else {
+            return false;
+        }
+    }
+    same_rest(a, b, at + i, n - i)
+}
+
+// Whether n bytes from `at` on are equal: whole blocks of 128 side by side, then eight at a time.
 fn same_bytes(a: &[u8], b: &[u8], at: usize, n: usize) -> bool
     requires { ⌜ (at + n ≤ length (now a)) × (at + n ≤ length (now b)) ⌝ }
     ensures { λ r. ⌜ r ≡ equalRange (now (a .entry)) (now (b .entry)) at n ⌝ }
 {
-    equal_range(a, b, at, n)
+    if n < 128 {
+        return same_few(a, b, at, n);
+    }
+    let rest = n % 128;
+    let blocks = n - rest;
+    if equal_range(a, b, at, blocks) {
+        return same_few(a, b, at + blocks, rest);
+    }
+    false
 }
 
 // Whether one run is the same in both.
@@ -194,7 +243,7 @@ pub fn same_by_runs(runs: &[u64], a: &[u8], b: &[u8]) -> bool
     requires { ⌜ Inside (length (now a)) (runsIn (now runs)) × (length (now b) ≡ length (now a)) ⌝ }
     ensures { λ r. ⌜ r ≡ sameWords (imageFrom (runsIn (now (runs .entry))) (now (a .entry)) 0 (length (now (a .entry)))) (imageFrom (runsIn (now (runs .entry))) (now (b .entry)) 0 (length (now (a .entry)))) ⌝ }
 {
-    if equal_range(a, b, 0, a.len()) {
+    if same_bytes(a, b, 0, a.len()) {
         return true;
     }
     same_each(runs, a, b)

@@ -13,7 +13,7 @@ pub same-by-runs-spec : {M : Type 1} → statement M
 same-by-runs-spec =
     tie.close
     (tie.spec
-    (λ c κs. search needs)  -- equal-range-requires
+    (λ c κs. search needs)  -- same-bytes-requires
     returns
     (λ c κs. search needs)  -- same-each-requires
     returns-2)

@@ -1,0 +1,23 @@
+use Rattle.keys.proofs.Ranges.{blocks-stop, blocks-more}
+use borrow.Author.Needs.{needs}
+use Rattle.keys.proofs.same_bytes.Statement.{statement}
+use Rattle.keys.proofs.same_bytes.Tie as tie
+
+returns-2 : tie.Need-returns-2
+returns-2 c = search blocks-more
+
+returns-3 : tie.Need-returns-3
+returns-3 c = search blocks-stop
+
+pub same-bytes-spec : {M : Type 1} → statement M
+same-bytes-spec =
+    tie.close
+    (tie.spec
+    (λ c κs. search needs)  -- same-few-requires
+    (λ c. search needs)  -- returns
+    (λ c. search needs)  -- sub-blocks
+    (λ c κs. search needs)  -- equal-range-requires
+    (λ c. search needs)  -- add-same-few
+    (λ c κs. search needs)  -- same-few-requires-2
+    returns-2
+    returns-3)
