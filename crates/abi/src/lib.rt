@@ -24,7 +24,7 @@ ghost use Prim.Native.Nat.{min};
 ghost use lib.ListN.{length, getD};
 ghost use Rattle.refusal.specs.Refusal.{numberOf, valuesOf};
 ghost use Rattle.format.specs.Message.{writing};
-ghost use Rattle.format.specs.Outcome.{outputAfter, outcomeNumber, outcomeValues, outcomeList};
+ghost use Rattle.format.specs.Outcome.{outputAfter, outcomeNumber, outcomeValues};
 ghost use Rattle.format.specs.Ownership.{comparing};
 ghost use Rattle.format.specs.Reading.{reading, tableAfter, poolAfter};
 ghost use Rattle.format.specs.Sizes.{sizing, elementSizing, classMayHoldObjectAddress, objectAddressHeld, fileAddressHeld};
@@ -165,8 +165,8 @@ pub extern "C" fn datatype_read(
     second: &mut u64,
 ) -> u32
     ensures number { λ r. ⌜ r ≡ outcomeNumber (reading limit (length (now (table .entry))) (length (now (pool .entry))) (now («data» .entry))) ⌝ }
-    ensures first { λ _. ⌜ now (first .exit) ≡ getD (outcomeValues (λ x. x .consumed) (reading limit (length (now (table .entry))) (length (now (pool .entry))) (now («data» .entry)))) 0 0 ⌝ }
-    ensures second { λ _. ⌜ now (second .exit) ≡ getD (outcomeValues (λ x. x .consumed) (reading limit (length (now (table .entry))) (length (now (pool .entry))) (now («data» .entry)))) 1 0 ⌝ }
+    ensures first { λ _. ⌜ now (first .exit) ≡ getD (outcomeValues (λ x. x .consumed ∷ []) (reading limit (length (now (table .entry))) (length (now (pool .entry))) (now («data» .entry)))) 0 0 ⌝ }
+    ensures second { λ _. ⌜ now (second .exit) ≡ getD (outcomeValues (λ x. x .consumed ∷ []) (reading limit (length (now (table .entry))) (length (now (pool .entry))) (now («data» .entry)))) 1 0 ⌝ }
     ensures table { λ _. ⌜ now (table .exit) ≡ tableAfter (length (now (table .entry))) (reading limit (length (now (table .entry))) (length (now (pool .entry))) (now («data» .entry))) ⌝ }
     ensures pool { λ _. ⌜ now (pool .exit) ≡ poolAfter (length (now (pool .entry))) (reading limit (length (now (table .entry))) (length (now (pool .entry))) (now («data» .entry))) ⌝ }
 {
@@ -187,8 +187,8 @@ pub extern "C" fn datatype_write(
     second: &mut u64,
 ) -> u32
     ensures number { λ r. ⌜ r ≡ outcomeNumber (writing (now (table .entry)) (now (pool .entry)) edition (length (now (out .entry)))) ⌝ }
-    ensures first { λ _. ⌜ now (first .exit) ≡ getD (outcomeValues length (writing (now (table .entry)) (now (pool .entry)) edition (length (now (out .entry))))) 0 0 ⌝ }
-    ensures second { λ _. ⌜ now (second .exit) ≡ getD (outcomeValues length (writing (now (table .entry)) (now (pool .entry)) edition (length (now (out .entry))))) 1 0 ⌝ }
+    ensures first { λ _. ⌜ now (first .exit) ≡ getD (outcomeValues (λ s. length s ∷ []) (writing (now (table .entry)) (now (pool .entry)) edition (length (now (out .entry))))) 0 0 ⌝ }
+    ensures second { λ _. ⌜ now (second .exit) ≡ getD (outcomeValues (λ s. length s ∷ []) (writing (now (table .entry)) (now (pool .entry)) edition (length (now (out .entry))))) 1 0 ⌝ }
     ensures out { λ _. ⌜ now (out .exit) ≡ outputAfter (now (out .entry)) (writing (now (table .entry)) (now (pool .entry)) edition (length (now (out .entry)))) ⌝ }
 {
     let answer = of_writing(write(table, pool, edition, out));
@@ -226,8 +226,8 @@ pub extern "C" fn datatype_size(
     second: &mut u64,
 ) -> u32
     ensures number { λ r. ⌜ r ≡ outcomeNumber (sizing (now (table .entry)) (now (pool .entry))) ⌝ }
-    ensures first { λ _. ⌜ now (first .exit) ≡ getD (outcomeValues (λ n. n) (sizing (now (table .entry)) (now (pool .entry)))) 0 0 ⌝ }
-    ensures second { λ _. ⌜ now (second .exit) ≡ getD (outcomeValues (λ n. n) (sizing (now (table .entry)) (now (pool .entry)))) 1 0 ⌝ }
+    ensures first { λ _. ⌜ now (first .exit) ≡ getD (outcomeValues (λ n. n ∷ []) (sizing (now (table .entry)) (now (pool .entry)))) 0 0 ⌝ }
+    ensures second { λ _. ⌜ now (second .exit) ≡ getD (outcomeValues (λ n. n ∷ []) (sizing (now (table .entry)) (now (pool .entry)))) 1 0 ⌝ }
 {
     let answer = of_sized(type_size(table, pool));
     *first = answer.first;
@@ -244,8 +244,8 @@ pub extern "C" fn datatype_element_size(
     second: &mut u64,
 ) -> u32
     ensures number { λ r. ⌜ r ≡ outcomeNumber (elementSizing (now (table .entry)) (now (pool .entry))) ⌝ }
-    ensures first { λ _. ⌜ now (first .exit) ≡ getD (outcomeValues (λ n. n) (elementSizing (now (table .entry)) (now (pool .entry)))) 0 0 ⌝ }
-    ensures second { λ _. ⌜ now (second .exit) ≡ getD (outcomeValues (λ n. n) (elementSizing (now (table .entry)) (now (pool .entry)))) 1 0 ⌝ }
+    ensures first { λ _. ⌜ now (first .exit) ≡ getD (outcomeValues (λ n. n ∷ []) (elementSizing (now (table .entry)) (now (pool .entry)))) 0 0 ⌝ }
+    ensures second { λ _. ⌜ now (second .exit) ≡ getD (outcomeValues (λ n. n ∷ []) (elementSizing (now (table .entry)) (now (pool .entry)))) 1 0 ⌝ }
 {
     let answer = of_sized(element_size(table, pool));
     *first = answer.first;
@@ -262,8 +262,8 @@ pub extern "C" fn datatype_extent(
     second: &mut u64,
 ) -> u32
     ensures number { λ r. ⌜ r ≡ outcomeNumber (extending (now (table .entry)) (now (pool .entry))) ⌝ }
-    ensures first { λ _. ⌜ now (first .exit) ≡ getD (outcomeList extentValues (extending (now (table .entry)) (now (pool .entry)))) 0 0 ⌝ }
-    ensures second { λ _. ⌜ now (second .exit) ≡ getD (outcomeList extentValues (extending (now (table .entry)) (now (pool .entry)))) 1 0 ⌝ }
+    ensures first { λ _. ⌜ now (first .exit) ≡ getD (outcomeValues extentValues (extending (now (table .entry)) (now (pool .entry)))) 0 0 ⌝ }
+    ensures second { λ _. ⌜ now (second .exit) ≡ getD (outcomeValues extentValues (extending (now (table .entry)) (now (pool .entry)))) 1 0 ⌝ }
 {
     let answer = of_using(extent(table, pool));
     *first = answer.first;
@@ -281,8 +281,8 @@ pub extern "C" fn datatype_slots(
     second: &mut u64,
 ) -> u32
     ensures number { λ r. ⌜ r ≡ outcomeNumber (findingSlots (now (table .entry)) (now (pool .entry)) (length (now (out .entry)))) ⌝ }
-    ensures first { λ _. ⌜ now (first .exit) ≡ getD (outcomeValues length (findingSlots (now (table .entry)) (now (pool .entry)) (length (now (out .entry))))) 0 0 ⌝ }
-    ensures second { λ _. ⌜ now (second .exit) ≡ getD (outcomeValues length (findingSlots (now (table .entry)) (now (pool .entry)) (length (now (out .entry))))) 1 0 ⌝ }
+    ensures first { λ _. ⌜ now (first .exit) ≡ getD (outcomeValues (λ s. length s ∷ []) (findingSlots (now (table .entry)) (now (pool .entry)) (length (now (out .entry))))) 0 0 ⌝ }
+    ensures second { λ _. ⌜ now (second .exit) ≡ getD (outcomeValues (λ s. length s ∷ []) (findingSlots (now (table .entry)) (now (pool .entry)) (length (now (out .entry))))) 1 0 ⌝ }
     ensures out { λ _. ⌜ now (out .exit) ≡ outputAfter (now (out .entry)) (findingSlots (now (table .entry)) (now (pool .entry)) (length (now (out .entry)))) ⌝ }
 {
     let answer = of_slots(embedded_reference_slots(table, pool, out));
@@ -303,8 +303,8 @@ pub extern "C" fn datatype_references(
     second: &mut u64,
 ) -> u32
     ensures number { λ r. ⌜ r ≡ outcomeNumber (referencing (now (block .entry)) «record_size» (now (slots .entry)) (min (length (now (places .entry))) (length (now (values .entry))))) ⌝ }
-    ensures first { λ _. ⌜ now (first .exit) ≡ getD (outcomeValues (λ x. length (x .places)) (referencing (now (block .entry)) «record_size» (now (slots .entry)) (min (length (now (places .entry))) (length (now (values .entry)))))) 0 0 ⌝ }
-    ensures second { λ _. ⌜ now (second .exit) ≡ getD (outcomeValues (λ x. length (x .places)) (referencing (now (block .entry)) «record_size» (now (slots .entry)) (min (length (now (places .entry))) (length (now (values .entry)))))) 1 0 ⌝ }
+    ensures first { λ _. ⌜ now (first .exit) ≡ getD (outcomeValues (λ x. length (x .places) ∷ []) (referencing (now (block .entry)) «record_size» (now (slots .entry)) (min (length (now (places .entry))) (length (now (values .entry)))))) 0 0 ⌝ }
+    ensures second { λ _. ⌜ now (second .exit) ≡ getD (outcomeValues (λ x. length (x .places) ∷ []) (referencing (now (block .entry)) «record_size» (now (slots .entry)) (min (length (now (places .entry))) (length (now (values .entry)))))) 1 0 ⌝ }
     ensures places { λ _. ⌜ now (places .exit) ≡ placesAfter (now (places .entry)) (referencing (now (block .entry)) «record_size» (now (slots .entry)) (min (length (now (places .entry))) (length (now (values .entry))))) ⌝ }
     ensures values { λ _. ⌜ now (values .exit) ≡ valuesAfter (now (values .entry)) (referencing (now (block .entry)) «record_size» (now (slots .entry)) (min (length (now (places .entry))) (length (now (values .entry))))) ⌝ }
 {
@@ -342,8 +342,8 @@ pub extern "C" fn datatype_holds_object_address(
     second: &mut u64,
 ) -> u32
     ensures number { λ r. ⌜ r ≡ outcomeNumber (objectAddressHeld (now (table .entry)) (now (pool .entry))) ⌝ }
-    ensures first { λ _. ⌜ now (first .exit) ≡ getD (outcomeValues yesOrNo (objectAddressHeld (now (table .entry)) (now (pool .entry)))) 0 0 ⌝ }
-    ensures second { λ _. ⌜ now (second .exit) ≡ getD (outcomeValues yesOrNo (objectAddressHeld (now (table .entry)) (now (pool .entry)))) 1 0 ⌝ }
+    ensures first { λ _. ⌜ now (first .exit) ≡ getD (outcomeValues (λ b. yesOrNo b ∷ []) (objectAddressHeld (now (table .entry)) (now (pool .entry)))) 0 0 ⌝ }
+    ensures second { λ _. ⌜ now (second .exit) ≡ getD (outcomeValues (λ b. yesOrNo b ∷ []) (objectAddressHeld (now (table .entry)) (now (pool .entry)))) 1 0 ⌝ }
 {
     let answer = of_held(table::datatype_holds_object_address(table, pool));
     *first = answer.first;
@@ -360,8 +360,8 @@ pub extern "C" fn datatype_holds_file_address(
     second: &mut u64,
 ) -> u32
     ensures number { λ r. ⌜ r ≡ outcomeNumber (fileAddressHeld (now (table .entry)) (now (pool .entry))) ⌝ }
-    ensures first { λ _. ⌜ now (first .exit) ≡ getD (outcomeValues yesOrNo (fileAddressHeld (now (table .entry)) (now (pool .entry)))) 0 0 ⌝ }
-    ensures second { λ _. ⌜ now (second .exit) ≡ getD (outcomeValues yesOrNo (fileAddressHeld (now (table .entry)) (now (pool .entry)))) 1 0 ⌝ }
+    ensures first { λ _. ⌜ now (first .exit) ≡ getD (outcomeValues (λ b. yesOrNo b ∷ []) (fileAddressHeld (now (table .entry)) (now (pool .entry)))) 0 0 ⌝ }
+    ensures second { λ _. ⌜ now (second .exit) ≡ getD (outcomeValues (λ b. yesOrNo b ∷ []) (fileAddressHeld (now (table .entry)) (now (pool .entry)))) 1 0 ⌝ }
 {
     let answer = of_held(table::datatype_holds_file_address(table, pool));
     *first = answer.first;

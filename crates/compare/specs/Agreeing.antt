@@ -181,9 +181,9 @@ comparisonOf (gives false) = Differs
 comparisonOf (refuses e) = Refused e
 
 -- 0 for same, 1 for differs
-unfoldable pub sameOrDiffers : Bool → ℕ
-sameOrDiffers true = 0
-sameOrDiffers false = 1
+unfoldable pub sameOrDiffers : Bool → List ℕ
+sameOrDiffers true = 0 ∷ []
+sameOrDiffers false = 1 ∷ []
 
 -- `same`: the answer by the definition's outcome
 pub record Compares (o : Outcome Bool) (r : Comparison) : Type 0 where

@@ -32,12 +32,7 @@ unfoldable pub outcomeNumber : {A : Type 0} → Outcome A → ℕ
 outcomeNumber (gives x) = 0
 outcomeNumber (refuses e) = numberOf e
 
--- and its values: the one of a result, or the refusal's
-unfoldable pub outcomeValues : {A : Type 0} → (A → ℕ) → Outcome A → List ℕ
-outcomeValues value (gives x) = value x ∷ []
-outcomeValues value (refuses e) = valuesOf e
-
--- the same for a result of several values
-unfoldable pub outcomeList : {A : Type 0} → (A → List ℕ) → Outcome A → List ℕ
-outcomeList values (gives x) = values x
-outcomeList values (refuses e) = valuesOf e
+-- and its values: the result's, or the refusal's
+unfoldable pub outcomeValues : {A : Type 0} → (A → List ℕ) → Outcome A → List ℕ
+outcomeValues values (gives x) = values x
+outcomeValues values (refuses e) = valuesOf e

@@ -33,7 +33,7 @@ module _ {o : Outcome (List ℕ)} {out : List ℕ} where
       record {
         answer = sym (ap answerOf h);
         number = sym (ap outcomeNumber h);
-        values = sym (ap (outcomeValues length) h);
+        values = sym (ap (outcomeValues (λ s. length s ∷ [])) h);
         out-is = sym (ap (outputAfter out) h);
       }
 
@@ -43,7 +43,7 @@ module _ {o : Outcome (List ℕ)} {out : List ℕ} where
       record {
         answer = ap Listed e ∙ sym (ap answerOf h);
         number = sym (ap outcomeNumber h);
-        values = ap (λ (n : ℕ). n ∷ []) e ∙ sym (ap (outcomeValues length) h);
+        values = ap (λ (n : ℕ). n ∷ []) e ∙ sym (ap (outcomeValues (λ s. length s ∷ [])) h);
         out-is = w ∙ sym (ap (outputAfter out) h);
       }
 

@@ -31,7 +31,7 @@ answerOf (refuses e) = Refused e
 pub record Answers (o : Outcome (List ℕ)) (r : Listing) (out out′ : List ℕ) : Type 0 where
   pub answer : r ≡ answerOf o
   pub number : listingNumber r ≡ outcomeNumber o
-  pub values : listingValues r ≡ outcomeValues length o
+  pub values : listingValues r ≡ outcomeValues (λ s. length s ∷ []) o
   pub out-is : out′ ≡ outputAfter out o
 
 -- of the type that is found

@@ -199,7 +199,7 @@ expected (c ∷ cs) = c .outcome ∷ expected cs
 
 unfoldable spoken : List ReadCase → List (List ℕ)
 spoken [] = []
-spoken (c ∷ cs) = (outcomeNumber (c .outcome) ∷ outcomeValues (λ x. x .consumed) (c .outcome)) ∷ spoken cs
+spoken (c ∷ cs) = (outcomeNumber (c .outcome) ∷ outcomeValues (λ x. x .consumed ∷ []) (c .outcome)) ∷ spoken cs
 
 unfoldable said : List ReadCase → List (List ℕ)
 said [] = []
@@ -214,7 +214,7 @@ unfolding starredReadings spoken said outcomeNumber outcomeValues computing
 spoken-computed = refl
 
 abbrev Computed : ReadCase → Type 0
-Computed c = (reading (c .limit) 1024 256 (c .message) ≡ c .outcome) × (outcomeNumber (c .outcome) ∷ outcomeValues (λ x. x .consumed) (c .outcome) ≡ c .says)
+Computed c = (reading (c .limit) 1024 256 (c .message) ≡ c .outcome) × (outcomeNumber (c .outcome) ∷ outcomeValues (λ x. x .consumed ∷ []) (c .outcome) ≡ c .says)
 
 of-each : {c : ReadCase} (cs : List ReadCase) → outcomes cs ≡ expected cs → spoken cs ≡ said cs → List·Memᴰ c cs → Computed c
 unfolding outcomes expected spoken said

@@ -1,6 +1,6 @@
 -- The whole reading: the answer, the table and the pool that `read` promises.
 use mathlib.Core.Path.{_≡_, refl, sym, ap, _∙_}
-use mathlib.Core.List.{List, _++_}
+use mathlib.Core.List.{List, [], _∷_, _++_}
 use Prim.Native.Nat.{ℕ, _+_, _-_, _*_, _/_, _≤_, min}
 use native.Mathlib.Omega.{arith}
 use lib.ListN.{length, take, drop}
@@ -71,7 +71,7 @@ module _ {limit : ℕ} {d t t′ p p′ : List ℕ} {lim : Limits} {o : Answer D
       number-of (gives y) = unfold answerOf readingNumber outcomeNumber in refl
       number-of (refuses f) = unfold answerOf readingNumber outcomeNumber in refl
 
-      values-of : (x : Outcome Read) → readingValues (answerOf x) ≡ outcomeValues (λ y. y .consumed) x
+      values-of : (x : Outcome Read) → readingValues (answerOf x) ≡ outcomeValues (λ y. y .consumed ∷ []) x
       values-of (gives y) = unfold answerOf readingValues outcomeValues in refl
       values-of (refuses f) = unfold answerOf readingValues outcomeValues in refl
 

@@ -27,6 +27,6 @@ answerOf (refuses e) = AnswerRefused e
 pub record Reads (limit : ℕ) (d table pool : List ℕ) (r : Reading) (table′ pool′ : List ℕ) : Type 0 where
   pub answer : r ≡ answerOf (reading limit (length table) (length pool) d)
   pub number : readingNumber r ≡ outcomeNumber (reading limit (length table) (length pool) d)
-  pub values : readingValues r ≡ outcomeValues (λ x. x .consumed) (reading limit (length table) (length pool) d)
+  pub values : readingValues r ≡ outcomeValues (λ x. x .consumed ∷ []) (reading limit (length table) (length pool) d)
   pub table-is : table′ ≡ tableAfter (length table) (reading limit (length table) (length pool) d)
   pub pool-is : pool′ ≡ poolAfter (length pool) (reading limit (length table) (length pool) d)

@@ -188,7 +188,7 @@ pub none-outside : (size : ℕ) (ss : List ℕ) (flag : Bool) → flag ≡ someO
 none-outside size ss flag o f = sym o ∙ f
 
 -- an answer that is the definition's has its number and values
-told : (o : Outcome Found·References) {r : References} → r ≡ answerOf o → (referencesNumber r ≡ outcomeNumber o) × (referencesValues r ≡ outcomeValues (λ x. length (x .places)) o)
+told : (o : Outcome Found·References) {r : References} → r ≡ answerOf o → (referencesNumber r ≡ outcomeNumber o) × (referencesValues r ≡ outcomeValues (λ x. length (x .places) ∷ []) o)
 unfolding answerOf referencesNumber referencesValues outcomeNumber outcomeValues
 told (gives x) e = (ap referencesNumber e, ap referencesValues e)
 told (refuses x) e = (ap referencesNumber e, ap referencesValues e)

@@ -36,6 +36,6 @@ valuesAfter out (refuses e) = out
 pub record ReferencesAre (block : List ℕ) (size : ℕ) (slots : List ℕ) (r : References) (places places′ values values′ : List ℕ) : Type 0 where
   pub answer : r ≡ answerOf (referencing block size slots (min (length places) (length values)))
   pub answer-number : referencesNumber r ≡ outcomeNumber (referencing block size slots (min (length places) (length values)))
-  pub answer-values : referencesValues r ≡ outcomeValues (λ x. length (x .places)) (referencing block size slots (min (length places) (length values)))
+  pub answer-values : referencesValues r ≡ outcomeValues (λ x. length (x .places) ∷ []) (referencing block size slots (min (length places) (length values)))
   pub places-are : places′ ≡ placesAfter places (referencing block size slots (min (length places) (length values)))
   pub values-are : values′ ≡ valuesAfter values (referencing block size slots (min (length places) (length values)))

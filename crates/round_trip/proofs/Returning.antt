@@ -2,7 +2,7 @@
 use Prim.Native.Nat.{ℕ, _*_, _<_, _≤_}
 use mathlib.Core.Path.{_≡_, refl, sym, ap, _∙_}
 use mathlib.Core.Bool.{true}
-use mathlib.Core.List.{List, _++_}
+use mathlib.Core.List.{List, [], _∷_, _++_}
 use native.Mathlib.Omega.{arith}
 use lib.ListN.{length, take, drop, getD}
 use lib.Seq.{take-at}
@@ -68,7 +68,7 @@ unfolding roundTripNumber answerOf outcomeNumber
 number-of (gives x) = refl
 number-of (refuses e) = refl
 
-values-of : (x : Outcome Read) → roundTripValues (answerOf x) ≡ outcomeValues (λ x. x .consumed) x
+values-of : (x : Outcome Read) → roundTripValues (answerOf x) ≡ outcomeValues (λ x. x .consumed ∷ []) x
 unfolding roundTripValues answerOf outcomeValues
 values-of (gives x) = refl
 values-of (refuses e) = refl

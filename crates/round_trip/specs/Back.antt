@@ -45,7 +45,7 @@ pub record Written (m : List ℕ) (limit : ℕ) (r : RoundTrip) (buffer buffer�
   pub buffer-is : buffer′ ≡ m ++ drop (length m) buffer
   pub answer : r ≡ answerOf (reading limit (length t) (length p) buffer′)
   pub number : roundTripNumber r ≡ outcomeNumber (reading limit (length t) (length p) buffer′)
-  pub values : roundTripValues r ≡ outcomeValues (λ x. x .consumed) (reading limit (length t) (length p) buffer′)
+  pub values : roundTripValues r ≡ outcomeValues (λ x. x .consumed ∷ []) (reading limit (length t) (length p) buffer′)
   pub table-is : t′ ≡ tableAfter (length t) (reading limit (length t) (length p) buffer′)
   pub pool-is : p′ ≡ poolAfter (length p) (reading limit (length t) (length p) buffer′)
 

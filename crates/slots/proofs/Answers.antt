@@ -47,7 +47,7 @@ some-code none y h = absurd (h refl)
 some-code (some c) y h = let e : suc c - 1 ≡ c = omega arith in rw e
 
 -- an answer that is the definition's has its number and values
-told : (o : Outcome (List ℕ)) {r : Slots} → r ≡ answerOf o → (slotsNumber r ≡ outcomeNumber o) × (slotsValues r ≡ outcomeValues length o)
+told : (o : Outcome (List ℕ)) {r : Slots} → r ≡ answerOf o → (slotsNumber r ≡ outcomeNumber o) × (slotsValues r ≡ outcomeValues (λ s. length s ∷ []) o)
 unfolding answerOf slotsNumber slotsValues outcomeNumber outcomeValues
 told (gives s) e = (ap slotsNumber e, ap slotsValues e)
 told (refuses x) e = (ap slotsNumber e, ap slotsValues e)

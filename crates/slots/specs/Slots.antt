@@ -153,5 +153,5 @@ answerOf (refuses e) = Refused e
 pub record SlotsAre (table pool : List ℕ) (r : Slots) (out out′ : List ℕ) : Type 0 where
   pub answer : r ≡ answerOf (findingSlots table pool (length out))
   pub number : slotsNumber r ≡ outcomeNumber (findingSlots table pool (length out))
-  pub values : slotsValues r ≡ outcomeValues length (findingSlots table pool (length out))
+  pub values : slotsValues r ≡ outcomeValues (λ s. length s ∷ []) (findingSlots table pool (length out))
   pub out-is : out′ ≡ outputAfter out (findingSlots table pool (length out))

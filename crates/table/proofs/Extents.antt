@@ -8,7 +8,7 @@ use lib.Seq.{take-at}
 use Rattle.refusal.specs.declared.Refusal.the-variants.{BadTable}
 use Rattle.format.specs.Bytes.{AllBytes, padded, zeros}
 use Rattle.format.specs.Datatype.{Datatype, rowCount, poolBytes}
-use Rattle.format.specs.Outcome.{Outcome, gives, refuses, whenGiven, outcomeNumber, outcomeList}
+use Rattle.format.specs.Outcome.{Outcome, gives, refuses, whenGiven, outcomeNumber, outcomeValues}
 use Rattle.format.specs.Table.{rows, typeOf, tableOf, poolOf}
 use Rattle.format.proofs.Rows.{length-rows}
 use Rattle.format.proofs.Table.{typeOf-sound, typeOf-of}
@@ -23,7 +23,7 @@ use Rattle.table.proofs.Checking.{stands-at}
 
 -- an answer that is the definition's has its number and values
 used-as : (o : Outcome Extent) {r : Using} → r ≡ usingOf o → UsedAs o r
-unfolding usingOf usingNumber usingValues outcomeNumber outcomeList extentValues
+unfolding usingOf usingNumber usingValues outcomeNumber outcomeValues extentValues
 used-as (gives x) e = record { answer = e; number = ap usingNumber e; values = ap usingValues e }
 used-as (refuses x) e = record { answer = e; number = ap usingNumber e; values = ap usingValues e }
 

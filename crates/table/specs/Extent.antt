@@ -5,7 +5,7 @@ use mathlib.Core.List.{List, [], _∷_}
 use lib.ListN.{length}
 use Rattle.refusal.specs.Refusal.{numberOf, valuesOf}
 use Rattle.format.specs.Datatype.{Datatype, rowCount, poolBytes}
-use Rattle.format.specs.Outcome.{Outcome, gives, refuses, whenGiven, outcomeNumber, outcomeList}
+use Rattle.format.specs.Outcome.{Outcome, gives, refuses, whenGiven, outcomeNumber, outcomeValues}
 use Rattle.format.specs.Table.{typeOf}
 use Rattle.table.specs.declared.Using.{Using}
 use Rattle.table.specs.declared.Using.the-variants.{Used, Refused}
@@ -42,4 +42,4 @@ usingOf (refuses e) = Refused e
 pub record UsedAs (o : Outcome Extent) (r : Using) : Type 0 where
   pub answer : r ≡ usingOf o
   pub number : usingNumber r ≡ outcomeNumber o
-  pub values : usingValues r ≡ outcomeList extentValues o
+  pub values : usingValues r ≡ outcomeValues extentValues o

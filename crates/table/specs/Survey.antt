@@ -129,9 +129,9 @@ yesOrNo false = 0
 pub record SizedAs (o : Outcome ℕ) (r : Sized) : Type 0 where
   pub answer : r ≡ sizedOf o
   pub number : sizedNumber r ≡ outcomeNumber o
-  pub values : sizedValues r ≡ outcomeValues (λ n. n) o
+  pub values : sizedValues r ≡ outcomeValues (λ n. n ∷ []) o
 
 pub record HeldAs (o : Outcome Bool) (r : Held) : Type 0 where
   pub answer : r ≡ heldOf o
   pub number : heldNumber r ≡ outcomeNumber o
-  pub values : heldValues r ≡ outcomeValues yesOrNo o
+  pub values : heldValues r ≡ outcomeValues (λ b. yesOrNo b ∷ []) o

@@ -52,7 +52,7 @@ answerOf (refuses e) = AnswerRefused e
 pub record Answers (o : Outcome (List ℕ)) (r : Writing) (out out′ : List ℕ) : Type 0 where
   pub answer : r ≡ answerOf o
   pub number : writingNumber r ≡ outcomeNumber o
-  pub values : writingValues r ≡ outcomeValues length o
+  pub values : writingValues r ≡ outcomeValues (λ s. length s ∷ []) o
   pub out-is : out′ ≡ outputAfter out o
 
 -- `write`: "Success writes the result and nothing past it", a refusal leaves `out` as it was
