@@ -40,6 +40,10 @@ static void empty_slices(void) {
     answers("datatype_extent of NULL", datatype_extent(NULL, 0, NULL, 0, &first, &second), DATATYPE_BAD_TABLE, 0, 0);
     answers("datatype_slots of NULL", datatype_slots(NULL, 0, NULL, 0, NULL, 0, &first, &second), DATATYPE_BAD_TABLE, 0, 0);
     answers("datatype_references of NULL", datatype_references(NULL, 0, 8, NULL, 0, NULL, 0, NULL, 0, &first, &second), 0, 0, 0);
+    answers("datatype_duplicates of NULL", datatype_duplicates(NULL, 0, NULL, 0, NULL, 0, NULL, 0, NULL, 0, NULL, 0, &first, &second), DATATYPE_BAD_TABLE, 0, 0);
+    answers("datatype_duplicates of NULL", datatype_duplicates(table, 16, NULL, 0, NULL, 0, NULL, 0, NULL, 0, NULL, 0, &first, &second), 0, 0, 0);
+    answers("datatype_duplicates into NULL", datatype_duplicates(table, 16, NULL, 0, NAME, 8, NULL, 0, NULL, 0, NULL, 0, &first, &second), DATATYPE_NO_ROOM, 2, 0);
+    answers("datatype_duplicates_words of NULL", datatype_duplicates_words(NULL, 0, NULL, 0, 1, &first, &second), DATATYPE_BAD_TABLE, 0, 0);
     answers("datatype_member_name of NULL", datatype_member_name(NULL, 0, NULL, 0, 1, &first, &second), 0, 0, 0);
     answers("datatype_holds_object_address of NULL", datatype_holds_object_address(NULL, 0, NULL, 0, &first, &second), DATATYPE_BAD_TABLE, 0, 0);
     answers("datatype_holds_file_address of NULL", datatype_holds_file_address(NULL, 0, NULL, 0, &first, &second), DATATYPE_BAD_TABLE, 0, 0);
@@ -88,6 +92,34 @@ static void list_values(void) {
     }
 }
 
+// Six records of P, of which the bytes at 1 belong to no field: 0, 2 and 3 are the same, and 1 and 4. Without a workspace and with one.
+static void duplicates(size_t words) {
+    const uint8_t block[24] = {1, 0xFF, 5, 0, 2, 0, 5, 0, 1, 0, 5, 0, 1, 0x11, 5, 0, 2, 0x77, 5, 0, 1, 0, 5, 1};
+    const uint64_t firsts[7] = {0, 1, 0, 0, 1, 5, 9}, counts[4] = {3, 2, 1, 9}, none[7] = {9, 9, 9, 9, 9, 9, 9};
+    uint64_t numbers[7], sizes[4], work[64];
+    if (datatype_duplicates_words(table, words, pool, 32, 0, &first, &second) != 0 || first % 2 != 0 || second != 0) failed = 1;
+    const uint64_t runs = first;
+    answers("datatype_duplicates_words", datatype_duplicates_words(table, words, pool, 32, 6, &first, &second), 0, runs + 18, 0);
+    if (first > 64) failed = 1;
+    const size_t told = (size_t)first;
+    for (int lent = 0; lent < 2; lent++) {
+        const size_t length = lent ? told : 0;
+        memcpy(numbers, none, sizeof numbers);
+        memcpy(sizes, none, sizeof sizes);
+        memset(work, 0x55, sizeof work);
+        answers("datatype_duplicates", datatype_duplicates(table, words, pool, 32, block, 23, numbers, 7, sizes, 4, work, length, &first, &second), DATATYPE_WRONG_LENGTH, 0, 0);
+        answers("datatype_duplicates", datatype_duplicates(table, words, pool, 32, block, 24, numbers, 5, sizes, 0, work, length, &first, &second), DATATYPE_NO_ROOM, 6, 0);
+        answers("datatype_duplicates", datatype_duplicates(table, words, pool, 32, block, 24, numbers, 6, sizes, 2, work, length, &first, &second), DATATYPE_NO_ROOM, 3, 0);
+        if (memcmp(numbers, none, sizeof numbers) != 0 || memcmp(sizes, none, sizeof sizes) != 0) failed = 1;
+        memset(work, 0x55, sizeof work);
+        answers("datatype_duplicates", datatype_duplicates(table, words, pool, 32, block, 24, numbers, 7, sizes, 4, work, length, &first, &second), 0, 6, 3);
+        if (memcmp(numbers, firsts, sizeof numbers) != 0 || memcmp(sizes, counts, sizeof sizes) != 0) failed = 1;
+        for (size_t i = 0; i < 64; i++) {
+            if (work[i] != (i < length ? 0 : UINT64_C(0x5555555555555555))) failed = 1;
+        }
+    }
+}
+
 int main(void) {
     const size_t words = sizeof table / sizeof *table;
     empty_slices();
@@ -106,6 +138,7 @@ int main(void) {
     answers("datatype_compare", datatype_compare(table, 5 * 16, pool, 2, a, 4, c, 4, &first, &second), 0, 1, 0);
     answers("datatype_extent", datatype_extent(table, 5 * 16, pool, 2, &first, &second), 0, 5, 2);
     answers("datatype_extent", datatype_extent(table, 5 * 16 - 1, pool, 2, &first, &second), DATATYPE_BAD_TABLE, 0, 0);
+    duplicates(words);
     list_fields("a 0 0 1\nb 2 0 2\n");
     answers("datatype_member_name", datatype_member_name(table, words, pool, 32, 3, &first, &second), 0, 1, 1);
     answers("datatype_member_name", datatype_member_name(table, words, pool, 32, 0, &first, &second), 0, 0, 0);
