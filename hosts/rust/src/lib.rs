@@ -47,6 +47,8 @@
 #![warn(missing_docs)]
 
 extern crate alloc;
+#[cfg(feature = "std")]
+extern crate std;
 
 use alloc::{vec, vec::Vec};
 use core::fmt;
@@ -156,6 +158,23 @@ mod abi {
         pub fn datatype_element_size(table: *const u32, table_length: usize, pool: *const u8, pool_length: usize, first: *mut u64, second: *mut u64) -> u32;
         pub fn datatype_extent(table: *const u32, table_length: usize, pool: *const u8, pool_length: usize, first: *mut u64, second: *mut u64) -> u32;
         pub fn datatype_slots(table: *const u32, table_length: usize, pool: *const u8, pool_length: usize, out: *mut u64, out_length: usize, first: *mut u64, second: *mut u64) -> u32;
+        pub fn datatype_duplicates(
+            table: *const u32,
+            table_length: usize,
+            pool: *const u8,
+            pool_length: usize,
+            block: *const u8,
+            block_length: usize,
+            numbers: *mut u64,
+            numbers_length: usize,
+            sizes: *mut u64,
+            sizes_length: usize,
+            work: *mut u64,
+            work_length: usize,
+            first: *mut u64,
+            second: *mut u64,
+        ) -> u32;
+        pub fn datatype_duplicates_words(table: *const u32, table_length: usize, pool: *const u8, pool_length: usize, records: u64, first: *mut u64, second: *mut u64) -> u32;
         pub fn datatype_references(
             block: *const u8,
             block_length: usize,
@@ -376,6 +395,39 @@ impl Type {
         same(&self.table, &self.pool, a, b)
     }
 
+    /// Which records of a block are the same, in a workspace of its own: see [`duplicates`]. With feature `std`, from which it takes the random
+    /// word that keeps those who make the records from making the call slow.
+    ///
+    /// ```
+    /// use datatype_message::{Refusal, Type};
+    ///
+    /// // NUL-terminated strings of 4 bytes
+    /// let (name, _) = Type::from_message(&[0x13, 0, 0, 0, 4, 0, 0, 0], 5)?;
+    /// let found = name.duplicates(b"A\0xyB\0\0\0A\0zzA\0\0\0")?;
+    /// assert_eq!(found.numbers, [0, 1, 0, 0]);
+    /// assert_eq!(found.sizes, [3, 1]);
+    /// assert_eq!(name.duplicates(b"A\0xyB"), Err(Refusal::WrongLength));
+    /// # Ok::<(), Refusal>(())
+    /// ```
+    #[cfg(feature = "std")]
+    pub fn duplicates(&self, block: &[u8]) -> Result<Duplicates, Refusal> {
+        use core::hash::{BuildHasher, Hasher};
+        let records = match duplicates(&self.table, &self.pool, block, &mut [], &mut [], &mut []) {
+            Err(Refusal::NoRoom { needed }) => needed,
+            other => return other.map(|_| Duplicates { numbers: Vec::new(), sizes: Vec::new() }),
+        };
+        // More than this is told only where fields share bytes, and then it may be very much more: a shorter workspace does.
+        let most = block.len().saturating_mul(5).saturating_add(2);
+        let mut work = vec![0; duplicates_words(&self.table, &self.pool, records)?.min(most)];
+        if let Some(seed) = work.first_mut() {
+            *seed = std::hash::RandomState::new().build_hasher().finish();
+        }
+        let (mut numbers, mut sizes) = (vec![0; count(records)], vec![0; count(records)]);
+        let (_, distinct) = duplicates(&self.table, &self.pool, block, &mut numbers, &mut sizes, &mut work)?;
+        sizes.truncate(distinct);
+        Ok(Duplicates { numbers, sizes })
+    }
+
     /// The size of a record in bytes: see [`type_size`].
     pub fn size(&self) -> u32 {
         type_size(&self.table, &self.pool).expect("a type's table is good")
@@ -414,6 +466,15 @@ impl Type {
     pub fn holds_file_address(&self) -> bool {
         datatype_holds_file_address(&self.table, &self.pool).expect("a type's table is good")
     }
+}
+
+/// Which records of a block are the same.
+#[derive(Debug, Clone, PartialEq, Eq)]
+pub struct Duplicates {
+    /// For each record the number, from 0, of the earliest record that is the same: its own where there is none before.
+    pub numbers: Vec<u64>,
+    /// For each record that is its own earliest, in rising order of its number, how many records name it.
+    pub sizes: Vec<u64>,
 }
 
 /// The result of a call that writes to a lent slice, which is asked first how much it needs.
@@ -464,6 +525,66 @@ pub fn write(table: &[u32], pool: &[u8], edition: u32, out: &mut [u8]) -> Result
 pub fn same(table: &[u32], pool: &[u8], a: &[u8], b: &[u8]) -> Result<bool, Refusal> {
     // SAFETY: as for `read`.
     ask(|first, second| unsafe { abi::datatype_compare(table.as_ptr(), table.len(), pool.as_ptr(), pool.len(), a.as_ptr(), a.len(), b.as_ptr(), b.len(), first, second) }).map(|n| n == 0)
+}
+
+/// Which records of a block are the same, as [`same`] says it. Writes for each record the number, from 0, of the earliest record that is the
+/// same to the start of `numbers`, and for each record that is its own earliest, in rising order of its number, how many records name it to
+/// the start of `sizes`; gives the number of records and how many of them are distinct.
+///
+/// `NoRoom` tells the number of records where `numbers` is shorter, then that of distinct records where `sizes` is. A refusal leaves both as
+/// they were. The workspace does not change the answer and is all zero afterwards in every case: with as many words as [`duplicates_words`]
+/// says, or more, the time grows little faster than the block; with a shorter one, or none, with the number of records times that of distinct
+/// records. Its first word as lent seeds the hash: fill it at random where the records come from somebody who is not trusted.
+///
+/// ```
+/// use datatype_message::{duplicates, duplicates_words, read, Refusal, ROW};
+///
+/// // a compound of size 4: a byte at 0 and two bytes at 2
+/// let message = [
+///     0x36, 2, 0, 0, 4, 0, 0, 0, //
+///     b'a', 0, 0, 0x10, 0, 0, 0, 1, 0, 0, 0, 0, 0, 8, 0, //
+///     b'b', 0, 2, 0x10, 0, 0, 0, 2, 0, 0, 0, 0, 0, 16, 0,
+/// ];
+/// let (mut table, mut pool) = ([0; 5 * ROW], [0; 2]);
+/// assert_eq!(read(&message, 15, &mut table, &mut pool), Ok(38));
+///
+/// // the byte at 1 belongs to no field
+/// let block = [1, 0xFF, 5, 0, 2, 0, 5, 0, 1, 0, 5, 0];
+/// let mut work = vec![0; duplicates_words(&table, &pool, 3)?];
+/// let (mut numbers, mut sizes) = ([9; 4], [9; 4]);
+/// assert_eq!(duplicates(&table, &pool, &block, &mut numbers[..2], &mut sizes, &mut work), Err(Refusal::NoRoom { needed: 3 }));
+/// assert_eq!(duplicates(&table, &pool, &block, &mut numbers, &mut sizes[..1], &mut []), Err(Refusal::NoRoom { needed: 2 }));
+/// assert_eq!(duplicates(&table, &pool, &block, &mut numbers, &mut sizes, &mut work), Ok((3, 2)));
+/// assert_eq!((numbers, sizes), ([0, 1, 0, 9], [2, 1, 9, 9]));
+/// # Ok::<(), Refusal>(())
+/// ```
+pub fn duplicates(table: &[u32], pool: &[u8], block: &[u8], numbers: &mut [u64], sizes: &mut [u64], work: &mut [u64]) -> Result<(usize, usize), Refusal> {
+    // SAFETY: as for `read`.
+    ask_two(|first, second| unsafe {
+        abi::datatype_duplicates(
+            table.as_ptr(),
+            table.len(),
+            pool.as_ptr(),
+            pool.len(),
+            block.as_ptr(),
+            block.len(),
+            numbers.as_mut_ptr(),
+            numbers.len(),
+            sizes.as_mut_ptr(),
+            sizes.len(),
+            work.as_mut_ptr(),
+            work.len(),
+            first,
+            second,
+        )
+    })
+    .map(|(records, distinct)| (count(records), count(distinct)))
+}
+
+/// How many words of workspace make [`duplicates`] fast on a block of so many records.
+pub fn duplicates_words(table: &[u32], pool: &[u8], records: u64) -> Result<usize, Refusal> {
+    // SAFETY: as for `read`.
+    ask(|first, second| unsafe { abi::datatype_duplicates_words(table.as_ptr(), table.len(), pool.as_ptr(), pool.len(), records, first, second) }).map(count)
 }
 
 /// The size of a record in bytes: 16 for a variable-length type, at most 4,294,967,295 for an array.
@@ -625,5 +746,70 @@ mod tests {
             message.truncate(message.len() + 1 - below(&mut state, message.len() / 2));
             assert_eq!(Type::from_message(&message, 5), by_full_room(&message), "{message:?}");
         }
+    }
+
+    /// Types whose records have gaps, names with leftovers, bytes of two fields, and no fields: messages.
+    fn recorded() -> Vec<Vec<u8>> {
+        let word = [0x10, 0, 0, 0, 2, 0, 0, 0, 0, 0, 16, 0];
+        let name = [0x13, 0, 0, 0, 4, 0, 0, 0];
+        let gaps = [[0x36, 2, 0, 0, 6, 0, 0, 0, b'a', 0, 0].as_slice(), &word, &[b'b', 0, 3], &word].concat();
+        let shared = [[0x36, 2, 0, 0, 6, 0, 0, 0, b'a', 0, 0].as_slice(), &name, &[b'b', 0, 2], &name].concat();
+        let names = [[0x3A, 0, 0, 0, 0, 0, 0, 0, 1, 3, 0, 0, 0].as_slice(), &name].concat();
+        vec![gaps, shared, names, name.to_vec(), word.to_vec(), vec![0x36, 0, 0, 0, 3, 0, 0, 0]]
+    }
+
+    /// The answer by comparing each record with those before it.
+    fn by_pairs(of: &Type, block: &[u8]) -> Duplicates {
+        let records: Vec<&[u8]> = block.chunks_exact(of.size() as usize).collect();
+        let numbers: Vec<u64> = records.iter().map(|k| records.iter().position(|j| of.same(j, k).unwrap()).unwrap() as u64).collect();
+        let firsts = (0..records.len() as u64).filter(|k| numbers[*k as usize] == *k);
+        let sizes = firsts.map(|f| numbers.iter().filter(|n| **n == f).count() as u64).collect();
+        Duplicates { numbers, sizes }
+    }
+
+    #[test]
+    fn duplicates_are_those_of_same() {
+        let mut state = 1;
+        for message in recorded() {
+            let of = Type::from_message(&message, 5).unwrap().0;
+            for _ in 0..300 {
+                let records = below(&mut state, 20);
+                let block: Vec<u8> = (0..records * of.size() as usize).map(|_| below(&mut state, 2) as u8).collect();
+                let expected = by_pairs(&of, &block);
+                let told = duplicates_words(of.table(), of.pool(), records as u64).unwrap();
+                for length in [0, 1, told / 2, told.saturating_sub(1), told, told + 5] {
+                    let mut work: Vec<u64> = (0..length).map(|_| below(&mut state, 1 << 40) as u64).collect();
+                    let (mut numbers, mut sizes) = (vec![77; records + 1], vec![77; records + 1]);
+                    let found = duplicates(of.table(), of.pool(), &block, &mut numbers, &mut sizes, &mut work);
+                    assert_eq!(found, Ok((records, expected.sizes.len())));
+                    assert_eq!((&numbers[..records], numbers[records]), (&expected.numbers[..], 77));
+                    assert_eq!(sizes[..expected.sizes.len()], expected.sizes);
+                    assert!(sizes[expected.sizes.len()..].iter().all(|n| *n == 77));
+                    assert!(work.iter().all(|w| *w == 0));
+                }
+                #[cfg(feature = "std")]
+                assert_eq!(of.duplicates(&block), Ok(expected));
+            }
+        }
+    }
+
+    #[test]
+    fn refused_duplicates_leave_the_lists_as_they_were() {
+        let gaps = Type::from_message(&recorded()[0], 5).unwrap().0;
+        let block = [1, 0, 9, 2, 0, 9, 1, 0, 8, 2, 0, 8, 3, 0, 7, 2, 0, 7];
+        let refused = |length: usize, room: usize, places: usize| {
+            let (mut numbers, mut sizes, mut work) = ([77; 3], [77; 3], [77; 40]);
+            let answer = duplicates(gaps.table(), gaps.pool(), &block[..length], &mut numbers[..room], &mut sizes[..places], &mut work);
+            assert_eq!((numbers, sizes, work), ([77; 3], [77; 3], [0; 40]));
+            answer
+        };
+        assert_eq!(refused(17, 0, 0), Err(Refusal::WrongLength));
+        assert_eq!(refused(18, 2, 0), Err(Refusal::NoRoom { needed: 3 }));
+        assert_eq!(refused(18, 3, 1), Err(Refusal::NoRoom { needed: 2 }));
+        assert_eq!(refused(0, 0, 0), Ok((0, 0)));
+        let region = Type::from_message(&[0x17, 1, 0, 0, 12, 0, 0, 0], 5).unwrap().0;
+        assert_eq!(duplicates(region.table(), region.pool(), &[], &mut [], &mut [], &mut []), Err(Refusal::HeapHeld));
+        assert_eq!(duplicates_words(region.table(), region.pool(), 1), Err(Refusal::HeapHeld));
+        assert_eq!(duplicates_words(&[], &[], 1), Err(Refusal::BadTable));
     }
 }
