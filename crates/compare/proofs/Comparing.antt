@@ -1,21 +1,24 @@
 -- `same`: one law for each way out of it.
 use Prim.Native.Nat.{ℕ, suc, _+_, _-_}
 use mathlib.Core.Path.{_≡_, refl, sym, ap, _∙_}
-use mathlib.Core.Bool.{Bool, true, false}
+use mathlib.Core.Bool.{Bool, true, false, _&&_}
 use mathlib.Core.List.{List}
 use mathlib.Core.Option.{Option, none, some}
 use native.Mathlib.Omega.{arith}
 use lib.ListN.{length}
+use lib.Dec.{eqb}
 use mir.Syntax.{w8}
 use mir.Val.{Fits}
+use Rattle.refusal.specs.declared.Refusal.{Refusal}
 use Rattle.refusal.specs.declared.Refusal.the-variants.{BadTable, ZeroSize, OutsideRecord, HeapHeld, WrongLength}
 use Rattle.format.specs.Datatype.{Datatype, typeSize}
-use Rattle.format.specs.Outcome.{Outcome, gives, refuses, outcomeNumber, outcomeValues}
+use Rattle.format.specs.Outcome.{Outcome, gives, refuses, whenGiven, unless, outcomeNumber, outcomeValues}
 use Rattle.format.specs.Image.{fieldsOf, agree}
-use Rattle.format.specs.Ownership.{outside, heapHeld, comparing}
+use Rattle.format.specs.Ownership.{outside, heapHeld, admitting, admission, comparingRecords, comparing}
 use Rattle.format.specs.Slots.{firstZero}
 use Rattle.format.specs.Table.{found, typeAt}
-use Rattle.format.proofs.Ownership.{comparing-refused, comparing-zero, comparing-outside, comparing-heap, comparing-length, comparing-records}
+use Rattle.format.proofs.Admission.{admission-refused, admission-given}
+use Rattle.format.proofs.Ownership.{admitting-zero, admitting-outside, admitting-heap, admitting-given, comparing-length, comparing-records}
 use Rattle.format.proofs.Same.{owned-agree}
 use Rattle.format.proofs.Table.{type-found}
 use Rattle.format.proofs.Walking.{moved-none, walked-same, walked-differs}
@@ -25,7 +28,9 @@ use Rattle.table.specs.declared.Checked.{Checked}
 use Rattle.table.specs.declared.Checked.the-variants.{Bad}
 use Rattle.table.proofs.Surveys.{Says, told, Told, zero-code}
 use Rattle.table.proofs.ZeroClass.{zero-low}
-use Rattle.compare.specs.Agreeing.{equalRange, Answers, Agrees, AgreesAt, Admits, comparisonNumber, comparisonValues, comparisonOf, sameOrDiffers, Compares}
+use Rattle.compare.specs.Agreeing.{equalRange, Answers, Agrees, AgreesAt, Admits, admissionOf, comparisonNumber, comparisonValues, comparisonOf, sameOrDiffers, Compares}
+use Rattle.compare.specs.declared.Admission.{Admission}
+use Rattle.compare.specs.declared.Admission.the-variants.{Size, Refused as AdmissionRefused}
 use Rattle.compare.specs.declared.Agreed.{Agreed}
 use Rattle.compare.specs.declared.Agreed.the-variants.{Apart, Together, Lost}
 use Rattle.compare.specs.declared.Comparison.{Comparison}
@@ -79,10 +84,6 @@ compares (gives true) e = record { answer = e; number = ap comparisonNumber e; v
 compares (gives false) e = record { answer = e; number = ap comparisonNumber e; values = ap comparisonValues e }
 compares (refuses x) e = record { answer = e; number = ap comparisonNumber e; values = ap comparisonValues e }
 
-pub same-bad : (table pool a b : List ℕ) {x : Checked} → Checks table pool x → x ≡ Bad → Compares (comparing table pool a b) (Refused BadTable)
-unfolding comparisonOf
-same-bad table pool a b h e = compares _ (rw (comparing-refused table pool a b BadTable (h .bad-table e)))
-
 -- by the walk behind the check
 module _ (table pool a b : List ℕ) {r : Bool} (q : comparing table pool a b ≡ gives r) where
   pub same-same : r ≡ true → Compares (comparing table pool a b) Same
@@ -116,35 +117,76 @@ module _ (table pool : List ℕ) {s : Survey} (g : Sets table pool s) where
   heap-is : {c : Bool} → s .heap ≡ c → heapHeld (g .type) ≡ c
   heap-is f = sym (ap (λ (u : Survey). u .heap) (says .is)) ∙ f
 
-  module _ (a b : List ℕ) where
-    pub same-zero : (s .zero ≡ 0 → ⊥) → Compares (comparing table pool a b) (Refused (ZeroSize (s .zero - 1)))
-    unfolding comparisonOf
-    same-zero n = compares _ (rw (comparing-zero table pool a b (g .type) (g .is) (s .zero - 1) (zero-some n)))
+  zero-none : s .zero ≡ 0 → firstZero (g .type) ≡ none
+  zero-none z = zero-code _ (sym zero-is ∙ z)
 
-    module _ (z : s .zero ≡ 0) where
-      sized : firstZero (g .type) ≡ none
-      sized = zero-code _ (sym zero-is ∙ z)
+  given-is : admission table pool ≡ admitting (g .type) (gives (typeSize (g .type)))
+  unfolding admission whenGiven
+  given-is = rw (g .is)
 
-      pub same-outside : s .outside ≡ true → Compares (comparing table pool a b) (Refused OutsideRecord)
-      unfolding comparisonOf
-      same-outside o = compares _ (rw (comparing-outside table pool a b (g .type) (g .is) sized (outside-is o)))
+  pub admit-zero : (s .zero ≡ 0 → ⊥) → AdmissionRefused (ZeroSize (s .zero - 1)) ≡ admissionOf (admission table pool)
+  unfolding admissionOf
+  admit-zero n = rw (given-is, admitting-zero (g .type) (gives (typeSize (g .type))) (s .zero - 1) (zero-some n))
 
-      module _ (o : s .outside ≡ false) where
-        pub same-heap : s .heap ≡ true → Compares (comparing table pool a b) (Refused HeapHeld)
-        unfolding comparisonOf
-        same-heap p = compares _ (rw (comparing-heap table pool a b (g .type) (g .is) sized (outside-is o) (heap-is p)))
+  module _ (z : s .zero ≡ 0) where
+    pub admit-outside : s .outside ≡ true → AdmissionRefused OutsideRecord ≡ admissionOf (admission table pool)
+    unfolding admissionOf
+    admit-outside o = rw (given-is, admitting-outside (g .type) (gives (typeSize (g .type))) (zero-none z) (outside-is o))
 
-        module _ (p : s .heap ≡ false) where
-          wrong : (length a ≡ s .size → length b ≡ s .size → ⊥) → Compares (comparing table pool a b) (Refused WrongLength)
-          unfolding comparisonOf
-          wrong n = compares _ (rw (comparing-length table pool a b (g .type) (g .is) sized (outside-is o) (heap-is p) (λ la lb. n (la ∙ sym size-is) (lb ∙ sym size-is))))
+    module _ (o : s .outside ≡ false) where
+      pub admit-heap : s .heap ≡ true → AdmissionRefused HeapHeld ≡ admissionOf (admission table pool)
+      unfolding admissionOf
+      admit-heap p = rw (given-is, admitting-heap (g .type) (gives (typeSize (g .type))) (zero-none z) (outside-is o) (heap-is p))
 
-          pub same-length : (length a ≡ s .size → ⊥) → Compares (comparing table pool a b) (Refused WrongLength)
-          same-length n = wrong (λ la lb. n la)
+      pub admit-size : s .heap ≡ false → Size (s .size) ≡ admissionOf (admission table pool)
+      unfolding admissionOf
+      admit-size p = rw (given-is, admitting-given (g .type) (gives (typeSize (g .type))) (zero-none z) (outside-is o) (heap-is p), size-is)
 
-          pub same-length-b : (length b ≡ s .size → ⊥) → Compares (comparing table pool a b) (Refused WrongLength)
-          same-length-b n = wrong (λ la lb. n lb)
+pub admit-bad : (table pool : List ℕ) {x : Checked} → Checks table pool x → x ≡ Bad → AdmissionRefused BadTable ≡ admissionOf (admission table pool)
+unfolding admission whenGiven admissionOf
+admit-bad table pool h e = rw (h .bad-table e)
 
-          module _ (la : length a ≡ s .size) (lb : length b ≡ s .size) where
-            pub same-admitted : Admits table pool (length a)
-            same-admitted = record { type = g .type; is = g .is; admitted = record { sized = sized; inside = outside-is o; plain = heap-is p }; size-is = la ∙ size-is }
+-- ---- behind the admission
+
+refused-is : (o : Outcome ℕ) (e : Refusal) → AdmissionRefused e ≡ admissionOf o → o ≡ refuses e
+unfolding admissionOf
+refused-is (gives n) e h = let k : _≡_ {A = ℕ} 0 1 = cc in absurd (omega arith)
+refused-is (refuses f) e h = let k : f ≡ e = cc in ap refuses k
+
+size-given : (o : Outcome ℕ) (n : ℕ) → Size n ≡ admissionOf o → o ≡ gives n
+unfolding admissionOf
+size-given (gives k) n h = let q : k ≡ n = cc in ap gives q
+size-given (refuses f) n h = let k : _≡_ {A = ℕ} 0 1 = cc in absurd (omega arith)
+
+module _ (table pool : List ℕ) {x : Admission} (h : x ≡ admissionOf (admission table pool)) where
+  -- a refusal is that of every call that waits behind the admission
+  pub refused-admission : (e : Refusal) → x ≡ AdmissionRefused e → admission table pool ≡ refuses e
+  refused-admission e q = refused-is (admission table pool) e (sym q ∙ h)
+
+  pub admitted-size : (n : ℕ) → x ≡ Size n → Admits table pool n
+  admitted-size n q =
+      let w = admission-given table pool n (size-given (admission table pool) n (sym q ∙ h)) in
+      record { type = w .type; is = w .is; admitted = record { sized = w .sized; inside = w .inside; plain = w .plain }; size-is = w .size-is }
+
+  pub same-refused : (a b : List ℕ) (e : Refusal) → x ≡ AdmissionRefused e → Compares (comparing table pool a b) (Refused e)
+  unfolding comparisonOf
+  same-refused a b e q =
+      let k : comparing table pool a b ≡ refuses e =
+      unfold comparing comparingRecords in admission-refused table pool (λ t. unless (eqb (length a) (typeSize t) && eqb (length b) (typeSize t)) WrongLength (gives (agree t a b))) e (refused-admission e q) in
+      compares _ (rw k)
+
+module _ (table pool a b : List ℕ) (n : ℕ) (g : Admits table pool n) where
+  wrong : (length a ≡ n → length b ≡ n → ⊥) → Compares (comparing table pool a b) (Refused WrongLength)
+  unfolding comparisonOf
+  wrong u =
+      let d = g .admitted in
+      compares _ (rw (comparing-length table pool a b (g .type) (g .is) (d .sized) (d .inside) (d .plain) (λ la lb. u (la ∙ sym (g .size-is)) (lb ∙ sym (g .size-is)))))
+
+  pub same-length : (length a ≡ n → ⊥) → Compares (comparing table pool a b) (Refused WrongLength)
+  same-length u = wrong (λ la lb. u la)
+
+  pub same-length-b : (length b ≡ n → ⊥) → Compares (comparing table pool a b) (Refused WrongLength)
+  same-length-b u = wrong (λ la lb. u lb)
+
+  pub same-admitted : length a ≡ n → Admits table pool (length a)
+  same-admitted e = rw e g

@@ -18,6 +18,8 @@ use Rattle.rows.specs.declared.Entry.{Entry}
 use Rattle.rows.specs.declared.Entry.the-variants.{Leaf, Compound, Enumeration, VariableLength, Array, Unknown}
 use Rattle.table.specs.Known.{PassesType}
 use Rattle.table.specs.declared.Path.{Path}
+use Rattle.compare.specs.declared.Admission.{Admission}
+use Rattle.compare.specs.declared.Admission.the-variants.{Size, Refused as AdmissionRefused}
 use Rattle.compare.specs.declared.Agreed.{Agreed}
 use Rattle.compare.specs.declared.Agreed.the-variants.{Apart, Together, Lost}
 use Rattle.compare.specs.declared.Base.{Base}
@@ -162,6 +164,11 @@ pub record BaseIs (table pool : List ℕ) (row rank levels : ℕ) (v : Base) : T
 unfoldable pub BaseIn : (table pool : List ℕ) (row rank levels : ℕ) → Based → Type 0
 BaseIn table pool row rank levels (BasedAt v) = BaseIs table pool row rank levels v
 BaseIn table pool row rank levels BasedLost = (a b : List ℕ) (at : ℕ) (x : Agreed) → AgreesArray levels table pool row rank a b at x
+
+-- the answer of `admit` that the definition's is
+unfoldable pub admissionOf : Outcome ℕ → Admission
+admissionOf (gives n) = Size n
+admissionOf (refuses e) = AdmissionRefused e
 
 -- Document 01's number and values of an answer of `same`: 0 and 0 for same, 0 and 1 for differs, or the refusal's
 unfoldable pub comparisonNumber : Comparison → ℕ

@@ -18,11 +18,11 @@ ghost use Prim.Native.Nat.{_+_, _*_, _-_, _≤_, _<_};
 ghost use lib.ListN.{length};
 ghost use Rattle.format.specs.Image.{noNulBetween};
 ghost use Rattle.format.specs.Outcome.{gives};
-ghost use Rattle.format.specs.Ownership.{comparing};
+ghost use Rattle.format.specs.Ownership.{admission, comparing};
 ghost use Rattle.rows.specs.Entries.{RowSays};
 ghost use Rattle.table.specs.Path.{topOf};
 ghost use Rattle.table.specs.Survey.{Sets};
-ghost use Rattle.compare.specs.Agreeing.{equalRange, Equal, Common, nulTerminated, isField, isString, Standing, AgreesAt, AgreesArray, AgreesMembers, AgreesEntries, AgreesEnumeration, AgreesField, AgreesStrings, AgreesFields, StringSame, BaseIn, Admits, Compares};
+ghost use Rattle.compare.specs.Agreeing.{equalRange, Equal, Common, nulTerminated, isField, isString, Standing, AgreesAt, AgreesArray, AgreesMembers, AgreesEntries, AgreesEnumeration, AgreesField, AgreesStrings, AgreesFields, StringSame, BaseIn, Admits, admissionOf, Compares};
 
 // What a walk over a type's fields finds: two bytes of a field differ, or none do, with the next row.
 pub enum Agreed {
@@ -42,6 +42,12 @@ pub struct Base {
 pub enum Based {
     At(Base),
     Lost,
+}
+
+// Whether a type is admitted to comparison: its size, or why not.
+pub enum Admission {
+    Size(u32),
+    Refused(Refusal),
 }
 
 // The answer of `same`.
@@ -488,21 +494,41 @@ pub fn same_records(table: &[u32], pool: &[u8], a: &[u8], b: &[u8]) -> bool
     }
 }
 
-// Two records of a type that the check has surveyed.
-fn same_checked(table: &[u32], pool: &[u8], a: &[u8], b: &[u8], s: Survey) -> Comparison
+// The admission of a type that the check has surveyed.
+fn admit_surveyed(table: &[u32], pool: &[u8], s: Survey) -> Admission
     requires { ⌜ Sets (now table) (now pool) s ⌝ }
-    ensures { λ r. ⌜ Compares (comparing (now (table .entry)) (now (pool .entry)) (now (a .entry)) (now (b .entry))) r ⌝ }
+    ensures { λ r. ⌜ r ≡ admissionOf (admission (now (table .entry)) (now (pool .entry))) ⌝ }
 {
     if s.zero != 0 {
-        return Comparison::Refused(Refusal::ZeroSize((s.zero - 1) as u8));
+        return Admission::Refused(Refusal::ZeroSize((s.zero - 1) as u8));
     }
     if s.outside {
-        return Comparison::Refused(Refusal::OutsideRecord);
+        return Admission::Refused(Refusal::OutsideRecord);
     }
     if s.heap {
-        return Comparison::Refused(Refusal::HeapHeld);
+        return Admission::Refused(Refusal::HeapHeld);
     }
-    let size = s.size as usize;
+    Admission::Size(s.size)
+}
+
+// Whether the type that a table and pool set out is admitted to comparison, and its size. Refused, in this order: BadTable, ZeroSize,
+// OutsideRecord, HeapHeld. Cost: the check, which tests each row and looks at the whole of the lent table and pool.
+pub fn admit(table: &[u32], pool: &[u8]) -> Admission
+    ensures { λ r. ⌜ r ≡ admissionOf (admission (now (table .entry)) (now (pool .entry))) ⌝ }
+{
+    let checked = check(table, pool);
+    match checked {
+        Checked::Bad => Admission::Refused(Refusal::BadTable),
+        Checked::Good(s) => admit_surveyed(table, pool, s),
+    }
+}
+
+// Two records of an admitted type that has a size.
+fn same_sized(table: &[u32], pool: &[u8], a: &[u8], b: &[u8], size: u32) -> Comparison
+    requires { ⌜ Admits (now table) (now pool) size ⌝ }
+    ensures { λ r. ⌜ Compares (comparing (now (table .entry)) (now (pool .entry)) (now (a .entry)) (now (b .entry))) r ⌝ }
+{
+    let size = size as usize;
     if a.len() != size {
         return Comparison::Refused(Refusal::WrongLength);
     }
@@ -521,9 +547,9 @@ fn same_checked(table: &[u32], pool: &[u8], a: &[u8], b: &[u8], s: Survey) -> Co
 pub fn same(table: &[u32], pool: &[u8], a: &[u8], b: &[u8]) -> Comparison
     ensures { λ r. ⌜ Compares (comparing (now (table .entry)) (now (pool .entry)) (now (a .entry)) (now (b .entry))) r ⌝ }
 {
-    let checked = check(table, pool);
-    match checked {
-        Checked::Bad => Comparison::Refused(Refusal::BadTable),
-        Checked::Good(s) => same_checked(table, pool, a, b, s),
+    let admission = admit(table, pool);
+    match admission {
+        Admission::Refused(e) => Comparison::Refused(e),
+        Admission::Size(size) => same_sized(table, pool, a, b, size),
     }
 }

@@ -1,6 +1,6 @@
 // `duplicates`: which records of a block are the same as an earlier one.
-pub mod outcome;
-mod lists;
 mod chains;
+mod lists;
+pub mod outcome;
 mod plain;
 mod records;

@@ -14,7 +14,15 @@ ghost use Rattle.duplicates.specs.Records.{keysIn, Comparable};
 ghost use Rattle.duplicates.specs.Answers.{Listed};
 
 // Whether two records are the same.
-fn same_key<'a>(table: &[u32], pool: &[u8], a: &'a [u8], b: &'a [u8], size: usize, j: usize, k: usize) -> bool
+fn same_key<'a>(
+    table: &[u32],
+    pool: &[u8],
+    a: &'a [u8],
+    b: &'a [u8],
+    size: usize,
+    j: usize,
+    k: usize,
+) -> bool
     requires { ⌜ Comparable (now table) (now pool) (now a) (now b) size ⌝ }
     requires { ⌜ (j < length (keysIn (now table) (now pool) (now a) (now b) size)) × (k < length (keysIn (now table) (now pool) (now a) (now b) size)) ⌝ }
     ensures { λ r. ⌜ r ≡ sameWords (keyAt (keysIn (now (table .entry)) (now (pool .entry)) (now (a .entry)) (now (b .entry)) size) j) (keyAt (keysIn (now (table .entry)) (now (pool .entry)) (now (a .entry)) (now (b .entry)) size) k) ⌝ }
@@ -24,7 +32,14 @@ fn same_key<'a>(table: &[u32], pool: &[u8], a: &'a [u8], b: &'a [u8], size: usiz
     same_records(table, pool, x, y)
 }
 
-fn first_of<'a>(table: &[u32], pool: &[u8], a: &'a [u8], b: &'a [u8], size: usize, k: usize) -> usize
+fn first_of<'a>(
+    table: &[u32],
+    pool: &[u8],
+    a: &'a [u8],
+    b: &'a [u8],
+    size: usize,
+    k: usize,
+) -> usize
     requires { ⌜ Comparable (now table) (now pool) (now a) (now b) size ⌝ }
     requires { ⌜ k < length (keysIn (now table) (now pool) (now a) (now b) size) ⌝ }
     ensures { λ r. ⌜ r ≡ firstOf (keysIn (now (table .entry)) (now (pool .entry)) (now (a .entry)) (now (b .entry)) size) k ⌝ }
@@ -39,7 +54,14 @@ fn first_of<'a>(table: &[u32], pool: &[u8], a: &'a [u8], b: &'a [u8], size: usiz
     k
 }
 
-fn count_firsts<'a>(table: &[u32], pool: &[u8], a: &'a [u8], b: &'a [u8], size: usize, n: usize) -> usize
+fn count_firsts<'a>(
+    table: &[u32],
+    pool: &[u8],
+    a: &'a [u8],
+    b: &'a [u8],
+    size: usize,
+    n: usize,
+) -> usize
     requires { ⌜ Comparable (now table) (now pool) (now a) (now b) size ⌝ }
     requires { ⌜ n ≡ length (keysIn (now table) (now pool) (now a) (now b) size) ⌝ }
     ensures { λ r. ⌜ r ≡ distinctOf (keysIn (now (table .entry)) (now (pool .entry)) (now (a .entry)) (now (b .entry)) size) ⌝ }
@@ -55,7 +77,15 @@ fn count_firsts<'a>(table: &[u32], pool: &[u8], a: &'a [u8], b: &'a [u8], size: 
     d
 }
 
-fn plain_numbers<'a>(table: &[u32], pool: &[u8], a: &'a [u8], b: &'a [u8], size: usize, n: usize, numbers: &mut [u64])
+fn plain_numbers<'a>(
+    table: &[u32],
+    pool: &[u8],
+    a: &'a [u8],
+    b: &'a [u8],
+    size: usize,
+    n: usize,
+    numbers: &mut [u64],
+)
     requires { ⌜ Comparable (now table) (now pool) (now a) (now b) size ⌝ }
     requires { ⌜ n ≡ length (keysIn (now table) (now pool) (now a) (now b) size) ⌝ }
     requires { ⌜ n ≤ length (now numbers) ⌝ }
@@ -69,7 +99,16 @@ fn plain_numbers<'a>(table: &[u32], pool: &[u8], a: &'a [u8], b: &'a [u8], size:
     }
 }
 
-pub fn plain<'a>(table: &[u32], pool: &[u8], a: &'a [u8], b: &'a [u8], size: usize, n: usize, numbers: &mut [u64], sizes: &mut [u64]) -> Duplicates
+pub fn plain<'a>(
+    table: &[u32],
+    pool: &[u8],
+    a: &'a [u8],
+    b: &'a [u8],
+    size: usize,
+    n: usize,
+    numbers: &mut [u64],
+    sizes: &mut [u64],
+) -> Duplicates
     requires { ⌜ Comparable (now table) (now pool) (now a) (now b) size ⌝ }
     requires { ⌜ n ≡ length (keysIn (now table) (now pool) (now a) (now b) size) ⌝ }
     requires { ⌜ n ≤ length (now numbers) ⌝ }

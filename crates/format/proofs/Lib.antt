@@ -31,4 +31,5 @@ pub mod Cases
 pub mod RowCases
 pub mod Bounds
 pub mod WritingBounds
+pub mod Admission
 pub mod AdmissionBounds

@@ -102,6 +102,10 @@ unfoldable mutual
 unfoldable pub admitting : {A : Type 0} → Datatype → Outcome A → Outcome A
 admitting t x = unlessZero (firstZero t) (unless (not (outside t)) OutsideRecord (unless (not (heapHeld t)) HeapHeld x))
 
+-- the size of the type that a table and pool set out, if it is admitted: refusals 1, 12, 16 and 17, in this order
+unfoldable pub admission : (table pool : List ℕ) → Outcome ℕ
+admission table pool = whenGiven (typeOf table pool) (λ t. admitting t (gives (typeSize t)))
+
 -- "a whole record has exactly the type's size in bytes"; true is same
 unfoldable pub comparingRecords : (a b : List ℕ) → Datatype → Outcome Bool
 comparingRecords a b t =
