@@ -15,7 +15,7 @@ use Rattle.groups.specs.Chains.{namesIn, Tallied}
 use Rattle.groups.proofs.Firsts.{length-numbers}
 use Rattle.groups.proofs.Counts.{length-sizes}
 use Rattle.groups.proofs.Building.{length-names}
-use Rattle.duplicates.specs.Answers.{fitting, written, Listed}
+use Rattle.duplicates.specs.Answers.{fittingAnswer, written, Listed}
 use Rattle.duplicates.specs.declared.outcome.Duplicates.{Duplicates}
 use Rattle.duplicates.specs.declared.outcome.Duplicates.the-variants.{Found, Refused}
 
@@ -26,13 +26,13 @@ module _ (ns : List ℕ) (n d : ℕ) (m s : List ℕ) (e : length ns ≡ n) (g :
   groups = g ∙ ap (λ (k : ℕ). length (firstsTo ns k)) (sym e)
 
   pub listed-full : length s < d → Listed ns (Refused (NoRoom d)) m m s s
-  unfolding fitting written
+  unfolding fittingAnswer written
   listed-full h =
       let q : ltb (length s) (length (firstsTo ns (length ns))) ≡ true = rw (← groups) (lt-ltb (length s) d h) in
       record { answer = rw q (ap (λ (k : ℕ). Refused (NoRoom k)) groups); numbers-are = refl; sizes-are = refl }
 
   pub listed-found : (m′ s′ : List ℕ) → d ≤ length s → n ≤ length m → m′ ≡ sets m 0 ns → s′ ≡ sets s 0 (sizesTo ns n) → Listed ns (Found n d) m m′ s s′
-  unfolding fitting written
+  unfolding fittingAnswer written
   listed-found m′ s′ h r a b =
       let q : ltb (length s) (length (firstsTo ns (length ns))) ≡ false = rw (← groups) (le-ltb (length s) d h) in
       let t : Found n d ≡ Found (length ns) (length (firstsTo ns (length ns))) = rw (e, g) in

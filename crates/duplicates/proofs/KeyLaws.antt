@@ -34,7 +34,7 @@ module _ (fs : List Field) (block : List ℕ) (size : ℕ) where
 
 -- ---- by the fields of a type
 
-fields-in : (table pool : List ℕ) (size : ℕ) (g : Admits table pool size) → fieldsIn table pool ≡ fieldsOf (g .type)
+pub fields-in : (table pool : List ℕ) (size : ℕ) (g : Admits table pool size) → fieldsIn table pool ≡ fieldsOf (g .type)
 unfolding fieldsIn fieldsGiven
 fields-in table pool size g = rw (g .is)
 

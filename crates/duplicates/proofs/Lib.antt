@@ -1,4 +1,7 @@
 pub mod Answers
+pub mod Calls
 pub mod Chaining
+pub mod Compiling
 pub mod KeyLaws
 pub mod Places
+pub mod WordLaws

@@ -1,5 +1,5 @@
 -- What `duplicates` promises.
-use Prim.Native.Nat.{ℕ}
+use Prim.Native.Nat.{ℕ, _+_, _<_, _≤_}
 use mathlib.Core.Path.{_≡_}
 use mathlib.Core.Bool.{cond}
 use mathlib.Core.List.{List, [], _∷_, _++_}
@@ -8,9 +8,11 @@ use lib.Dec.{ltb}
 use Rattle.refusal.specs.Refusal.{numberOf, valuesOf}
 use Rattle.refusal.specs.declared.Refusal.the-variants.{NoRoom}
 use Rattle.format.specs.Bytes.{zeros}
-use Rattle.format.specs.Outcome.{Outcome, gives, refuses, whenGiven, outputAfter, outcomeNumber, outcomeList}
+use Rattle.format.specs.Image.{Field}
+use Rattle.format.specs.Outcome.{Outcome, gives, refuses, whenGiven, outputAfter, outcomeNumber, outcomeValues}
 use Rattle.groups.specs.Groups.{firstsTo, sizesTo}
-use Rattle.groups.specs.Duplicates.{Groups, duplicating}
+use Rattle.groups.specs.Duplicates.{Groups}
+use Rattle.groups.specs.Runs.{wordsOf}
 use Rattle.duplicates.specs.declared.outcome.Duplicates.{Duplicates}
 use Rattle.duplicates.specs.declared.outcome.Duplicates.the-variants.{Found, Refused}
 
@@ -40,8 +42,8 @@ unfoldable pub sizesGiven : Outcome Groups → Outcome (List ℕ)
 sizesGiven o = whenGiven o (λ g. gives (g .sizes))
 
 -- n records, d of them distinct, with room for so many groups
-unfoldable pub fitting : (n d places : ℕ) → Duplicates
-fitting n d places = cond (ltb places d) (Refused (NoRoom d)) (Found n d)
+unfoldable pub fittingAnswer : (n d places : ℕ) → Duplicates
+fittingAnswer n d places = cond (ltb places d) (Refused (NoRoom d)) (Found n d)
 
 -- a lent list afterwards: the result and nothing past it, or untouched
 unfoldable pub written : Duplicates → (result old : List ℕ) → List ℕ
@@ -50,7 +52,7 @@ written (Refused e) result old = old
 
 -- where the records can be listed: ns names the first of each
 pub record Listed (ns : List ℕ) (r : Duplicates) (numbers numbers′ sizes sizes′ : List ℕ) : Type 0 where
-  pub answer : r ≡ fitting (length ns) (length (firstsTo ns (length ns))) (length sizes)
+  pub answer : r ≡ fittingAnswer (length ns) (length (firstsTo ns (length ns))) (length sizes)
   pub numbers-are : numbers′ ≡ written r ns numbers
   pub sizes-are : sizes′ ≡ written r (sizesTo ns (length ns)) sizes
 
@@ -64,7 +66,12 @@ pub record Answered (o : Outcome Groups) (r : Duplicates) (numbers numbers′ si
 pub record DuplicatesAre (o : Outcome Groups) (r : Duplicates) (numbers numbers′ sizes sizes′ work work′ : List ℕ) : Type 0 where
   pub answer : r ≡ answerOf o
   pub number : duplicatesNumber r ≡ outcomeNumber o
-  pub values : duplicatesValues r ≡ outcomeList groupsValues o
+  pub values : duplicatesValues r ≡ outcomeValues groupsValues o
   pub numbers-are : numbers′ ≡ outputAfter numbers (numbersGiven o)
   pub sizes-are : sizes′ ≡ outputAfter sizes (sizesGiven o)
   pub work-is : work′ ≡ zeros (length work)
+
+-- how many heads a workspace has room for before the links and firsts of n records and the runs, which stand at its end
+pub record Heads (rs : List Field) (n r : ℕ) (w : List ℕ) : Type 0 where
+  pub room : 0 < r → r + n + n ≤ length w
+  pub words : 0 < r → drop (r + n + n) w ≡ wordsOf rs

@@ -1,3 +1,4 @@
 pub mod Answers
 pub mod Chaining
 pub mod Records
+pub mod WordCount

@@ -1,0 +1,201 @@
+-- `duplicates` and `duplicates_words`: one law for each way out.
+use Prim.Native.Nat.{ℕ, _+_, _-_, _*_, _/_, _%_, _<_, _≤_, min}
+use mathlib.Core.Path.{_≡_, refl, sym, ap, _∙_}
+use mathlib.Core.Logic.{⊎-elim}
+use mathlib.Core.Bool.{true, false}
+use mathlib.Core.List.{List, [], _∷_, _++_, append-nil}
+use native.Mathlib.Omega.{arith}
+use native.Mathlib.Nat.{zero-mod, div-le-self}
+use lib.ListN.{length, getD, drop, replicate, drop-of-length-le}
+use lib.Dec.{ltb, leb, eqb}
+use borrow.Author.Tests.{lt-ltb, le-ltb, le-leb, lt-leb, ltb-true, ltb-false, eq-eqb, ne-eqb}
+use Rattle.refusal.specs.declared.Refusal.{Refusal}
+use Rattle.refusal.specs.declared.Refusal.the-variants.{WrongLength, NoRoom}
+use Rattle.format.specs.Bytes.{zeros}
+use Rattle.format.specs.Datatype.{Datatype, typeSize}
+use Rattle.format.specs.Image.{fieldsOf}
+use Rattle.format.specs.Outcome.{Outcome, gives, refuses, whenGiven, unless, needed, outputAfter, outcomeNumber, outcomeValues}
+use Rattle.format.specs.Ownership.{admitting, admission}
+use Rattle.format.specs.Table.{typeOf}
+use Rattle.format.proofs.Admission.{admission-refused}
+use Rattle.format.proofs.Booleans.{true-or-false}
+use Rattle.format.proofs.Ownership.{admitting-given}
+use Rattle.format.proofs.Slots.{first-zero-size}
+use Rattle.compare.specs.Agreeing.{Admits, admissionOf}
+use Rattle.compare.specs.declared.Admission.{Admission}
+use Rattle.compare.specs.declared.Admission.the-variants.{Size, Refused as AdmissionRefused}
+use Rattle.compare.proofs.Comparing.{refused-admission}
+use Rattle.groups.specs.Groups.{numbersOf, firstsTo, sizesTo, firstsOf, distinctOf, sizesOf}
+use Rattle.groups.specs.Duplicates.{Groups, keysOf, fieldsIn, groupsOf, fitting, duplicatingRecords, duplicating}
+use Rattle.groups.proofs.Firsts.{length-numbers}
+use Rattle.groups.proofs.Counts.{length-sizes, firsts-le}
+use Rattle.duplicates.specs.Answers.{duplicatesNumber, duplicatesValues, groupsValues, answerOf, numbersGiven, sizesGiven, fittingAnswer, written, Listed, Answered, DuplicatesAre}
+use Rattle.duplicates.specs.Records.{Whole, keysIn, Comparable}
+use Rattle.duplicates.specs.declared.outcome.Duplicates.{Duplicates}
+use Rattle.duplicates.specs.declared.outcome.Duplicates.the-variants.{Found, Refused}
+use Rattle.duplicates.proofs.KeyLaws.{length-keys, fields-in}
+
+-- ---- a refusal leaves both lists as they are
+
+pub record-refused : (o : Outcome Groups) (e : Refusal) (m s : List ℕ) → o ≡ refuses e → Answered o (Refused e) m m s s
+unfolding answerOf numbersGiven sizesGiven whenGiven outputAfter
+record-refused o e m s h = rw h (record { answer = refl; numbers-are = refl; sizes-are = refl })
+
+pub answer-refused : (table pool block m s : List ℕ) {x : Admission} → x ≡ admissionOf (admission table pool) → (e : Refusal) → x ≡ AdmissionRefused e
+    → Answered (duplicating table pool block (length m) (length s)) (Refused e) m m s s
+answer-refused table pool block m s h e q =
+    record-refused (duplicating table pool block (length m) (length s)) e m s
+    (unfold duplicating duplicatingRecords in admission-refused table pool (λ t. unless (eqb (length block % typeSize t) 0) WrongLength (fitting (length m) (length s) (keysOf (fieldsOf t) block (typeSize t)))) e (refused-admission table pool h e q))
+
+-- ---- what is written, by the answer
+
+written-refused : (r : Duplicates) (e : Refusal) (x y : List ℕ) → r ≡ Refused e → written r x y ≡ y
+unfolding written
+written-refused r e x y h = rw h
+
+written-found : (r : Duplicates) (n d : ℕ) (x y : List ℕ) → r ≡ Found n d → written r x y ≡ x ++ drop (length x) y
+unfolding written
+written-found r n d x y h = rw h
+
+fits-not : (n d places : ℕ) → ltb places d ≡ true → fittingAnswer n d places ≡ Refused (NoRoom d)
+unfolding fittingAnswer
+fits-not n d places q = rw q
+
+fits-all : (n d places : ℕ) → ltb places d ≡ false → fittingAnswer n d places ≡ Found n d
+unfolding fittingAnswer
+fits-all n d places q = rw q
+
+-- ---- an admitted type
+
+pub admits-some : (table pool : List ℕ) (size : ℕ) → Admits table pool size → 0 < size
+admits-some table pool size g = omega (arith, g .size-is, first-zero-size (g .type) (g .admitted .sized))
+
+module _ (table pool block : List ℕ) (size : ℕ) (g : Admits table pool size) where
+  abbrev keys : List (List ℕ)
+  keys = keysIn table pool block [] size
+
+  keys-type : keysOf (fieldsOf (g .type)) block (typeSize (g .type)) ≡ keys
+  unfolding keysIn
+  keys-type = rw (append-nil block, fields-in table pool size g, g .size-is)
+
+  pub keys-count : (n : ℕ) → n ≡ length block / size → n ≡ length keys
+  unfolding keysIn
+  keys-count n e = e ∙ sym (length-keys (fieldsIn table pool) (block ++ []) size ∙ ap (λ (x : List ℕ). length x / size) (append-nil block))
+
+  pub keys-comparable : length block % size ≡ 0 → Comparable table pool block [] size
+  keys-comparable h = record { admits = g; whole = record { some = admits-some table pool size g; first = h; second = zero-mod size } }
+
+  module _ (room places : ℕ) where
+    given : duplicating table pool block room places ≡ unless (eqb (length block % size) 0) WrongLength (fitting room places keys)
+    unfolding duplicating duplicatingRecords whenGiven
+    given = rw (g .is, ← keys-type, g .size-is) (admitting-given (g .type) _ (g .admitted .sized) (g .admitted .inside) (g .admitted .plain))
+
+  module _ (m s : List ℕ) where
+    pub sized-length : (length block % size ≡ 0 → ⊥) → Answered (duplicating table pool block (length m) (length s)) (Refused WrongLength) m m s s
+    unfolding unless
+    sized-length d = record-refused _ WrongLength m s (given (length m) (length s) ∙ rw (ne-eqb (length block % size) 0 d))
+
+    module _ (h : length block % size ≡ 0) (n : ℕ) (e : n ≡ length block / size) (low : length block * 1 < 9223372036854775808) where
+      low-number : n < 9223372036854775808
+      low-number = omega (arith, div-le-self (length block) size)
+
+      whole : duplicating table pool block (length m) (length s) ≡ fitting (length m) (length s) keys
+      unfolding unless
+      whole = given (length m) (length s) ∙ rw (eq-eqb (length block % size) 0 h)
+
+      pub sized-room : length m < n → Answered (duplicating table pool block (length m) (length s)) (Refused (NoRoom n)) m m s s
+      unfolding fitting unless needed
+      sized-room l =
+          let k : length keys ≡ n = sym (keys-count n e) in
+          let c : min n 18446744073709551615 ≡ n = omega (arith, low-number) in
+          record-refused _ (NoRoom n) m s (whole ∙ rw (k, lt-leb n (length m) l, c))
+
+      module _ (l : n ≤ length m) where
+        roomy : duplicating table pool block (length m) (length s) ≡ unless (leb (distinctOf keys) (length s)) (NoRoom (needed (distinctOf keys))) (gives (groupsOf keys))
+        unfolding fitting unless
+        roomy = whole ∙ (let k : length keys ≡ n = sym (keys-count n e) in rw (k, le-leb n (length m) l))
+
+        few : distinctOf keys ≤ n
+        unfolding distinctOf firstsOf
+        few = omega (arith, firsts-le (numbersOf keys) (length keys), keys-count n e)
+
+        full : distinctOf keys ≤ length s → duplicating table pool block (length m) (length s) ≡ gives (groupsOf keys)
+        unfolding unless
+        full q = roomy ∙ rw (le-leb (distinctOf keys) (length s) q)
+
+        short : length s < distinctOf keys → duplicating table pool block (length m) (length s) ≡ refuses (NoRoom (distinctOf keys))
+        unfolding unless needed
+        short q =
+            let c : min (distinctOf keys) 18446744073709551615 ≡ distinctOf keys = omega (arith, few, low-number) in
+            roomy ∙ rw (lt-leb (distinctOf keys) (length s) q, c)
+
+        module _ (r : Duplicates) (m′ s′ : List ℕ) (v : Listed (numbersOf keys) r m m′ s s′) where
+          answer-is : r ≡ fittingAnswer (length keys) (distinctOf keys) (length s)
+          unfolding distinctOf firstsOf
+          answer-is = rw (length-numbers keys) at (v .answer)
+
+          sizes-is : s′ ≡ written r (sizesOf keys) s
+          unfolding sizesOf
+          sizes-is = rw (length-numbers keys) at (v .sizes-are)
+
+          sizes-long : length (sizesOf keys) ≡ distinctOf keys
+          unfolding sizesOf distinctOf firstsOf
+          sizes-long = length-sizes (numbersOf keys) (length keys)
+
+          listed-short : ltb (length s) (distinctOf keys) ≡ true → Answered (duplicating table pool block (length m) (length s)) r m m′ s s′
+          listed-short q =
+              let a : r ≡ Refused (NoRoom (distinctOf keys)) = answer-is ∙ fits-not (length keys) (distinctOf keys) (length s) q in
+              let u : m′ ≡ m = v .numbers-are ∙ written-refused r (NoRoom (distinctOf keys)) (numbersOf keys) m a in
+              let x : s′ ≡ s = sizes-is ∙ written-refused r (NoRoom (distinctOf keys)) (sizesOf keys) s a in
+              rw (a, u, x) (record-refused _ (NoRoom (distinctOf keys)) m s (short (ltb-true (length s) (distinctOf keys) q)))
+
+          listed-full : ltb (length s) (distinctOf keys) ≡ false → Answered (duplicating table pool block (length m) (length s)) r m m′ s s′
+          unfolding answerOf numbersGiven sizesGiven whenGiven outputAfter groupsOf
+          listed-full q =
+              let a : r ≡ Found (length keys) (distinctOf keys) = answer-is ∙ fits-all (length keys) (distinctOf keys) (length s) q in
+              let u : m′ ≡ numbersOf keys ++ drop (length (numbersOf keys)) m = v .numbers-are ∙ written-found r (length keys) (distinctOf keys) (numbersOf keys) m a in
+              let x : s′ ≡ sizesOf keys ++ drop (length (sizesOf keys)) s = sizes-is ∙ written-found r (length keys) (distinctOf keys) (sizesOf keys) s a in
+              rw (full (ltb-false (length s) (distinctOf keys) q))
+              (record { answer = a ∙ rw (length-numbers keys, sizes-long); numbers-are = u; sizes-are = x })
+
+          pub sized-listed : Answered (duplicating table pool block (length m) (length s)) r m m′ s s′
+          sized-listed = ⊎-elim listed-short listed-full (true-or-false (ltb (length s) (distinctOf keys)))
+
+-- the same with a second block that is empty
+module _ (table pool block : List ℕ) (size : ℕ) (g : Admits table pool size) {none : List ℕ} (z : none ≡ []) where
+  pub none-comparable : length block % size ≡ 0 → Comparable table pool block none size
+  none-comparable h = rw z (keys-comparable table pool block size g h)
+
+  pub none-count : (n : ℕ) → n ≡ length block / size → n ≡ length (keysIn table pool block none size)
+  none-count n e = rw z (keys-count table pool block size g n e)
+
+  pub none-listed : (m s : List ℕ) (n : ℕ) (r : Duplicates) (m′ s′ : List ℕ) → Listed (numbersOf (keysIn table pool block none size)) r m m′ s s′ → length block % size ≡ 0 → n ≡ length block / size
+      → length block * 1 < 9223372036854775808 → n ≤ length m → Answered (duplicating table pool block (length m) (length s)) r m m′ s s′
+  none-listed m s n r m′ s′ v h e low l = sized-listed table pool block size g m s h n e low l r m′ s′ (rw z at v)
+
+-- ---- the whole call
+
+told : (o : Outcome Groups) (r : Duplicates) → r ≡ answerOf o → (duplicatesNumber r ≡ outcomeNumber o) × (duplicatesValues r ≡ outcomeValues groupsValues o)
+unfolding answerOf duplicatesNumber duplicatesValues outcomeNumber outcomeValues groupsValues
+told (gives g) r e = (ap duplicatesNumber e, ap duplicatesValues e)
+told (refuses x) r e = (ap duplicatesNumber e, ap duplicatesValues e)
+
+pub all-told : (o : Outcome Groups) (r : Duplicates) (m m′ s s′ w w′ w″ : List ℕ) → Answered o r m m′ s s′ → length w′ ≡ length w
+    → w″ ≡ replicate (length w′) 0 ++ drop (length w′) w′ → DuplicatesAre o r m m′ s s′ w w″
+unfolding zeros
+all-told o r m m′ s s′ w w′ w″ a l z =
+    let t = told o r (a .answer) in
+    let o : length w′ ≤ length w′ = omega arith in
+    let d : drop (length w′) w′ ≡ [] = drop-of-length-le w′ o in
+    record {
+      answer = a .answer;
+      number = t .0;
+      values = t .1;
+      numbers-are = a .numbers-are;
+      sizes-are = a .sizes-are;
+      work-is = z ∙ rw (d, append-nil, l);
+    }
+
+pub word-none : (w : List ℕ) → length w ≡ 0 → 0 ≡ getD w 0 0
+word-none [] e = refl
+word-none (x ∷ w) e = absurd (omega arith)
