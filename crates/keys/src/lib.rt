@@ -161,48 +161,64 @@ fn same_eight(a: &[u8], b: &[u8], at: usize) -> bool
     word(a, at + 4) == word(b, at + 4)
 }
 
-// Whether n bytes from `at` on are equal, fewer than 8.
-fn same_rest(a: &[u8], b: &[u8], at: usize, n: usize) -> bool
-    requires { ⌜ (at + n ≤ length (now a)) × (at + n ≤ length (now b)) × (n < 8) ⌝ }
+// Whether n bytes from `at` on are equal, at most 8: the first 4 and the last 4, or the first, the middle and the last.
+fn same_short(a: &[u8], b: &[u8], at: usize, n: usize) -> bool
+    requires { ⌜ (at + n ≤ length (now a)) × (at + n ≤ length (now b)) × (n ≤ 8) ⌝ }
     ensures { λ r. ⌜ r ≡ equalRange (now (a .entry)) (now (b .entry)) at n ⌝ }
 {
-    if n < 4 {
-        return short_word(a, at, n) == short_word(b, at, n);
+    if n >= 4 {
+        if word(a, at) != word(b, at) {
+            return false;
+        }
+        let last = n - 4;
+        return word(a, at + last) == word(b, at + last);
     }
-    if word(a, at) != word(b, at) {
+    if n == 0 {
+        return true;
+    }
+    if a[at] != b[at] {
         return false;
     }
-    short_word(a, at + 4, n - 4) == short_word(b, at + 4, n - 4)
+    let middle = n / 2;
+    if a[at + middle] != b[at + middle] {
+        return false;
+    }
+    let last = n - 1;
+    a[at + last] == b[at + last]
 }
 
-// Whether n bytes from `at` on are equal, eight at a time.
+// Whether n bytes from `at` on are equal, more than 8: eight at a time, and the last 8.
 fn same_few(a: &[u8], b: &[u8], at: usize, n: usize) -> bool
-    requires { ⌜ (at + n ≤ length (now a)) × (at + n ≤ length (now b)) ⌝ }
+    requires { ⌜ (at + n ≤ length (now a)) × (at + n ≤ length (now b)) × (8 < n) ⌝ }
     ensures { λ r. ⌜ r ≡ equalRange (now (a .entry)) (now (b .entry)) at n ⌝ }
 {
     let mut i = 0;
-    while n - i >= 8 {
+    while n - i > 8 {
         if same_eight(a, b, at + i) {
             i += 8;
         } else {
             return false;
         }
     }
-    same_rest(a, b, at + i, n - i)
+    let last = n - 8;
+    same_eight(a, b, at + last)
 }
 
-// Whether n bytes from `at` on are equal: whole blocks of 128 side by side, then eight at a time.
+// Whether n bytes from `at` on are equal. Of 128 and more, whole blocks side by side, and the last block.
 fn same_bytes(a: &[u8], b: &[u8], at: usize, n: usize) -> bool
     requires { ⌜ (at + n ≤ length (now a)) × (at + n ≤ length (now b)) ⌝ }
     ensures { λ r. ⌜ r ≡ equalRange (now (a .entry)) (now (b .entry)) at n ⌝ }
 {
+    if n <= 8 {
+        return same_short(a, b, at, n);
+    }
     if n < 128 {
         return same_few(a, b, at, n);
     }
-    let rest = n % 128;
-    let blocks = n - rest;
+    let blocks = n - n % 128;
     if equal_range(a, b, at, blocks) {
-        return same_few(a, b, at + blocks, rest);
+        let last = n - 128;
+        return equal_range(a, b, at + last, 128);
     }
     false
 }

@@ -1,4 +1,4 @@
-use Rattle.keys.proofs.Ranges.{eight-stop, eight-more}
+use Rattle.keys.proofs.Ranges.{eight-stop, eight-last}
 use borrow.Author.Needs.{needs}
 use Rattle.keys.proofs.same_eight.Statement.{statement}
 use Rattle.keys.proofs.same_eight.Tie as tie
@@ -7,7 +7,7 @@ returns : tie.Need-returns
 returns c = search eight-stop
 
 returns-2 : tie.Need-returns-2
-returns-2 c = search eight-more
+returns-2 c = search eight-last
 
 pub same-eight-spec : {M : Type 1} → statement M
 same-eight-spec =
