@@ -232,6 +232,10 @@ fn same_run(a: &[u8], b: &[u8], place: usize, code: u64) -> bool
     if code % 2 == 1 {
         return equal_string(a, b, place, n);
     }
+    // Most runs are so short; here so that the loop over runs makes no call for them.
+    if n <= 8 {
+        return same_short(a, b, place, n);
+    }
     same_bytes(a, b, place, n)
 }
 
