@@ -1,13 +1,13 @@
 -- Bytes hashed eight at a time.
-use Prim.Native.Nat.{ℕ, zero, suc, _+_, _-_, _*_, _/_, _%_, _<_, _≤_}
-use mathlib.Core.Path.{_≡_, refl, sym, ap, _∙_}
-use mathlib.Core.List.{List, [], _∷_}
+use Prim.Native.Nat.{ℕ, suc, _+_, _-_, _/_, _<_, _≤_}
+use mathlib.Core.Path.{_≡_, refl, sym, _∙_}
+use mathlib.Core.List.{List, []}
 use native.Mathlib.Omega.{arith}
-use lib.ListN.{length, getD, take, drop, drop-of-length-le}
-use lib.Seq.{take-all, take-take, drop-drop, take-nil}
+use lib.ListN.{length, take, drop, drop-of-length-le}
+use lib.Seq.{take-all, take-take, drop-drop}
 use Rattle.format.specs.Bytes.{numberFrom}
 use Rattle.format.proofs.Lists.{length-part, drop-take}
-use Rattle.keys.specs.Hash.{Small, step, hashChunks, hashBytes}
+use Rattle.keys.specs.Hash.{step, hashChunks, hashBytes}
 use Rattle.keys.specs.Runs.{Word, Steps, Hashed}
 use Rattle.keys.specs.declared.Multipliers.{Multipliers}
 

@@ -1,12 +1,12 @@
 -- Runs of a record and of its image: one hash; and when two images are equal.
-use Prim.Native.Nat.{ℕ, zero, suc, _+_, _%_, _<_, _≤_}
+use Prim.Native.Nat.{ℕ, _+_, _%_, _<_, _≤_}
 use mathlib.Core.Path.{_≡_, refl, sym, ap, _∙_}
 use mathlib.Core.Logic.{⊎-elim}
 use mathlib.Core.Bool.{Bool, true, false}
 use mathlib.Core.List.{List, [], _∷_, List·Memᴰ, List·Memᴰ·head, List·Memᴰ·tail, List·Memᴰ·not-nil, List·Memᴰ·cases-cons}
 use native.Mathlib.Omega.{arith}
-use lib.ListN.{length, getD}
-use Rattle.format.specs.Image.{Field, ownedBy, countedBy, countedIn, takenIn, imageFrom, comparedOf, FieldsAgree, FieldsDiffer}
+use lib.ListN.{length}
+use Rattle.format.specs.Image.{Field, ownedBy, countedIn, imageFrom, comparedOf, FieldsDiffer}
 use Rattle.format.specs.Table.{sameWords}
 use Rattle.format.proofs.Booleans.{not-true-false}
 use Rattle.format.proofs.Image.{counted-owned, owned-says, BothSay, counted-some, taken-counted, length-image, images-at, both-each, both-image, both-images, both-compared}

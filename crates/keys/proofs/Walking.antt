@@ -1,20 +1,19 @@
 -- The runs that words say, one after another.
-use Prim.Native.Nat.{ℕ, zero, suc, _+_, _-_, _*_, _/_, _%_, _<_, _≤_}
+use Prim.Native.Nat.{ℕ, suc, _+_, _-_, _/_, _%_, _<_, _≤_}
 use mathlib.Core.Path.{_≡_, refl, sym, ap, _∙_}
-use mathlib.Core.Bool.{Bool, true, false, cond, false≢true}
-use mathlib.Core.List.{List, [], _∷_, _++_}
+use mathlib.Core.Bool.{Bool, true, false, false≢true}
+use mathlib.Core.List.{List, [], _∷_}
 use native.Mathlib.Omega.{arith}
 use native.Mathlib.Numerals.{add-one}
 use lib.ListN.{length, getD, take, drop, length-drop}
-use lib.Dec.{eqb}
 use lib.Seq.{drop-cons}
 use borrow.Author.Tests.{eq-eqb, ne-eqb}
-use Rattle.format.specs.Image.{Field, bytesOf, comparedOf, upToNul, imageFrom, FieldsAgree, FieldsDiffer}
+use Rattle.format.specs.Image.{bytesOf, comparedOf, imageFrom}
 use Rattle.format.proofs.Walking.{agree-none, agree-both, differ-first, differ-second}
 use Rattle.compare.specs.Agreeing.{equalRange, AgreesField, StringSame}
 use Rattle.compare.proofs.Ranges.{field-same, field-differs}
 use Rattle.groups.specs.Runs.{runsIn, Inside}
-use Rattle.keys.specs.Hash.{Small, hashBytes, hashRuns, hashOf}
+use Rattle.keys.specs.Hash.{hashRuns, hashOf}
 use Rattle.keys.specs.Runs.{runAt, SameIn, Hashed, UpTo}
 use Rattle.keys.specs.declared.Multipliers.{Multipliers}
 use Rattle.keys.proofs.Images.{hash-image}
@@ -93,13 +92,13 @@ module _ (m : Multipliers) (runs r : List ℕ) where
 -- ---- one run compared
 
 module _ (a b : List ℕ) (place code : ℕ) where
-  pub run-string-told : {r : Bool} → StringSame a b place (code / 2) r → code % 2 ≡ 1 → SameIn (runAt place code ∷ []) a b r
-  run-string-told w e = rw (eq-eqb (code % 2) 1 e) (record { same = w .same; differs = w .differs })
+  pub run-string-told : {r : Bool} → StringSame a b place (code / 2) r → (code % 2 ≡ 0 → ⊥) → SameIn (runAt place code ∷ []) a b r
+  run-string-told w z = rw (eq-eqb (code % 2) 1 (omega arith)) (record { same = w .same; differs = w .differs })
 
-  pub run-whole-told : {r : Bool} → r ≡ equalRange a b place (code / 2) → (code % 2 ≡ 1 → ⊥) → place + code / 2 ≤ length a → SameIn (runAt place code ∷ []) a b r
+  pub run-whole-told : {r : Bool} → r ≡ equalRange a b place (code / 2) → code % 2 ≡ 0 → place + code / 2 ≤ length a → SameIn (runAt place code ∷ []) a b r
   unfolding AgreesField
   run-whole-told w z l =
-      rw (ne-eqb (code % 2) 1 z) (record {
+      rw (ne-eqb (code % 2) 1 (λ e. omega arith)) (record {
         same = λ e. field-same (code / 2) a b place 0 w e l .together 0 refl .0;
         differs = λ e. field-differs (code / 2) a b place 0 w e l .apart refl;
       })

@@ -1,8 +1,8 @@
 -- What is answered of runs that are compared, and of one that is hashed.
-use Prim.Native.Nat.{ℕ, _+_, _/_, _%_, _<_, _≤_}
+use Prim.Native.Nat.{ℕ, _/_, _%_, _<_, _≤_}
 use mathlib.Core.Path.{_≡_}
 use mathlib.Core.Bool.{Bool, true, false}
-use mathlib.Core.List.{List, []}
+use mathlib.Core.List.{List}
 use lib.ListN.{take, drop}
 use lib.Dec.{eqb}
 use Rattle.format.specs.Bytes.{numberFrom, AllBytes}

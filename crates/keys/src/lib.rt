@@ -133,8 +133,8 @@ fn hash_run(m: Multipliers, h: u64, x: &[u8], place: usize, code: u64) -> u64
     hash_range(m, h, x, place, n)
 }
 
-// The hash of a record's image: records that are the same by the runs have one hash. Cost: a step for each 8 bytes of a run, at least one a
-// run.
+// The hash of a record's image: records that are the same by the runs have one hash. Cost: a step for each 8 bytes of a run, begun
+// or whole, and a look at each byte of a string up to its NUL.
 pub fn hash_by_runs(runs: &[u64], m: Multipliers, record: &[u8]) -> u64
     requires { ⌜ Inside (length (now «record»)) (runsIn (now runs)) × Small m ⌝ }
     ensures { λ r. ⌜ r ≡ hashOf m (runsIn (now (runs .entry))) (imageFrom (runsIn (now (runs .entry))) (now («record» .entry)) 0 (length (now («record» .entry)))) ⌝ }
@@ -223,33 +223,32 @@ fn same_bytes(a: &[u8], b: &[u8], at: usize, n: usize) -> bool
     false
 }
 
-// Whether one run is the same in both.
+// Whether one run is the same in both. Most runs count whole and are short: for these the loop over runs makes no call.
 fn same_run(a: &[u8], b: &[u8], place: usize, code: u64) -> bool
     requires { ⌜ (place + code / 2 ≤ length (now a)) × (length (now b) ≡ length (now a)) ⌝ }
     ensures { λ r. ⌜ SameIn (runAt place code ∷ []) (now (a .entry)) (now (b .entry)) r ⌝ }
 {
     let n = (code / 2) as usize;
-    if code % 2 == 1 {
-        return equal_string(a, b, place, n);
+    if code % 2 == 0 {
+        if n <= 8 {
+            return same_short(a, b, place, n);
+        }
+        return same_bytes(a, b, place, n);
     }
-    // Most runs are so short; here so that the loop over runs makes no call for them.
-    if n <= 8 {
-        return same_short(a, b, place, n);
-    }
-    same_bytes(a, b, place, n)
+    equal_string(a, b, place, n)
 }
 
-// Whether each run is.
+// Whether each run is the same in both.
 fn same_each(runs: &[u64], a: &[u8], b: &[u8]) -> bool
     requires { ⌜ Inside (length (now a)) (runsIn (now runs)) × (length (now b) ≡ length (now a)) ⌝ }
     ensures { λ r. ⌜ SameIn (runsIn (now (runs .entry))) (now (a .entry)) (now (b .entry)) r ⌝ }
 {
-    let mut i = 0;
-    while runs.len() - i >= 2 {
-        let place = runs[i] as usize;
-        let code = runs[i + 1];
+    let mut done = 0;
+    while runs.len() - done >= 2 {
+        let place = runs[done] as usize;
+        let code = runs[done + 1];
         if same_run(a, b, place, code) {
-            i += 2;
+            done += 2;
         } else {
             return false;
         }

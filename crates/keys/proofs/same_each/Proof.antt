@@ -6,10 +6,10 @@ use Rattle.keys.proofs.same_each.Statement.{statement}
 use Rattle.keys.proofs.same_each.Tie as tie
 
 abbrev Inv-loop : tie.InvT-loop
-Inv-loop runs a b i₀ i = SameFrom runs a b i
+Inv-loop runs a b done₀ done = SameFrom runs a b done
 
 abbrev μ-loop : tie.MeasureT-loop
-μ-loop runs a b i₀ i = length runs - i
+μ-loop runs a b done₀ done = length runs - done
 
 loop-holds : tie.Need-loop-holds Inv-loop μ-loop
 loop-holds c = search same-begun
@@ -40,7 +40,7 @@ same-each-spec =
     (λ c. search needs)  -- mul-code
     (λ c. search needs)  -- shared-slice-read-code
     same-run-requires
-    (λ c. search needs)  -- add-i
+    (λ c. search needs)  -- add-done
     (λ c. search needs)  -- loop-less
     loop-again
     returns
