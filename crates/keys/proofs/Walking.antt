@@ -21,7 +21,7 @@ use Rattle.keys.proofs.Images.{hash-image}
 -- ---- words
 
 module _ (runs : List ℕ) (i : ℕ) where
-  pub runs-next : 2 ≤ length runs - i → runsIn (drop i runs) ≡ runAt (getD runs i 0) (getD runs (i + 1) 0) ∷ runsIn (drop (i + 2) runs)
+  runs-next : 2 ≤ length runs - i → runsIn (drop i runs) ≡ runAt (getD runs i 0) (getD runs (i + 1) 0) ∷ runsIn (drop (i + 2) runs)
   unfolding runsIn
   runs-next h =
       let e : suc (i + 1) ≡ i + 2 = omega arith in
@@ -29,7 +29,7 @@ module _ (runs : List ℕ) (i : ℕ) where
       let q : drop (i + 1) runs ≡ getD runs (i + 1) 0 ∷ drop (i + 2) runs = drop-cons runs (i + 1) 0 (omega arith) ∙ rw e in
       rw (p, q)
 
-  pub runs-none : length runs - i < 2 → runsIn (drop i runs) ≡ []
+  runs-none : length runs - i < 2 → runsIn (drop i runs) ≡ []
   unfolding runsIn
   runs-none h = go (drop i runs) (omega (arith, length-drop i runs))
     where
@@ -43,10 +43,10 @@ module _ (runs : List ℕ) (i : ℕ) where
     unfolding Inside
     both-inside = rw (runs-next l) at h
 
-    pub run-here : getD runs i 0 + getD runs (i + 1) 0 / 2 ≤ n
+    run-here : getD runs i 0 + getD runs (i + 1) 0 / 2 ≤ n
     run-here = both-inside .0
 
-    pub runs-behind : Inside n (runsIn (drop (i + 2) runs))
+    runs-behind : Inside n (runsIn (drop (i + 2) runs))
     runs-behind = both-inside .1
 
 -- ---- one run hashed
@@ -73,6 +73,9 @@ module _ (m : Multipliers) (runs r : List ℕ) where
   hash-begun h = record { within = omega arith; small = omega arith; inside = h; same = refl }
 
   module _ (h i : ℕ) (w : RunsTo m runs r h i) where
+    pub hash-here : 2 ≤ length runs - i → getD runs i 0 + getD runs (i + 1) 0 / 2 ≤ length r
+    hash-here l = run-here runs i (length r) (w .inside) l
+
     pub hash-next : {k : ℕ} → Hashed m h (comparedOf (runAt (getD runs i 0) (getD runs (i + 1) 0)) r) k → 2 ≤ length runs - i → RunsTo m runs r k (i + 2)
     unfolding hashRuns
     hash-next g l =
@@ -115,6 +118,9 @@ module _ (runs a b : List ℕ) where
   same-begun h = record { within = omega arith; inside = h; decides = λ x w. w }
 
   module _ (i : ℕ) (w : SameFrom runs a b i) where
+    pub same-here : 2 ≤ length runs - i → getD runs i 0 + getD runs (i + 1) 0 / 2 ≤ length a
+    same-here l = run-here runs i (length a) (w .inside) l
+
     pub same-next : {r : Bool} → SameIn (runAt (getD runs i 0) (getD runs (i + 1) 0) ∷ []) a b r → r ≡ true → 2 ≤ length runs - i → SameFrom runs a b (i + 2)
     same-next q e l =
         let f = runAt (getD runs i 0) (getD runs (i + 1) 0) in

@@ -1,6 +1,7 @@
 use Prim.Native.Nat.{_-_}
 use lib.ListN.{length}
-use Rattle.keys.proofs.Walking.{run-here, RunsTo, hash-begun, hash-next, hash-done}
+use native.Mathlib.Omega.{arith}
+use Rattle.keys.proofs.Walking.{RunsTo, hash-begun, hash-here, hash-next, hash-done}
 use borrow.Author.Needs.{needs}
 use Rattle.keys.proofs.hash_by_runs.Statement.{statement}
 use Rattle.keys.proofs.hash_by_runs.Tie as tie
@@ -15,13 +16,13 @@ loop-holds : tie.Need-loop-holds Inv-loop μ-loop
 loop-holds c = search hash-begun
 
 hash-run-requires : tie.Need-hash-run-requires Inv-loop μ-loop
-hash-run-requires c κs = (search needs, search needs, search run-here)
+hash-run-requires c κs = (search needs, search needs, hash-here _ _ _ _ _ (c .before .before .before .loop .inv) (omega arith))
 
 loop-again : tie.Need-loop-again Inv-loop μ-loop
-loop-again c = search hash-next
+loop-again c = hash-next _ _ _ _ _ (c .before .before .before .before .loop .inv) (c .hash-run .ensures) (omega arith)
 
 returns : tie.Need-returns Inv-loop μ-loop
-returns c = search hash-done
+returns c = hash-done _ _ _ _ _ (c .before .loop .inv) (c .before .before .before .before .pre .0) (omega arith)
 
 pub hash-by-runs-spec : {M : Type 1} → statement M
 hash-by-runs-spec =
