@@ -129,22 +129,22 @@ uint32_t datatype_references(const uint8_t *block, size_t block_length, uint64_t
    the same as record k, which is k itself where there is none before; sizes gets, for each record that is its own earliest, in rising order
    of its number, how many records name it. first: the number of records, second: how many of them are distinct.
 
-   block is the records one behind the other. numbers wants an entry a record, sizes one a distinct record. Refusals, in this order: 1, 12, 16
-   and 17, as for datatype_compare; 18, the block is no whole number of records; 21 with the number of records, numbers is too short; 21 with
-   the number of distinct records, sizes is too short. A refusal leaves numbers and sizes as they were; a success writes nothing past the
-   result in either. A block without bytes has no records and is not refused.
+   block is the records one behind the other. numbers wants an entry a record, sizes one a distinct record. Refusals, in this order: 1, 12,
+   16 and 17, as for datatype_compare; 18, the block is no whole number of records; 21 with the number of records, numbers is too short; 21
+   with the number of distinct records, sizes is too short. A refusal leaves numbers and sizes as they were; a success writes nothing past
+   the result in either. A block without bytes has no records, and is not refused for its length or for room.
 
    work is a workspace. With as many words as datatype_duplicates_words says, or more, the time grows little faster than the block; with a
    shorter one, or none, the answer is the same and the time grows with the number of records times that of distinct records. What it holds
-   when it is lent does not change the answer, but for its first word, which seeds the hash and so changes the time only: a host that reads
-   files which it does not trust fills that word at random before each call, so that nobody can choose records that all fall together. It is
-   all zero afterwards, refused or not, whatever its length. */
+   does not change the answer. Its first word as lent seeds the hash: a host that reads files which it does not trust fills that word at
+   random before each call, so that nobody can choose records that make the call slow. The workspace is all zero afterwards, refused or not,
+   whatever its length. */
 uint32_t datatype_duplicates(const uint32_t *table, size_t table_length, const uint8_t *pool, size_t pool_length, const uint8_t *block,
                              size_t block_length, uint64_t *numbers, size_t numbers_length, uint64_t *sizes, size_t sizes_length,
                              uint64_t *work, size_t work_length, uint64_t *first, uint64_t *second);
 
-/* How long a workspace makes datatype_duplicates fast on a block of so many records: 3 words a record and 2 a run of the type, which is fields
-   that lie side by side and count whole, or one NUL-terminated string. Refusals: 1, 12, 16, 17. first: the number of 64-bit words. */
+/* How long a workspace makes datatype_duplicates fast on a block of so many records: 3 words a record and 2 a run of the type. A run is
+   fields that lie side by side and count whole, or one NUL-terminated string. Refusals: 1, 12, 16, 17. first: how many 64-bit words. */
 uint32_t datatype_duplicates_words(const uint32_t *table, size_t table_length, const uint8_t *pool, size_t pool_length, uint64_t records,
                                    uint64_t *first, uint64_t *second);
 

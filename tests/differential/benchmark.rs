@@ -1,7 +1,7 @@
-//! Times the library beside the Rust that it was ported from, `memcmp` and a plain Rust walk: one process, the two sides in turn, the least of
-//! many batches. The table and pool lent to the library are as long as the type needs, so reading clears nothing behind it; the Rust's
-//! times include freeing what it allocates. Each time of the library includes the check of the table that every call starts with, but for
-//! reading.
+//! Times the library beside the Rust that it was ported from, `memcmp`, a plain Rust walk, and finding duplicates by the standard library's
+//! hash map and by sorting: one process, the two sides in turn, the least of many batches. The table and pool lent to the library are as long
+//! as the type needs, so reading clears nothing behind it; the Rust's times include freeing what it allocates. Each time of the library
+//! includes the check of the table that every call starts with, but for reading.
 #![allow(dead_code, unused_imports)]
 mod bytes;
 mod convert;
@@ -9,6 +9,7 @@ mod datatype;
 mod display;
 mod error;
 mod flat;
+mod grouping;
 mod message_type;
 mod walk;
 
@@ -71,8 +72,13 @@ fn entries(names: u16, size: u32, mut members: Vec<CompoundMember>) -> Datatype 
     Datatype::Array { base_type: Box::new(Datatype::Compound { size, members }), dimensions: vec![100_000] }
 }
 
-/// Nanoseconds a call, of two calls timed in turn: the least of the batches of each.
-fn times(mut ours: impl FnMut(), mut theirs: impl FnMut()) -> (f64, f64) {
+/// Nanoseconds a call, of two calls timed in turn: the least of 60 batches of each.
+fn times(ours: impl FnMut(), theirs: impl FnMut()) -> (f64, f64) {
+    times_of(60, ours, theirs)
+}
+
+/// The same, of so many batches.
+fn times_of(batches: usize, mut ours: impl FnMut(), mut theirs: impl FnMut()) -> (f64, f64) {
     fn batch(call: &mut dyn FnMut(), n: u32) -> f64 {
         let start = Instant::now();
         for _ in 0..n {
@@ -85,7 +91,7 @@ fn times(mut ours: impl FnMut(), mut theirs: impl FnMut()) -> (f64, f64) {
         n *= 2;
     }
     let (mut least_ours, mut least_theirs) = (f64::MAX, f64::MAX);
-    for _ in 0..60 {
+    for _ in 0..batches {
         least_ours = least_ours.min(batch(&mut ours, n));
         least_theirs = least_theirs.min(batch(&mut theirs, n));
     }
@@ -178,4 +184,5 @@ fn main() {
     assert_eq!(library::embedded_reference_slots(&many.0, &many.1, &mut slots), Ok(100_000));
     let whole = times(|| drop(black_box(library::embedded_reference_slots(&many.0, &many.1, black_box(&mut slots)))), || drop(black_box(library::embedded_reference_slots(&few.0, &few.1, black_box(&mut again)))));
     beside("slots, slots", (whole.0, checks.0), (whole.1, checks.1));
+    grouping::lines();
 }

@@ -2,6 +2,7 @@
 //! difference.
 use crate::counts::{Call, Counts};
 use crate::datatype::{self, Datatype};
+use crate::duplicates;
 use crate::error::FormatError;
 use crate::flat::Flat;
 use crate::generate::Random;
@@ -12,11 +13,11 @@ use datatype_message::{self as library, Refusal, POOL, ROW, ROWS};
 const LISTED: u32 = 1 << 26;
 const SLOTS: u64 = 1 << 16;
 
-fn hex(bytes: &[u8]) -> String {
+pub fn hex(bytes: &[u8]) -> String {
     bytes.iter().map(|b| format!("{b:02X}")).collect::<Vec<_>>().join(" ")
 }
 
-fn differs(what: &str, of: &str, ours: impl std::fmt::Debug, theirs: impl std::fmt::Debug) -> ! {
+pub fn differs(what: &str, of: &str, ours: impl std::fmt::Debug, theirs: impl std::fmt::Debug) -> ! {
     println!("differs in {what}: {of}");
     println!("  here {ours:?}");
     println!("  there {theirs:?}");
@@ -37,7 +38,7 @@ pub fn refusal(e: &FormatError) -> (u32, u64, u64) {
     }
 }
 
-fn number<T>(answer: &Result<T, Refusal>) -> u32 {
+pub fn number<T>(answer: &Result<T, Refusal>) -> u32 {
     answer.as_ref().err().map_or(0, |e| e.number_and_values().0)
 }
 
@@ -246,7 +247,7 @@ fn references(t: &Datatype, slots: &[u64], r: &mut Random, counts: &mut Counts) 
 
 /// Changes a record where that may or may not matter: anywhere, or only at bytes that no field counts, or at bytes that one field counts and
 /// a string that shares them does not.
-fn changed(t: &Datatype, a: &[u8], r: &mut Random) -> Vec<u8> {
+pub fn changed(t: &Datatype, a: &[u8], r: &mut Random) -> Vec<u8> {
     let mut b = a.to_vec();
     let how = if walk::not_admitted(t, a, a).is_some() { 0 } else { r.below(4) };
     if how < 2 {
@@ -310,7 +311,7 @@ fn damaged(mut table: Vec<u32>, mut pool: Vec<u8>, r: &mut Random, counts: &mut 
         (Call::Slots, number(&library::embedded_reference_slots(&table, &pool, &mut listed))),
         (Call::Same, number(&library::same(&table, &pool, &[], &[]))),
     ];
-    for (call, n) in answers {
+    for (call, n) in answers.into_iter().chain(duplicates::damaged(&table, &pool)) {
         if (n == 1) != bad {
             differs("BadTable", &format!("{table:?} {pool:?}"), n, bad);
         }

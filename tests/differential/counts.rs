@@ -11,9 +11,11 @@ pub enum Call {
     Slots,
     References,
     Same,
+    Duplicates,
+    DuplicatesWords,
 }
 
-pub const CALLS: [&str; 8] = ["read", "write", "written and read by the Rust", "sizes", "predicates", "slots", "references", "same"];
+pub const CALLS: [&str; 10] = ["read", "write", "written and read by the Rust", "sizes", "predicates", "slots", "references", "same", "duplicates", "words of its workspace"];
 
 /// What pairs of compared records may have: see `Counts::names`.
 pub const NAMES: [&str; 7] = [
@@ -26,14 +28,53 @@ pub const NAMES: [&str; 7] = [
     "differ in where a name ends",
 ];
 
+/// What is lent to a call of `duplicates`.
+#[derive(Clone, Copy)]
+pub enum Lent {
+    Exact,
+    FewNumbers,
+    FewSizes,
+    FewBoth,
+    More,
+    NoWork,
+    ShortWork,
+    ToldWork,
+    NotWhole,
+    Uncounted,
+}
+
+pub const LENT: [&str; 10] = [
+    "exact rooms",
+    "numbers one entry too few",
+    "sizes one entry too few",
+    "both one entry too few",
+    "rooms larger than needed",
+    "no workspace",
+    "a workspace shorter than told",
+    "a workspace of the told length or more",
+    "no whole number of records",
+    "bytes changed that do not count",
+];
+
+/// What blocks of records may have: see `Counts::blocks`.
+pub const BLOCKS: [&str; 7] = [
+    "no records",
+    "all records the same, of several",
+    "all records distinct, of several",
+    "groups of several beside others",
+    "a record the same as an earlier one though bytes differ",
+    "leftovers behind a name in such records",
+    "bytes of two fields",
+];
+
 #[derive(Default)]
 pub struct Counts {
     /// By call: answers compared with the Rust's; answers that the Rust has not, compared with the walk's; answers compared with neither.
-    pub compared: [u64; 8],
-    pub walked: [u64; 8],
-    pub left_out: [u64; 8],
+    pub compared: [u64; 10],
+    pub walked: [u64; 10],
+    pub left_out: [u64; 10],
     /// By call and number of the answer, 0 for a result.
-    pub numbers: [[u64; 22]; 8],
+    pub numbers: [[u64; 22]; 10],
     /// Types read, by class and version of the outermost header, and by levels.
     pub classes: [u64; 12],
     pub versions: [u64; 16],
@@ -42,6 +83,9 @@ pub struct Counts {
     pub editions: [u64; 4],
     /// Pairs of records, by `NAMES`.
     pub names: [u64; 7],
+    /// Calls of `duplicates`, by `LENT`, and the blocks given to it, by `BLOCKS`.
+    pub lent: [u64; 10],
+    pub blocks: [u64; 7],
 }
 
 impl Counts {
@@ -83,6 +127,28 @@ impl Counts {
         }
     }
 
+    pub fn lent(&mut self, what: Lent) {
+        self.lent[what as usize] += 1;
+    }
+
+    /// The records of a block, and for each the number of the earliest that is the same.
+    pub fn blocks(&mut self, records: &[Vec<Byte>], numbers: &[u64]) {
+        let distinct = numbers.iter().enumerate().filter(|(k, n)| **n == *k as u64).count();
+        let again = |test: fn(&Byte, &Byte) -> bool| records.iter().zip(numbers).any(|(a, n)| a.iter().zip(&records[*n as usize]).any(|(x, y)| test(x, y)));
+        let met = [
+            records.is_empty(),
+            records.len() > 1 && distinct == 1,
+            records.len() > 1 && distinct == records.len(),
+            1 < distinct && distinct < records.len(),
+            again(|x, y| x.value != y.value),
+            again(|x, y| x.value != y.value && x.owners > 0),
+            records.iter().flatten().any(|x| x.owners > 1),
+        ];
+        for (n, met) in self.blocks.iter_mut().zip(met) {
+            *n += u64::from(met);
+        }
+    }
+
     pub fn print(&self) {
         for (i, name) in CALLS.iter().enumerate() {
             let met: Vec<String> = self.numbers[i].iter().enumerate().filter(|(_, n)| **n > 0).map(|(k, n)| format!("{k}: {n}")).collect();
@@ -96,6 +162,12 @@ impl Counts {
         for (what, n) in NAMES.iter().zip(self.names) {
             println!("records compared, {what}: {n}");
         }
+        for (what, n) in LENT.iter().zip(self.lent) {
+            println!("duplicates, {what}: {n}");
+        }
+        for (what, n) in BLOCKS.iter().zip(self.blocks) {
+            println!("blocks of duplicates, {what}: {n}");
+        }
     }
 
     /// What was tried less often than it must be.
@@ -106,7 +178,7 @@ impl Counts {
                 lacking.push(format!("{what}: {n} of {least}"));
             }
         };
-        let wanted: [(Call, &[u32]); 8] = [
+        let wanted: [(Call, &[u32]); 10] = [
             (Call::Read, &[0, 2, 3, 4, 6, 7, 8, 9, 10, 11, 12]),
             (Call::Write, &[0, 1, 13, 14, 15, 21]),
             (Call::ReadBack, &[0]),
@@ -115,6 +187,8 @@ impl Counts {
             (Call::Slots, &[0, 1, 12, 19, 21]),
             (Call::References, &[0, 20, 21]),
             (Call::Same, &[0, 1, 12, 16, 17, 18]),
+            (Call::Duplicates, &[0, 1, 12, 16, 17, 18, 21]),
+            (Call::DuplicatesWords, &[0, 1, 12, 16, 17]),
         ];
         for (call, numbers) in wanted {
             for n in numbers {
@@ -135,6 +209,12 @@ impl Counts {
         }
         for (what, n) in NAMES.iter().zip(self.names) {
             want(n, least * 10, format!("records, {what}"));
+        }
+        for (what, n) in LENT.iter().zip(self.lent) {
+            want(n, least * 10, format!("duplicates, {what}"));
+        }
+        for (what, n) in BLOCKS.iter().zip(self.blocks) {
+            want(n, least, format!("blocks of duplicates, {what}"));
         }
         lacking
     }

@@ -1,6 +1,7 @@
 //! Messages: short ones exhaustively, random types in every version, damaged copies. Types that no message gives.
 use crate::compare;
 use crate::counts::Counts;
+use crate::duplicates;
 use crate::datatype::{CharacterSet, CompoundMember, Datatype, DatatypeByteOrder, EnumMember, ReferenceType, StringPadding};
 
 pub struct Random(u64);
@@ -360,8 +361,10 @@ pub fn run(seed: u64, rounds: u64, counts: &mut Counts) {
         let levels = r.below(4);
         let t = datatype(r, levels);
         compare::on_type(&t, r, counts);
+        duplicates::block(&t, r, counts);
         let t = named(r, 3);
         compare::on_type(&t, r, counts);
         compare::names(&t, r, counts);
+        duplicates::block(&t, r, counts);
     }
 }

@@ -9,6 +9,7 @@ mod convert;
 mod counts;
 mod datatype;
 mod display;
+mod duplicates;
 mod error;
 mod flat;
 mod generate;

@@ -73,6 +73,19 @@ fn fields<'a>(t: &'a Datatype, at: usize, found: &mut Vec<(usize, &'a Datatype)>
     }
 }
 
+/// How many runs an admitted type has: fields one behind the other that count whole are one, a NUL-terminated string is one by itself.
+pub fn runs(t: &Datatype) -> usize {
+    let mut found = Vec::new();
+    fields(t, 0, &mut found);
+    let (mut runs, mut open) = (0, None);
+    for (place, field) in found {
+        let behind = (!nul_terminated(field)).then_some(place + field.type_size() as usize);
+        runs += usize::from(behind.is_none() || open != Some(place));
+        open = behind;
+    }
+    runs
+}
+
 /// A byte of a record: its value, how many fields own it, and how many of these are NUL-terminated strings that are past their end there.
 #[derive(Clone, Copy)]
 pub struct Byte {
@@ -137,6 +150,23 @@ pub fn agree(t: &Datatype, a: &[u8], b: &[u8]) -> bool {
             true
         }
         _ => a == b,
+    }
+}
+
+/// Appends the bytes of a record of an admitted type that count, field by field, a NUL-terminated string's up to and with its NUL: two records
+/// are the same exactly when these are equal. The benchmark's.
+pub fn counted(t: &Datatype, record: &[u8], out: &mut Vec<u8>) {
+    match t {
+        Datatype::Compound { members, .. } => members.iter().for_each(|m| {
+            let from = m.byte_offset as usize;
+            counted(&m.datatype, &record[from..from + m.datatype.type_size() as usize], out);
+        }),
+        Datatype::Array { base_type, .. } => record.chunks_exact(base_type.type_size() as usize).for_each(|entry| counted(base_type, entry, out)),
+        Datatype::String { padding: StringPadding::NullTerminate, .. } => {
+            let end = record.iter().position(|b| *b == 0).map_or(record.len(), |nul| nul + 1);
+            out.extend_from_slice(&record[..end]);
+        }
+        _ => out.extend_from_slice(record),
     }
 }
 
