@@ -2,6 +2,10 @@
 // number, and puts its result, or the refusal's values, into `first` and `second` (0 where there is none).
 use compare::Comparison;
 use compare::same;
+use duplicates::duplicates;
+use duplicates::duplicates_words;
+use duplicates::outcome::Duplicates;
+use duplicates::outcome::Words;
 use reader::read;
 use reading::Reading;
 use references::References;
@@ -23,6 +27,7 @@ ghost use mathlib.Core.List.{[], _∷_};
 ghost use Prim.Native.Nat.{min};
 ghost use lib.ListN.{length, getD};
 ghost use Rattle.refusal.specs.Refusal.{numberOf, valuesOf};
+ghost use Rattle.format.specs.Bytes.{zeros};
 ghost use Rattle.format.specs.Message.{writing};
 ghost use Rattle.format.specs.Outcome.{outputAfter, outcomeNumber, outcomeValues};
 ghost use Rattle.format.specs.Ownership.{comparing};
@@ -37,6 +42,9 @@ ghost use Rattle.table.specs.Names.{nameOf, namePlace};
 ghost use Rattle.table.specs.Extent.{extending, extentValues, usingNumber, usingValues};
 ghost use Rattle.slots.specs.Slots.{slotsNumber, slotsValues};
 ghost use Rattle.references.specs.References.{referencesNumber, referencesValues, placesAfter, valuesAfter};
+ghost use Rattle.groups.specs.Duplicates.{duplicating};
+ghost use Rattle.duplicates.specs.Answers.{duplicatesNumber, duplicatesValues, groupsValues, numbersGiven, sizesGiven};
+ghost use Rattle.duplicates.specs.WordCount.{wordsNeeded, wordsNumber, wordsValues};
 ghost use Rattle.abi.specs.Answers.{Tells};
 
 // The answer of a call: 0 or the refusal's number, and two values, 0 for each that is not there.
@@ -142,6 +150,24 @@ fn of_slots(answer: Slots) -> Answer
     match answer {
         Slots::Found(count) => given(count),
         Slots::Refused(e) => refused(e),
+    }
+}
+
+fn of_duplicates(answer: Duplicates) -> Answer
+    ensures { λ r. ⌜ Tells (duplicatesNumber answer) (duplicatesValues answer) r ⌝ }
+{
+    match answer {
+        Duplicates::Found(records, distinct) => given_two(records, distinct),
+        Duplicates::Refused(e) => refused(e),
+    }
+}
+
+fn of_words(answer: Words) -> Answer
+    ensures { λ r. ⌜ Tells (wordsNumber answer) (wordsValues answer) r ⌝ }
+{
+    match answer {
+        Words::Needed(words) => given(words),
+        Words::Refused(e) => refused(e),
     }
 }
 
@@ -286,6 +312,50 @@ pub extern "C" fn datatype_slots(
     ensures out { λ _. ⌜ now (out .exit) ≡ outputAfter (now (out .entry)) (findingSlots (now (table .entry)) (now (pool .entry)) (length (now (out .entry)))) ⌝ }
 {
     let answer = of_slots(embedded_reference_slots(table, pool, out));
+    *first = answer.first;
+    *second = answer.second;
+    answer.number
+}
+
+// `duplicates`. first: the records, second: how many are distinct.
+#[no_mangle]
+pub extern "C" fn datatype_duplicates(
+    table: &[u32],
+    pool: &[u8],
+    block: &[u8],
+    numbers: &mut [u64],
+    sizes: &mut [u64],
+    work: &mut [u64],
+    first: &mut u64,
+    second: &mut u64,
+) -> u32
+    ensures number { λ r. ⌜ r ≡ outcomeNumber (duplicating (now (table .entry)) (now (pool .entry)) (now (block .entry)) (length (now (numbers .entry))) (length (now (sizes .entry)))) ⌝ }
+    ensures first { λ _. ⌜ now (first .exit) ≡ getD (outcomeValues groupsValues (duplicating (now (table .entry)) (now (pool .entry)) (now (block .entry)) (length (now (numbers .entry))) (length (now (sizes .entry))))) 0 0 ⌝ }
+    ensures second { λ _. ⌜ now (second .exit) ≡ getD (outcomeValues groupsValues (duplicating (now (table .entry)) (now (pool .entry)) (now (block .entry)) (length (now (numbers .entry))) (length (now (sizes .entry))))) 1 0 ⌝ }
+    ensures numbers { λ _. ⌜ now (numbers .exit) ≡ outputAfter (now (numbers .entry)) (numbersGiven (duplicating (now (table .entry)) (now (pool .entry)) (now (block .entry)) (length (now (numbers .entry))) (length (now (sizes .entry))))) ⌝ }
+    ensures sizes { λ _. ⌜ now (sizes .exit) ≡ outputAfter (now (sizes .entry)) (sizesGiven (duplicating (now (table .entry)) (now (pool .entry)) (now (block .entry)) (length (now (numbers .entry))) (length (now (sizes .entry))))) ⌝ }
+    ensures work { λ _. ⌜ now (work .exit) ≡ zeros (length (now (work .entry))) ⌝ }
+{
+    let answer = of_duplicates(duplicates(table, pool, block, numbers, sizes, work));
+    *first = answer.first;
+    *second = answer.second;
+    answer.number
+}
+
+// `duplicates_words`. first: the words.
+#[no_mangle]
+pub extern "C" fn datatype_duplicates_words(
+    table: &[u32],
+    pool: &[u8],
+    records: u64,
+    first: &mut u64,
+    second: &mut u64,
+) -> u32
+    ensures number { λ r. ⌜ r ≡ outcomeNumber (wordsNeeded (now (table .entry)) (now (pool .entry)) records) ⌝ }
+    ensures first { λ _. ⌜ now (first .exit) ≡ getD (outcomeValues (λ n. n ∷ []) (wordsNeeded (now (table .entry)) (now (pool .entry)) records)) 0 0 ⌝ }
+    ensures second { λ _. ⌜ now (second .exit) ≡ getD (outcomeValues (λ n. n ∷ []) (wordsNeeded (now (table .entry)) (now (pool .entry)) records)) 1 0 ⌝ }
+{
+    let answer = of_words(duplicates_words(table, pool, records));
     *first = answer.first;
     *second = answer.second;
     answer.number
