@@ -15,6 +15,7 @@ use Rattle.groups.specs.Runs.{runsIn, Inside}
 use Rattle.groups.proofs.Heads.{Seeking, find-begins, find-fails, find-inside, find-place, find-falls, find-hit, find-on}
 use Rattle.groups.proofs.Ways.{bucket-is, bucket-below, place-first, place-later, built-clear, tally-begins, distinct-is, tallied-is, groups-are}
 use Rattle.groups.proofs.Building.{tallied-own}
+use Rattle.groups.proofs.Keys.{length-keys}
 use Rattle.keys.specs.Hash.{Small, hashOf}
 use Rattle.keys.specs.declared.Multipliers.{Multipliers}
 use Rattle.duplicates.specs.Answers.{Listed}
@@ -23,7 +24,7 @@ use Rattle.duplicates.specs.Chaining.{keysBy, ByRuns, InBucket, Seeks, S
 use Rattle.duplicates.specs.declared.chains.Spot.{Spot}
 use Rattle.duplicates.specs.declared.outcome.Duplicates.{Duplicates}
 use Rattle.duplicates.proofs.Answers.{listed-as}
-use Rattle.duplicates.proofs.KeyLaws.{length-keys, key-of}
+use Rattle.duplicates.proofs.KeyLaws.{key-of}
 
 -- ---- records by runs
 

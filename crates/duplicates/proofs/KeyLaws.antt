@@ -2,7 +2,7 @@
 use Prim.Native.Nat.{ℕ, _/_, _<_}
 use mathlib.Core.Path.{_≡_, refl, sym, ap, _∙_}
 use mathlib.Core.Bool.{Bool}
-use mathlib.Core.List.{List, [], _++_}
+use mathlib.Core.List.{List, _++_}
 use native.Mathlib.Omega.{arith}
 use lib.ListN.{length}
 use Rattle.format.specs.Datatype.{Datatype, typeSize}
@@ -12,25 +12,17 @@ use Rattle.format.specs.Ownership.{comparing}
 use Rattle.format.specs.Table.{sameWords}
 use Rattle.format.proofs.Ownership.{comparing-records}
 use Rattle.compare.specs.Agreeing.{Admits}
-use Rattle.groups.specs.Groups.{keyAt, listed}
-use Rattle.groups.specs.Duplicates.{recordAt, keyOf, keysOf, fieldsGiven, fieldsIn}
-use Rattle.groups.proofs.Firsts.{length-listed, getD-listed}
+use Rattle.groups.specs.Groups.{keyAt}
+use Rattle.groups.specs.Duplicates.{keysOf, fieldsGiven, fieldsIn}
+use Rattle.groups.proofs.Keys.{length-keys, key-at}
 use Rattle.duplicates.specs.Records.{IsRecord, keysIn, Whole, Comparable}
 
 -- ---- by any fields
 
 module _ (fs : List Field) (block : List ℕ) (size : ℕ) where
-  pub length-keys : length (keysOf fs block size) ≡ length block / size
-  unfolding keysOf
-  length-keys = length-listed (keyOf fs block size) (length block / size)
-
-  pub key-at : (k : ℕ) → k < length (keysOf fs block size) → keyAt (keysOf fs block size) k ≡ imageFrom fs (recordAt block size k) 0 size
-  unfolding keyAt keysOf keyOf
-  key-at k h = getD-listed (keyOf fs block size) (length block / size) k [] (omega (arith, length-keys))
-
   -- a record's key, by the record as it was found
   pub key-of : (k : ℕ) {x : List ℕ} → k < length (keysOf fs block size) → IsRecord block size k x → imageFrom fs x 0 (length x) ≡ keyAt (keysOf fs block size) k
-  key-of k h r = rw (r .long, r .is) (sym (key-at k h))
+  key-of k h r = rw (r .long, r .is) (sym (key-at fs block size k h))
 
 -- ---- by the fields of a type
 
