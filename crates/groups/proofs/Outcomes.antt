@@ -1,0 +1,202 @@
+-- What N3 answers, in the order of the refusals.
+use Prim.Native.Nat.{ℕ, zero, suc, _/_, _%_, _<_, _≤_}
+use mathlib.Core.Path.{_≡_, refl, sym, ap, _∙_}
+use mathlib.Core.Logic.{_↔_, ⊎-elim}
+use mathlib.Core.Bool.{Bool, true, false, not}
+use mathlib.Core.List.{List, []}
+use mathlib.Core.Option.{Option, none, some}
+use native.Mathlib.Nat.{zero-div, zero-mod}
+use native.Mathlib.Omega.{arith}
+use lib.ListN.{length}
+use lib.Dec.{leb, eqb}
+use borrow.Author.Tests.{eq-eqb, ne-eqb, le-leb, lt-leb}
+use Rattle.refusal.specs.declared.Refusal.{Refusal}
+use Rattle.refusal.specs.declared.Refusal.the-variants.{BadTable, OutsideRecord, HeapHeld, WrongLength, NoRoom}
+use Rattle.format.specs.Datatype.{Datatype, typeSize}
+use Rattle.format.specs.Image.{fieldsOf}
+use Rattle.format.specs.Outcome.{Outcome, gives, refuses, whenGiven, unless, needed}
+use Rattle.format.specs.Ownership.{outside, heapHeld, admitting, admission, comparingRecords, comparing}
+use Rattle.format.specs.Slots.{firstZero, unlessZero}
+use Rattle.format.specs.Table.{typeOf}
+use Rattle.format.proofs.Admission.{AdmittedOf, admission-refused, admission-given}
+use Rattle.format.proofs.Ownership.{admitting-given}
+use Rattle.format.proofs.Slots.{first-zero-size}
+use Rattle.format.proofs.Table.{typeOf-refuses}
+use Rattle.groups.specs.Groups.{listed, numbersOf, numbersTo, firstsTo, firstsOf, distinctOf, sizesOf, sizesTo}
+use Rattle.groups.specs.Duplicates.{keysOf, fieldsGiven, fieldsIn, Groups, groupsOf, fitting, duplicatingRecords, duplicating}
+use Rattle.groups.proofs.Cases.{same-or-not, less-or-not}
+use Rattle.groups.proofs.Keys.{length-keys}
+
+-- a list lent for n numbers, then one for the sizes
+module _ (room places : ℕ) (keys : List (List ℕ)) where
+  pub fitting-numbers : room < length keys → fitting room places keys ≡ refuses (NoRoom (needed (length keys)))
+  unfolding fitting unless
+  fitting-numbers h = rw (lt-leb (length keys) room h)
+
+  pub fitting-sizes : length keys ≤ room → places < distinctOf keys → fitting room places keys ≡ refuses (NoRoom (needed (distinctOf keys)))
+  unfolding fitting unless
+  fitting-sizes h l = rw (le-leb (length keys) room h, lt-leb (distinctOf keys) places l)
+
+  pub fitting-given : length keys ≤ room → distinctOf keys ≤ places → fitting room places keys ≡ gives (groupsOf keys)
+  unfolding fitting unless
+  fitting-given h l = rw (le-leb (length keys) room h, le-leb (distinctOf keys) places l)
+
+-- "Type checks come as for comparing two records": refusals 1, 12, 16 and 17
+module _ (table pool : List ℕ) (e : Refusal) (h : admission table pool ≡ refuses e) where
+  pub duplicating-refused : (block : List ℕ) (room places : ℕ) → duplicating table pool block room places ≡ refuses e
+  unfolding duplicating duplicatingRecords
+  duplicating-refused block room places =
+      admission-refused table pool (λ t. unless (eqb (length block % typeSize t) 0) WrongLength (fitting room places (keysOf (fieldsOf t) block (typeSize t)))) e h
+
+-- what waits behind the admission of a type
+behind : (table pool block : List ℕ) (room places size : ℕ) (t : Datatype) → typeOf table pool ≡ gives t → firstZero t ≡ none → outside t ≡ false → heapHeld t ≡ false
+    → size ≡ typeSize t
+    → duplicating table pool block room places ≡ unless (eqb (length block % size) 0) WrongLength (fitting room places (keysOf (fieldsIn table pool) block size))
+unfolding duplicating duplicatingRecords fieldsIn fieldsGiven whenGiven
+behind table pool block room places size t i z o p s = rw (i, s) (admitting-given t _ z o p)
+
+-- from here on the type is admitted and has the size `size`
+module _ (table pool block : List ℕ) (room places size : ℕ) (h : admission table pool ≡ gives size) where
+  admitted : duplicating table pool block room places ≡ unless (eqb (length block % size) 0) WrongLength (fitting room places (keysOf (fieldsIn table pool) block size))
+  admitted =
+      let a = admission-given table pool size h in
+      behind table pool block room places size (a .type) (a .is) (a .sized) (a .inside) (a .plain) (a .size-is)
+
+  -- "A block that isn't a whole number of records is WrongLength"
+  pub duplicating-length : (length block % size ≡ 0 → ⊥) → duplicating table pool block room places ≡ refuses WrongLength
+  unfolding unless
+  duplicating-length n = admitted ∙ rw (ne-eqb (length block % size) 0 n)
+
+  module _ (w : length block % size ≡ 0) where
+    whole : duplicating table pool block room places ≡ fitting room places (keysOf (fieldsIn table pool) block size)
+    unfolding unless
+    whole = admitted ∙ rw (eq-eqb (length block % size) 0 w)
+
+    -- "a list lent too short is NoRoom, numbers before sizes"
+    pub duplicating-numbers : room < length block / size → duplicating table pool block room places ≡ refuses (NoRoom (needed (length block / size)))
+    duplicating-numbers l =
+        let n = length-keys (fieldsIn table pool) block size in
+        whole ∙ fitting-numbers room places (keysOf (fieldsIn table pool) block size) (omega arith) ∙ rw n
+
+    module _ (r : length block / size ≤ room) where
+      pub duplicating-sizes : places < distinctOf (keysOf (fieldsIn table pool) block size)
+          → duplicating table pool block room places ≡ refuses (NoRoom (needed (distinctOf (keysOf (fieldsIn table pool) block size))))
+      duplicating-sizes l = whole ∙ fitting-sizes room places (keysOf (fieldsIn table pool) block size) (omega (arith, length-keys (fieldsIn table pool) block size)) l
+
+      pub duplicating-given : distinctOf (keysOf (fieldsIn table pool) block size) ≤ places
+          → duplicating table pool block room places ≡ gives (groupsOf (keysOf (fieldsIn table pool) block size))
+      duplicating-given l = whole ∙ fitting-given room places (keysOf (fieldsIn table pool) block size) (omega (arith, length-keys (fieldsIn table pool) block size)) l
+
+-- no keys have no groups
+no-keys : groupsOf [] ≡ record { numbers = []; sizes = [] }
+unfolding groupsOf numbersOf numbersTo listed sizesOf sizesTo firstsTo
+no-keys = refl
+
+no-distinct : (places : ℕ) → distinctOf [] ≤ places
+unfolding distinctOf firstsOf firstsTo
+no-distinct places = omega arith
+
+no-records : (table pool : List ℕ) (size : ℕ) → keysOf (fieldsIn table pool) [] size ≡ []
+unfolding keysOf listed
+no-records table pool size = rw (zero-div size)
+
+-- an empty block of an admitted type has empty lists, whatever room is lent
+pub duplicating-empty : (table pool : List ℕ) (room places size : ℕ) → admission table pool ≡ gives size
+    → duplicating table pool [] room places ≡ gives (record { numbers = []; sizes = [] })
+duplicating-empty table pool room places size h =
+    let e : keysOf (fieldsIn table pool) [] size ≡ [] = no-records table pool size in
+    duplicating-given table pool [] room places size h (zero-mod size) (omega (arith, zero-div size)) (rw e (no-distinct places)) ∙ rw (e, no-keys)
+
+-- ---- the other way: which refusals there are, and what a result says
+
+-- no admission is refused with WrongLength
+not-length : (x : ℕ) (z : Option ℕ) (o h : Bool) → unlessZero z (unless (not o) OutsideRecord (unless (not h) HeapHeld (gives x))) ≡ refuses WrongLength → ⊥
+unfolding unlessZero unless
+not-length x (some c) o h q = let k : _≡_ {A = ℕ} 0 1 = cc in omega arith
+not-length x none true h q = let k : _≡_ {A = ℕ} 0 1 = cc in omega arith
+not-length x none false true q = let k : _≡_ {A = ℕ} 0 1 = cc in omega arith
+not-length x none false false q = let k : _≡_ {A = ℕ} 0 1 = cc in omega arith
+
+admission-not-length : (table pool : List ℕ) → admission table pool ≡ refuses WrongLength → ⊥
+unfolding admission
+admission-not-length table pool = go (typeOf table pool) refl
+  where
+    go : (o : Outcome Datatype) → typeOf table pool ≡ o → whenGiven o (λ t. admitting t (gives (typeSize t))) ≡ refuses WrongLength → ⊥
+    go (gives t) e h = not-length (typeSize t) (firstZero t) (outside t) (heapHeld t) (unfold whenGiven admitting in h)
+    go (refuses f) e h =
+        let b : f ≡ BadTable = typeOf-refuses table pool f e in
+        let q : f ≡ WrongLength = unfold whenGiven in cc in
+        let k : _≡_ {A = ℕ} 0 1 = cc in
+        omega arith
+
+-- a result: the type is admitted, the block is whole, and the lists have room
+pub record Given (table pool block : List ℕ) (room places : ℕ) (g : Groups) : Type 0 where
+  pub size : ℕ
+  pub admitted : admission table pool ≡ gives size
+  pub whole : length block % size ≡ 0
+  pub numbers-fit : length block / size ≤ room
+  pub sizes-fit : distinctOf (keysOf (fieldsIn table pool) block size) ≤ places
+  pub is : g ≡ groupsOf (keysOf (fieldsIn table pool) block size)
+
+-- WrongLength: the type is admitted, and the block is not whole
+pub record NotWhole (table pool block : List ℕ) : Type 0 where
+  pub size : ℕ
+  pub admitted : admission table pool ≡ gives size
+  pub not-whole : length block % size ≡ 0 → ⊥
+
+-- a result is no refusal, and a refusal no other
+not-given : {A B : Type 0} {o : Outcome A} {e : Refusal} {x : A} → o ≡ gives x → o ≡ refuses e → B
+not-given g h = absurd (let k : _≡_ {A = ℕ} 0 1 = cc in omega arith)
+
+not-room : {A B : Type 0} {o : Outcome A} (n : ℕ) → o ≡ refuses WrongLength → o ≡ refuses (NoRoom n) → B
+not-room n g h = absurd (let k : _≡_ {A = ℕ} 0 1 = cc in omega arith)
+
+module _ (table pool block : List ℕ) (room places : ℕ) where
+  -- the five ways out, each with what is known there
+  data Way : Outcome Groups → Type 0 where
+    refused : (e : Refusal) → admission table pool ≡ refuses e → Way (refuses e)
+    not-whole : NotWhole table pool block → Way (refuses WrongLength)
+    no-room : (n : ℕ) → Way (refuses (NoRoom n))
+    given : (g : Groups) → Given table pool block room places g → Way (gives g)
+
+  way-of : (o : Outcome ℕ) → admission table pool ≡ o → Way (duplicating table pool block room places)
+  way-of (gives size) a =
+      ⊎-elim
+      (λ (w : length block % size ≡ 0).
+      ⊎-elim
+      (λ (r : room < length block / size). rw (duplicating-numbers table pool block room places size a w r) (no-room (needed (length block / size))))
+      (λ (r : length block / size ≤ room).
+      ⊎-elim
+      (λ (p : places < distinctOf (keysOf (fieldsIn table pool) block size)).
+      rw (duplicating-sizes table pool block room places size a w r p) (no-room (needed (distinctOf (keysOf (fieldsIn table pool) block size)))))
+      (λ (p : distinctOf (keysOf (fieldsIn table pool) block size) ≤ places).
+      rw (duplicating-given table pool block room places size a w r p)
+      (given (groupsOf (keysOf (fieldsIn table pool) block size)) (record { size = size; admitted = a; whole = w; numbers-fit = r; sizes-fit = p; is = refl })))
+      (less-or-not places (distinctOf (keysOf (fieldsIn table pool) block size))))
+      (less-or-not room (length block / size)))
+      (λ (n : length block % size ≡ 0 → ⊥). rw (duplicating-length table pool block room places size a n) (not-whole (record { size = size; admitted = a; not-whole = n })))
+      (same-or-not (length block % size) 0)
+  way-of (refuses e) a = rw (duplicating-refused table pool e a block room places) (refused e a)
+
+  pub duplicating-gave : (g : Groups) → duplicating table pool block room places ≡ gives g → Given table pool block room places g
+  duplicating-gave g h = go (duplicating table pool block room places) h (way-of (admission table pool) refl)
+    where
+      go : (o : Outcome Groups) → o ≡ gives g → Way o → Given table pool block room places g
+      go o q (refused e a) = not-given q refl
+      go o q (not-whole w) = not-given q refl
+      go o q (no-room n) = not-given q refl
+      go o q (given f w) = let s : f ≡ g = cc in rw (← s) w
+
+  length-then : duplicating table pool block room places ≡ refuses WrongLength → NotWhole table pool block
+  length-then h = go (duplicating table pool block room places) h (way-of (admission table pool) refl)
+    where
+      go : (o : Outcome Groups) → o ≡ refuses WrongLength → Way o → NotWhole table pool block
+      go o q (refused e a) = let f : e ≡ WrongLength = cc in absurd (admission-not-length table pool (a ∙ ap refuses f))
+      go o q (not-whole w) = w
+      go o q (no-room n) = not-room n q refl
+      go o q (given g w) = not-given refl q
+
+  -- 18 exactly where the type is admitted and the block is not whole
+  pub duplicating-length-exactly : duplicating table pool block room places ≡ refuses WrongLength ↔ NotWhole table pool block
+  duplicating-length-exactly =
+      (length-then, (λ (n : NotWhole table pool block). duplicating-length table pool block room places (n .size) (n .admitted) (n .not-whole)))
