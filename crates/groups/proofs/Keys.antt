@@ -1,5 +1,5 @@
 -- The records of a block and their keys, by any fields.
-use Prim.Native.Nat.{ℕ, suc, _+_, _*_, _/_, _<_, _≤_}
+use Prim.Native.Nat.{ℕ, suc, _*_, _/_, _<_, _≤_}
 use mathlib.Core.Path.{_≡_}
 use mathlib.Core.List.{List, []}
 use native.Mathlib.Nat.{suc-mul, mul-le-mul-right, div-mul-le-self}

@@ -1,26 +1,26 @@
 -- What N3 answers, in the order of the refusals.
-use Prim.Native.Nat.{ℕ, zero, suc, _/_, _%_, _<_, _≤_}
-use mathlib.Core.Path.{_≡_, refl, sym, ap, _∙_}
+use Prim.Native.Nat.{ℕ, _/_, _%_, _<_, _≤_}
+use mathlib.Core.Path.{_≡_, refl, ap, _∙_}
 use mathlib.Core.Logic.{_↔_, ⊎-elim}
-use mathlib.Core.Bool.{Bool, true, false, not}
+use mathlib.Core.Bool.{Bool, true, false, not, _&&_}
 use mathlib.Core.List.{List, []}
 use mathlib.Core.Option.{Option, none, some}
 use native.Mathlib.Nat.{zero-div, zero-mod}
 use native.Mathlib.Omega.{arith}
 use lib.ListN.{length}
-use lib.Dec.{leb, eqb}
+use lib.Dec.{eqb}
 use borrow.Author.Tests.{eq-eqb, ne-eqb, le-leb, lt-leb}
+use Rattle.refusal.specs.Refusal.{numberOf}
 use Rattle.refusal.specs.declared.Refusal.{Refusal}
-use Rattle.refusal.specs.declared.Refusal.the-variants.{BadTable, OutsideRecord, HeapHeld, WrongLength, NoRoom}
+use Rattle.refusal.specs.declared.Refusal.the-variants.{BadTable, ZeroSize, OutsideRecord, HeapHeld, WrongLength, NoRoom}
 use Rattle.format.specs.Datatype.{Datatype, typeSize}
-use Rattle.format.specs.Image.{fieldsOf}
+use Rattle.format.specs.Image.{fieldsOf, agree}
 use Rattle.format.specs.Outcome.{Outcome, gives, refuses, whenGiven, unless, needed}
 use Rattle.format.specs.Ownership.{outside, heapHeld, admitting, admission, comparingRecords, comparing}
 use Rattle.format.specs.Slots.{firstZero, unlessZero}
 use Rattle.format.specs.Table.{typeOf}
-use Rattle.format.proofs.Admission.{AdmittedOf, admission-refused, admission-given}
+use Rattle.format.proofs.Admission.{admission-refused, admission-given}
 use Rattle.format.proofs.Ownership.{admitting-given}
-use Rattle.format.proofs.Slots.{first-zero-size}
 use Rattle.format.proofs.Table.{typeOf-refuses}
 use Rattle.groups.specs.Groups.{listed, numbersOf, numbersTo, firstsTo, firstsOf, distinctOf, sizesOf, sizesTo}
 use Rattle.groups.specs.Duplicates.{keysOf, fieldsGiven, fieldsIn, Groups, groupsOf, fitting, duplicatingRecords, duplicating}
@@ -41,12 +41,17 @@ module _ (room places : ℕ) (keys : List (List ℕ)) where
   unfolding fitting unless
   fitting-given h l = rw (le-leb (length keys) room h, le-leb (distinctOf keys) places l)
 
--- "Type checks come as for comparing two records": refusals 1, 12, 16 and 17
+-- "Type checks come as for comparing two records": refusals 1, 12, 16 and 17 are met alike
 module _ (table pool : List ℕ) (e : Refusal) (h : admission table pool ≡ refuses e) where
   pub duplicating-refused : (block : List ℕ) (room places : ℕ) → duplicating table pool block room places ≡ refuses e
   unfolding duplicating duplicatingRecords
   duplicating-refused block room places =
       admission-refused table pool (λ t. unless (eqb (length block % typeSize t) 0) WrongLength (fitting room places (keysOf (fieldsOf t) block (typeSize t)))) e h
+
+  pub comparing-refused-alike : (a b : List ℕ) → comparing table pool a b ≡ refuses e
+  unfolding comparing comparingRecords
+  comparing-refused-alike a b =
+      admission-refused table pool (λ t. unless (eqb (length a) (typeSize t) && eqb (length b) (typeSize t)) WrongLength (gives (agree t a b))) e h
 
 -- what waits behind the admission of a type
 behind : (table pool block : List ℕ) (room places size : ℕ) (t : Datatype) → typeOf table pool ≡ gives t → firstZero t ≡ none → outside t ≡ false → heapHeld t ≡ false
@@ -109,25 +114,25 @@ duplicating-empty table pool room places size h =
 
 -- ---- the other way: which refusals there are, and what a result says
 
--- no admission is refused with WrongLength
-not-length : (x : ℕ) (z : Option ℕ) (o h : Bool) → unlessZero z (unless (not o) OutsideRecord (unless (not h) HeapHeld (gives x))) ≡ refuses WrongLength → ⊥
+-- the refusals of an admission are lower than those behind it
+numbered : (x : ℕ) (e : Refusal) (z : Option ℕ) (o h : Bool) → unlessZero z (unless (not o) OutsideRecord (unless (not h) HeapHeld (gives x))) ≡ refuses e → numberOf e < 18
 unfolding unlessZero unless
-not-length x (some c) o h q = let k : _≡_ {A = ℕ} 0 1 = cc in omega arith
-not-length x none true h q = let k : _≡_ {A = ℕ} 0 1 = cc in omega arith
-not-length x none false true q = let k : _≡_ {A = ℕ} 0 1 = cc in omega arith
-not-length x none false false q = let k : _≡_ {A = ℕ} 0 1 = cc in omega arith
+numbered x e (some c) o h q = let k : ZeroSize c ≡ e = cc in rw (← k) (omega arith)
+numbered x e none true h q = let k : OutsideRecord ≡ e = cc in rw (← k) (omega arith)
+numbered x e none false true q = let k : HeapHeld ≡ e = cc in rw (← k) (omega arith)
+numbered x e none false false q = absurd (let k : _≡_ {A = ℕ} 0 1 = cc in omega arith)
 
-admission-not-length : (table pool : List ℕ) → admission table pool ≡ refuses WrongLength → ⊥
+admission-number : (table pool : List ℕ) (e : Refusal) → admission table pool ≡ refuses e → numberOf e < 18
 unfolding admission
-admission-not-length table pool = go (typeOf table pool) refl
+admission-number table pool e = go (typeOf table pool) refl
   where
-    go : (o : Outcome Datatype) → typeOf table pool ≡ o → whenGiven o (λ t. admitting t (gives (typeSize t))) ≡ refuses WrongLength → ⊥
-    go (gives t) e h = not-length (typeSize t) (firstZero t) (outside t) (heapHeld t) (unfold whenGiven admitting in h)
-    go (refuses f) e h =
-        let b : f ≡ BadTable = typeOf-refuses table pool f e in
-        let q : f ≡ WrongLength = unfold whenGiven in cc in
-        let k : _≡_ {A = ℕ} 0 1 = cc in
-        omega arith
+    go : (o : Outcome Datatype) → typeOf table pool ≡ o → whenGiven o (λ t. admitting t (gives (typeSize t))) ≡ refuses e → numberOf e < 18
+    go (gives t) i h = numbered (typeSize t) e (firstZero t) (outside t) (heapHeld t) (unfold whenGiven admitting in h)
+    go (refuses f) i h =
+        let b : f ≡ BadTable = typeOf-refuses table pool f i in
+        let q : f ≡ e = unfold whenGiven in cc in
+        let k : e ≡ BadTable = cc in
+        rw k (omega arith)
 
 -- a result: the type is admitted, the block is whole, and the lists have room
 pub record Given (table pool block : List ℕ) (room places : ℕ) (g : Groups) : Type 0 where
@@ -144,59 +149,84 @@ pub record NotWhole (table pool block : List ℕ) : Type 0 where
   pub admitted : admission table pool ≡ gives size
   pub not-whole : length block % size ≡ 0 → ⊥
 
--- a result is no refusal, and a refusal no other
+-- NoRoom: of an admitted type and a whole block, the list for the numbers is too short, or it is not and that for the sizes is
+pub data TooShort (table pool block : List ℕ) (room places : ℕ) : (wanted : ℕ) → Type 0 where
+  for-numbers : (size : ℕ) → admission table pool ≡ gives size → length block % size ≡ 0 → room < length block / size
+      → TooShort table pool block room places (needed (length block / size))
+  for-sizes : (size : ℕ) → admission table pool ≡ gives size → length block % size ≡ 0 → length block / size ≤ room → places < distinctOf (keysOf (fieldsIn table pool) block size)
+      → TooShort table pool block room places (needed (distinctOf (keysOf (fieldsIn table pool) block size)))
+
+-- a result is no refusal
 not-given : {A B : Type 0} {o : Outcome A} {e : Refusal} {x : A} → o ≡ gives x → o ≡ refuses e → B
 not-given g h = absurd (let k : _≡_ {A = ℕ} 0 1 = cc in omega arith)
 
-not-room : {A B : Type 0} {o : Outcome A} (n : ℕ) → o ≡ refuses WrongLength → o ≡ refuses (NoRoom n) → B
-not-room n g h = absurd (let k : _≡_ {A = ℕ} 0 1 = cc in omega arith)
+-- refusals behind the admission: of other numbers they are not equal
+not-equal : {A B : Type 0} (e f : Refusal) → _≡_ {A = Outcome A} (refuses e) (refuses f) → (numberOf e ≡ numberOf f → ⊥) → B
+not-equal e f h n = absurd (let k : e ≡ f = cc in n (ap numberOf k))
 
 module _ (table pool block : List ℕ) (room places : ℕ) where
-  -- the five ways out, each with what is known there
+  -- the ways out, each with what is known there
   data Way : Outcome Groups → Type 0 where
-    refused : (e : Refusal) → admission table pool ≡ refuses e → Way (refuses e)
+    refused : (e : Refusal) → numberOf e < 18 → Way (refuses e)
     not-whole : NotWhole table pool block → Way (refuses WrongLength)
-    no-room : (n : ℕ) → Way (refuses (NoRoom n))
+    too-short : (n : ℕ) → TooShort table pool block room places n → Way (refuses (NoRoom n))
     given : (g : Groups) → Given table pool block room places g → Way (gives g)
 
   way-of : (o : Outcome ℕ) → admission table pool ≡ o → Way (duplicating table pool block room places)
   way-of (gives size) a =
+      let keys = keysOf (fieldsIn table pool) block size in
       ⊎-elim
       (λ (w : length block % size ≡ 0).
       ⊎-elim
-      (λ (r : room < length block / size). rw (duplicating-numbers table pool block room places size a w r) (no-room (needed (length block / size))))
+      (λ (r : room < length block / size). rw (duplicating-numbers table pool block room places size a w r) (too-short (needed (length block / size)) (for-numbers size a w r)))
       (λ (r : length block / size ≤ room).
       ⊎-elim
-      (λ (p : places < distinctOf (keysOf (fieldsIn table pool) block size)).
-      rw (duplicating-sizes table pool block room places size a w r p) (no-room (needed (distinctOf (keysOf (fieldsIn table pool) block size)))))
-      (λ (p : distinctOf (keysOf (fieldsIn table pool) block size) ≤ places).
+      (λ (p : places < distinctOf keys). rw (duplicating-sizes table pool block room places size a w r p) (too-short (needed (distinctOf keys)) (for-sizes size a w r p)))
+      (λ (p : distinctOf keys ≤ places).
       rw (duplicating-given table pool block room places size a w r p)
-      (given (groupsOf (keysOf (fieldsIn table pool) block size)) (record { size = size; admitted = a; whole = w; numbers-fit = r; sizes-fit = p; is = refl })))
-      (less-or-not places (distinctOf (keysOf (fieldsIn table pool) block size))))
+      (given (groupsOf keys) (record { size = size; admitted = a; whole = w; numbers-fit = r; sizes-fit = p; is = refl })))
+      (less-or-not places (distinctOf keys)))
       (less-or-not room (length block / size)))
       (λ (n : length block % size ≡ 0 → ⊥). rw (duplicating-length table pool block room places size a n) (not-whole (record { size = size; admitted = a; not-whole = n })))
       (same-or-not (length block % size) 0)
-  way-of (refuses e) a = rw (duplicating-refused table pool e a block room places) (refused e a)
+  way-of (refuses e) a = rw (duplicating-refused table pool e a block room places) (refused e (admission-number table pool e a))
 
   pub duplicating-gave : (g : Groups) → duplicating table pool block room places ≡ gives g → Given table pool block room places g
   duplicating-gave g h = go (duplicating table pool block room places) h (way-of (admission table pool) refl)
     where
       go : (o : Outcome Groups) → o ≡ gives g → Way o → Given table pool block room places g
-      go o q (refused e a) = not-given q refl
+      go o q (refused e l) = not-given q refl
       go o q (not-whole w) = not-given q refl
-      go o q (no-room n) = not-given q refl
+      go o q (too-short n w) = not-given q refl
       go o q (given f w) = let s : f ≡ g = cc in rw (← s) w
 
   length-then : duplicating table pool block room places ≡ refuses WrongLength → NotWhole table pool block
   length-then h = go (duplicating table pool block room places) h (way-of (admission table pool) refl)
     where
       go : (o : Outcome Groups) → o ≡ refuses WrongLength → Way o → NotWhole table pool block
-      go o q (refused e a) = let f : e ≡ WrongLength = cc in absurd (admission-not-length table pool (a ∙ ap refuses f))
+      go o q (refused e l) = not-equal e WrongLength q (λ k. omega arith)
       go o q (not-whole w) = w
-      go o q (no-room n) = not-room n q refl
+      go o q (too-short n w) = not-equal (NoRoom n) WrongLength q (λ k. omega arith)
       go o q (given g w) = not-given refl q
+
+  room-then : (n : ℕ) → duplicating table pool block room places ≡ refuses (NoRoom n) → TooShort table pool block room places n
+  room-then n h = go (duplicating table pool block room places) h (way-of (admission table pool) refl)
+    where
+      go : (o : Outcome Groups) → o ≡ refuses (NoRoom n) → Way o → TooShort table pool block room places n
+      go o q (refused e l) = not-equal e (NoRoom n) q (λ k. omega arith)
+      go o q (not-whole w) = not-equal WrongLength (NoRoom n) q (λ k. omega arith)
+      go o q (too-short m w) = let k : m ≡ n = cc in rw (← k) w
+      go o q (given g w) = not-given refl q
+
+  room-if : {n : ℕ} → TooShort table pool block room places n → duplicating table pool block room places ≡ refuses (NoRoom n)
+  room-if (for-numbers size a w r) = duplicating-numbers table pool block room places size a w r
+  room-if (for-sizes size a w r p) = duplicating-sizes table pool block room places size a w r p
 
   -- 18 exactly where the type is admitted and the block is not whole
   pub duplicating-length-exactly : duplicating table pool block room places ≡ refuses WrongLength ↔ NotWhole table pool block
   duplicating-length-exactly =
       (length-then, (λ (n : NotWhole table pool block). duplicating-length table pool block room places (n .size) (n .admitted) (n .not-whole)))
+
+  -- 21 exactly where a list is too short
+  pub duplicating-room-exactly : (n : ℕ) → duplicating table pool block room places ≡ refuses (NoRoom n) ↔ TooShort table pool block room places n
+  duplicating-room-exactly n = (room-then n, (λ (w : TooShort table pool block room places n). room-if w))
