@@ -25,6 +25,8 @@ use Rattle.format.proofs.Table.{typeOf-refuses}
 use Rattle.groups.specs.Groups.{listed, numbersOf, numbersTo, firstsTo, firstsOf, distinctOf, sizesOf, sizesTo}
 use Rattle.groups.specs.Duplicates.{keysOf, fieldsGiven, fieldsIn, Groups, groupsOf, fitting, duplicatingRecords, duplicating}
 use Rattle.groups.proofs.Cases.{same-or-not, less-or-not}
+use Rattle.groups.proofs.Firsts.{length-numbers}
+use Rattle.groups.proofs.Counts.{length-sizes}
 use Rattle.groups.proofs.Keys.{length-keys}
 
 -- a list lent for n numbers, then one for the sizes
@@ -230,3 +232,29 @@ module _ (table pool block : List ℕ) (room places : ℕ) where
   -- 21 exactly where a list is too short
   pub duplicating-room-exactly : (n : ℕ) → duplicating table pool block room places ≡ refuses (NoRoom n) ↔ TooShort table pool block room places n
   duplicating-room-exactly n = (room-then n, (λ (w : TooShort table pool block room places n). room-if w))
+
+-- ---- what is wanted is the whole result: the lists that enough room gives
+
+numbers-listed : (keys : List (List ℕ)) → length (groupsOf keys .numbers) ≡ length keys
+unfolding groupsOf
+numbers-listed keys = length-numbers keys
+
+sizes-listed : (keys : List (List ℕ)) → length (groupsOf keys .sizes) ≡ distinctOf keys
+unfolding groupsOf sizesOf distinctOf firstsOf
+sizes-listed keys = length-sizes (numbersOf keys) (length keys)
+
+module _ (table pool block : List ℕ) (room places : ℕ) (g : Groups) (h : duplicating table pool block room places ≡ gives g) (room′ places′ : ℕ) where
+  pub duplicating-wants-numbers : room′ < length (g .numbers) → duplicating table pool block room′ places′ ≡ refuses (NoRoom (needed (length (g .numbers))))
+  duplicating-wants-numbers l =
+      let w = duplicating-gave table pool block room places g h in
+      let n : length (g .numbers) ≡ length block / w .size =
+      ap (λ (x : Groups). length (x .numbers)) (w .is) ∙ numbers-listed (keysOf (fieldsIn table pool) block (w .size)) ∙ length-keys (fieldsIn table pool) block (w .size) in
+      rw n (duplicating-numbers table pool block room′ places′ (w .size) (w .admitted) (w .whole) (omega arith))
+
+  pub duplicating-wants-sizes : length (g .numbers) ≤ room′ → places′ < length (g .sizes) → duplicating table pool block room′ places′ ≡ refuses (NoRoom (needed (length (g .sizes))))
+  duplicating-wants-sizes r l =
+      let w = duplicating-gave table pool block room places g h in
+      let keys = keysOf (fieldsIn table pool) block (w .size) in
+      let n : length (g .numbers) ≡ length block / w .size = ap (λ (x : Groups). length (x .numbers)) (w .is) ∙ numbers-listed keys ∙ length-keys (fieldsIn table pool) block (w .size) in
+      let d : length (g .sizes) ≡ distinctOf keys = ap (λ (x : Groups). length (x .sizes)) (w .is) ∙ sizes-listed keys in
+      rw d (duplicating-sizes table pool block room′ places′ (w .size) (w .admitted) (w .whole) (omega arith) (omega arith))
