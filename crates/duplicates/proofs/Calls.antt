@@ -28,12 +28,13 @@ use Rattle.compare.proofs.Comparing.{refused-admission}
 use Rattle.groups.specs.Groups.{numbersOf, firstsTo, sizesTo, firstsOf, distinctOf, sizesOf}
 use Rattle.groups.specs.Duplicates.{Groups, keysOf, fieldsIn, groupsOf, fitting, duplicatingRecords, duplicating}
 use Rattle.groups.proofs.Firsts.{length-numbers}
+use Rattle.groups.proofs.Keys.{length-keys}
 use Rattle.groups.proofs.Counts.{length-sizes, firsts-le}
 use Rattle.duplicates.specs.Answers.{duplicatesNumber, duplicatesValues, groupsValues, answerOf, numbersGiven, sizesGiven, fittingAnswer, written, Listed, Answered, DuplicatesAre}
 use Rattle.duplicates.specs.Records.{Whole, keysIn, Comparable}
 use Rattle.duplicates.specs.declared.outcome.Duplicates.{Duplicates}
 use Rattle.duplicates.specs.declared.outcome.Duplicates.the-variants.{Found, Refused}
-use Rattle.duplicates.proofs.KeyLaws.{length-keys, fields-in}
+use Rattle.duplicates.proofs.KeyLaws.{fields-in}
 
 -- ---- a refusal leaves both lists as they are
 

@@ -17,7 +17,7 @@ use Rattle.duplicates.specs.Answers.{Heads, Listed}
 use Rattle.duplicates.specs.Chaining.{keysBy, ByRuns, Compiled}
 use Rattle.duplicates.specs.Records.{keysIn, Comparable}
 use Rattle.duplicates.specs.declared.outcome.Duplicates.{Duplicates}
-use Rattle.duplicates.proofs.KeyLaws.{length-keys, fields-in}
+use Rattle.duplicates.proofs.KeyLaws.{fields-in}
 
 -- ---- the runs of a list of fields stand at the end
 
