@@ -14,7 +14,7 @@ use Rattle.format.proofs.Rows.{sameWords-refl, sameWords-true}
 use Rattle.compare.specs.Agreeing.{equalRange}
 use Rattle.compare.proofs.Ranges.{range-says}
 use Rattle.groups.specs.Runs.{Inside}
-use Rattle.keys.specs.Hash.{hashBytes, hashRuns, hashOf}
+use Rattle.keys.specs.Hash.{hashBytes, hashRuns, joinHashes, hashOf}
 use Rattle.keys.specs.Runs.{SameIn}
 use Rattle.keys.specs.declared.Multipliers.{Multipliers}
 
@@ -34,17 +34,17 @@ owned-within n fs h f e i o = omega (arith, run-inside n fs h f e, owned-says f 
 -- ---- the hash
 
 -- records whose runs have the same bytes that are compared have one hash
-hash-each : (m : Multipliers) (h : ℕ) (fs : List Field) (a b : List ℕ) → ((f : Field) → List·Memᴰ f fs → comparedOf f a ≡ comparedOf f b) → hashRuns m h fs a ≡ hashRuns m h fs b
+hash-each : (m : Multipliers) (h g : ℕ) (fs : List Field) (a b : List ℕ) → ((f : Field) → List·Memᴰ f fs → comparedOf f a ≡ comparedOf f b) → hashRuns m h g fs a ≡ hashRuns m h g fs b
 unfolding hashRuns
-hash-each m h [] a b e = refl
-hash-each m h (f ∷ fs) a b e =
-    rw (e f (List·Memᴰ·head refl)) (hash-each m (hashBytes m h (comparedOf f b)) fs a b (λ g q. e g (List·Memᴰ·tail q)))
+hash-each m h g [] a b e = refl
+hash-each m h g (f ∷ fs) a b e =
+    rw (e f (List·Memᴰ·head refl)) (hash-each m g (hashBytes m h (comparedOf f b)) fs a b (λ k q. e k (List·Memᴰ·tail q)))
 
 -- so a record and its image have
 pub hash-image : (m : Multipliers) (rs : List Field) (r : List ℕ) (n : ℕ) → Inside n rs → length r ≡ n → hashOf m rs (imageFrom rs r 0 n) ≡ hashOf m rs r
 unfolding hashOf
 hash-image m rs r n h l =
-    ap (λ (k : ℕ). k % 8589934583) (hash-each m 0 rs (imageFrom rs r 0 n) r
+    ap (λ (k : ℕ × ℕ). joinHashes m (k .0) (k .1)) (hash-each m 1 1 rs (imageFrom rs r 0 n) r
     (λ f e. both-compared n f (owned-within n rs h f e) (imageFrom rs r 0 n) r (length-image rs r 0 n) l (both-each rs n (imageFrom rs r 0 n) r (both-image rs n r) f e)))
 
 -- ---- equal images

@@ -13,7 +13,7 @@ use Rattle.format.proofs.Walking.{agree-none, agree-both, differ-first, differ-
 use Rattle.compare.specs.Agreeing.{equalRange, AgreesField, StringSame}
 use Rattle.compare.proofs.Ranges.{field-same, field-differs}
 use Rattle.groups.specs.Runs.{runsIn, Inside}
-use Rattle.keys.specs.Hash.{hashRuns, hashOf}
+use Rattle.keys.specs.Hash.{hashRuns, joinHashes, hashOf}
 use Rattle.keys.specs.Runs.{runAt, SameIn, Hashed, UpTo}
 use Rattle.keys.specs.declared.Multipliers.{Multipliers}
 use Rattle.keys.proofs.Images.{hash-image}
@@ -62,35 +62,37 @@ module _ (m : Multipliers) (h : ℕ) (x : List ℕ) (place code : ℕ) where
 
 -- ---- the runs hashed: what is left decides
 
-pub record RunsTo (m : Multipliers) (runs r : List ℕ) (h i : ℕ) : Type 0 where
+pub record RunsTo (m : Multipliers) (runs r : List ℕ) (h g i : ℕ) : Type 0 where
   pub within : i ≤ length runs
-  pub small : h < 34359738368
+  pub first-small : h < 34359738368
+  pub second-small : g < 34359738368
   pub inside : Inside (length r) (runsIn (drop i runs))
-  pub same : hashRuns m h (runsIn (drop i runs)) r ≡ hashRuns m 0 (runsIn runs) r
+  pub same : hashRuns m h g (runsIn (drop i runs)) r ≡ hashRuns m 1 1 (runsIn runs) r
 
 module _ (m : Multipliers) (runs r : List ℕ) where
-  pub hash-begun : Inside (length r) (runsIn runs) → RunsTo m runs r 0 0
-  hash-begun h = record { within = omega arith; small = omega arith; inside = h; same = refl }
+  pub hash-begun : Inside (length r) (runsIn runs) → RunsTo m runs r 1 1 0
+  hash-begun h = record { within = omega arith; first-small = omega arith; second-small = omega arith; inside = h; same = refl }
 
-  module _ (h i : ℕ) (w : RunsTo m runs r h i) where
+  module _ (h g i : ℕ) (w : RunsTo m runs r h g i) where
     pub hash-here : 2 ≤ length runs - i → getD runs i 0 + getD runs (i + 1) 0 / 2 ≤ length r
     hash-here l = run-here runs i (length r) (w .inside) l
 
-    pub hash-next : {k : ℕ} → Hashed m h (comparedOf (runAt (getD runs i 0) (getD runs (i + 1) 0)) r) k → 2 ≤ length runs - i → RunsTo m runs r k (i + 2)
+    pub hash-next : {k : ℕ} → Hashed m h (comparedOf (runAt (getD runs i 0) (getD runs (i + 1) 0)) r) k → 2 ≤ length runs - i → RunsTo m runs r g k (i + 2)
     unfolding hashRuns
-    hash-next g l =
+    hash-next x l =
         record {
           within = omega arith;
-          small = g .small;
+          first-small = w .second-small;
+          second-small = x .small;
           inside = runs-behind runs i (length r) (w .inside) l;
-          same = rw (g .is) (rw (runs-next runs i l) at (w .same));
+          same = rw (x .is) (rw (runs-next runs i l) at (w .same));
         }
 
-    pub hash-done : Inside (length r) (runsIn runs) → length runs - i < 2 → h % 8589934583 ≡ hashOf m (runsIn runs) (imageFrom (runsIn runs) r 0 (length r))
+    pub hash-done : {k : ℕ} → k ≡ joinHashes m h g → Inside (length r) (runsIn runs) → length runs - i < 2 → k ≡ hashOf m (runsIn runs) (imageFrom (runsIn runs) r 0 (length r))
     unfolding hashRuns hashOf
-    hash-done q l =
-        let e : h ≡ hashRuns m 0 (runsIn runs) r = rw (runs-none runs i l) at (w .same) in
-        ap (λ (k : ℕ). k % 8589934583) e ∙ sym (hash-image m (runsIn runs) r (length r) q refl)
+    hash-done j q l =
+        let e : _≡_ {A = ℕ × ℕ} (h, g) (hashRuns m 1 1 (runsIn runs) r) = rw (runs-none runs i l) at (w .same) in
+        j ∙ ap (λ (k : ℕ × ℕ). joinHashes m (k .0) (k .1)) e ∙ sym (hash-image m (runsIn runs) r (length r) q refl)
 
 -- ---- one run compared
 

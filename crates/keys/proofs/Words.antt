@@ -10,7 +10,7 @@ use lib.Seq.{drop-cons}
 use mir.Syntax.{w64}
 use mir.Val.{Fits}
 use Rattle.format.specs.Bytes.{numberFrom, AllBytes}
-use Rattle.keys.specs.Hash.{Small, reduced, step}
+use Rattle.keys.specs.Hash.{Small, reduced, step, joinHashes}
 use Rattle.keys.specs.Runs.{Word, Steps}
 use Rattle.keys.specs.declared.Multipliers.{Multipliers}
 
@@ -98,3 +98,16 @@ module _ (m : Multipliers) (h v w : ℕ) (s : Small m) (lh : h < 34359738368) (l
   pub step-is : Steps m h v w (((h + v) * m .first + w * m .second) % 8589934592 + ((h + v) * m .first + w * m .second) / 8589934592 * 9)
   unfolding step reduced
   step-is = record { is = refl; small = omega (arith, sum-below) }
+
+-- nor where two hashes are made one
+module _ (m : Multipliers) (g : ℕ) (s : Small m) (lg : g < 34359738368) where
+  pub join-fits : Fits w64 (g * m .second)
+  join-fits = let p : g * m .second ≤ 34359738367 * 268435455 = mul-le-mul {n₂ = 34359738367} {m₂ = 268435455} (omega arith) (omega (arith, s .second-small)) in record { fits = omega (arith, p) }
+
+pub reduce-is : (t : ℕ) → t < 18446744073709551616 → (t % 8589934592 + t / 8589934592 * 9 ≡ reduced t) × (t % 8589934592 + t / 8589934592 * 9 < 34359738368)
+unfolding reduced
+reduce-is t l = (refl, omega arith)
+
+pub join-is : (m : Multipliers) (h g a b : ℕ) → a ≡ reduced (g * m .second) → b ≡ reduced (a * m .second) → (h + b) % 8589934583 ≡ joinHashes m h g
+unfolding joinHashes
+join-is m h g a b e f = rw (f, e)

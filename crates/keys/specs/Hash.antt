@@ -29,10 +29,14 @@ hashChunks m h (suc n) s = hashChunks m (step m h (numberFrom (take 4 s)) (numbe
 unfoldable pub hashBytes : Multipliers → (h : ℕ) → List ℕ → ℕ
 hashBytes m h s = hashChunks m h ((length s + 7) / 8) s
 
--- each run's bytes that are compared, in the list's order
-unfoldable pub hashRuns : Multipliers → (h : ℕ) → List Field → List ℕ → ℕ
-hashRuns m h [] r = h
-hashRuns m h (f ∷ fs) r = hashRuns m (hashBytes m h (comparedOf f r)) fs r
+-- Two hashes take the runs in turn, so that neither waits for the other. Both begin at 1, so that what strings leave out at their end tells.
+unfoldable pub hashRuns : Multipliers → (h g : ℕ) → List Field → List ℕ → ℕ × ℕ
+hashRuns m h g [] r = (h, g)
+hashRuns m h g (f ∷ fs) r = hashRuns m g (hashBytes m h (comparedOf f r)) fs r
+
+-- made one: the second times the square of a multiplier, a power that no step of the first has
+unfoldable pub joinHashes : Multipliers → (h g : ℕ) → ℕ
+joinHashes m h g = (h + reduced (reduced (g * m .second) * m .second)) % 8589934583
 
 unfoldable pub hashOf : Multipliers → List Field → List ℕ → ℕ
-hashOf m rs r = hashRuns m 0 rs r % 8589934583
+hashOf m rs r = joinHashes m (hashRuns m 1 1 rs r .0) (hashRuns m 1 1 rs r .1)

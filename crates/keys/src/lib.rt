@@ -9,7 +9,7 @@ ghost use Rattle.format.specs.Image.{imageFrom, comparedOf};
 ghost use Rattle.format.specs.Table.{sameWords};
 ghost use Rattle.compare.specs.Agreeing.{equalRange};
 ghost use Rattle.groups.specs.Runs.{runsIn, Inside};
-ghost use Rattle.keys.specs.Hash.{Small, seededBy, hashOf};
+ghost use Rattle.keys.specs.Hash.{Small, seededBy, reduced, joinHashes, hashOf};
 ghost use Rattle.keys.specs.Runs.{runAt, SameIn, Word, Steps, Hashed, UpTo};
 
 // Two multipliers of a hash.
@@ -133,21 +133,41 @@ fn hash_run(m: Multipliers, h: u64, x: &[u8], place: usize, code: u64) -> u64
     hash_range(m, h, x, place, n)
 }
 
+// A number with the same remainder, below 2^35.
+fn reduce(t: u64) -> u64
+    ensures { λ r. ⌜ (r ≡ reduced t) × (r < 34359738368) ⌝ }
+{
+    t % 8589934592 + t / 8589934592 * 9
+}
+
+// The two hashes of a record made one.
+fn join_hashes(m: Multipliers, h: u64, g: u64) -> u64
+    requires { ⌜ Small m × (h < 34359738368) × (g < 34359738368) ⌝ }
+    ensures { λ r. ⌜ r ≡ joinHashes m h g ⌝ }
+{
+    let once = reduce(g * m.second);
+    let twice = reduce(once * m.second);
+    (h + twice) % 8589934583
+}
+
 // The hash of a record's image: records that are the same by the runs have one hash. Cost: a step for each 8 bytes of a run, begun
 // or whole, and a look at each byte of a string up to its NUL.
 pub fn hash_by_runs(runs: &[u64], m: Multipliers, record: &[u8]) -> u64
     requires { ⌜ Inside (length (now «record»)) (runsIn (now runs)) × Small m ⌝ }
     ensures { λ r. ⌜ r ≡ hashOf m (runsIn (now (runs .entry))) (imageFrom (runsIn (now (runs .entry))) (now («record» .entry)) 0 (length (now («record» .entry)))) ⌝ }
 {
-    let mut h: u64 = 0;
+    let mut h: u64 = 1;
+    let mut g: u64 = 1;
     let mut i = 0;
     while runs.len() - i >= 2 {
         let place = runs[i] as usize;
         let code = runs[i + 1];
-        h = hash_run(m, h, record, place, code);
+        let next = hash_run(m, h, record, place, code);
+        h = g;
+        g = next;
         i += 2;
     }
-    h % 8589934583
+    join_hashes(m, h, g)
 }
 
 // Whether 8 bytes from `at` on are equal.
