@@ -1,26 +1,27 @@
 -- Records on chains, by the runs at the workspace's end.
 use Prim.Native.Nat.{ℕ, zero, _+_, _-_, _/_, _%_, _<_, _≤_}
 use mathlib.Core.Path.{_≡_, refl, sym, ap, _∙_}
-use mathlib.Core.Bool.{Bool, true, false}
+use mathlib.Core.Bool.{Bool, true, false, false≢true}
 use mathlib.Core.List.{List, _++_}
 use native.Mathlib.Omega.{arith}
 use lib.ListN.{length, getD, drop, set, replicate, length-append, length-replicate, length-drop}
 use lib.Seq.{drop-set-lt, drop-append-seam}
 use Rattle.format.specs.Image.{imageFrom}
 use Rattle.format.specs.Table.{sameWords}
+use Rattle.format.proofs.Rows.{sameWords-true}
 use Rattle.groups.specs.Groups.{keyAt, firstsTo, numbersOf}
 use Rattle.groups.specs.Chains.{bucketOf, Built, Sought, namesIn, Tallied}
 use Rattle.groups.specs.Duplicates.{recordAt, keysOf}
 use Rattle.groups.specs.Runs.{runsIn, Inside}
 use Rattle.groups.proofs.Heads.{Seeking, find-begins, find-fails, find-inside, find-place, find-falls, find-hit, find-on}
 use Rattle.groups.proofs.Ways.{bucket-is, bucket-below, place-first, place-later, built-clear, tally-begins, distinct-is, tallied-is, groups-are}
-use Rattle.groups.proofs.Building.{tallied-own}
+use Rattle.groups.proofs.Building.{built-repeat, tallied-own}
 use Rattle.groups.proofs.Keys.{length-keys}
 use Rattle.keys.specs.Hash.{Small, hashOf}
 use Rattle.keys.specs.declared.Multipliers.{Multipliers}
 use Rattle.duplicates.specs.Answers.{Listed}
 use Rattle.duplicates.specs.Records.{IsRecord}
-use Rattle.duplicates.specs.Chaining.{keysBy, ByRuns, InBucket, Seeks, SpotIs, Placed, Compiled, Counted}
+use Rattle.duplicates.specs.Chaining.{keysBy, ByRuns, InBucket, Seeks, SpotIs, Repeats, Placed, Compiled, Counted}
 use Rattle.duplicates.specs.declared.chains.Spot.{Spot}
 use Rattle.duplicates.specs.declared.outcome.Duplicates.{Duplicates}
 use Rattle.duplicates.proofs.Answers.{listed-as}
@@ -152,6 +153,31 @@ module _ (words : List ℕ) (m : Multipliers) (a b : List ℕ) (size n buckets k
           ∙ drop-set-lt (buckets + n + n) w (buckets + k) (getD w (s .bucket) 0) (omega arith))
           (place-later (hashOf m (runsIn words)) (keysBy words a b size) n buckets k w (s .bucket) (s .first) (g .built) l (i .in-bucket .is) (i .in-bucket .below) (i .sought) z)
 
+-- a record that is the same as the one before it
+module _ (m : Multipliers) (a b : List ℕ) (size n buckets k : ℕ) (w : List ℕ) (g : Placed (drop (buckets + n + n) w) m a b size n buckets k w) (l : k < n) where
+  pub repeats-first : k ≡ 0 → Repeats (keysBy (drop (buckets + n + n) w) a b size) k false
+  repeats-first z = record { later = λ e. absurd (false≢true e); equal = λ e. absurd (false≢true e) }
+
+  module _ (z : k ≡ 0 → ⊥) {runs : List ℕ} (e : runs ≡ drop (buckets + n + n) w) where
+    pub repeats-before : k - 1 < length (keysBy runs a b size)
+    repeats-before = rw e (omega (arith, g .count))
+
+    pub repeats-told : {c : Bool} → c ≡ sameWords (keyAt (keysBy runs a b size) (k - 1)) (keyAt (keysBy runs a b size) k) → Repeats (keysBy (drop (buckets + n + n) w) a b size) k c
+    repeats-told q = record { later = λ y. omega arith; equal = λ y. sameWords-true _ _ (sym (rw e at q) ∙ y) }
+
+  module _ {c : Bool} (r : Repeats (keysBy (drop (buckets + n + n) w) a b size) k c) (y : c ≡ true) where
+    pub repeat-room : buckets + n + k < length w
+    repeat-room = omega (arith, g .built .room)
+
+    pub repeat-later : 0 < k
+    repeat-later = r .later y
+
+    pub placed-repeat : Placed (drop (buckets + n + n) w) m a b size n buckets (k + 1) (set w (buckets + n + k) (getD w (buckets + n + k - 1) 0))
+    placed-repeat =
+        more (drop (buckets + n + n) w) m a b size n buckets k w g l (set w (buckets + n + k) (getD w (buckets + n + k - 1) 0))
+        (drop-set-lt (buckets + n + n) w (buckets + n + k) (getD w (buckets + n + k - 1) 0) (omega arith))
+        (built-repeat (hashOf m (runsIn (drop (buckets + n + n) w))) (keysBy (drop (buckets + n + n) w) a b size) n buckets k w (g .built) l (g .count) (r .later y) (r .equal y))
+
 -- ---- all records placed
 
 -- the words behind the part that is cleared stay
@@ -184,9 +210,7 @@ module _ (words : List ℕ) (m : Multipliers) (a b : List ℕ) (size n buckets k
   pub placed-next : (j : ℕ) (w′ : List ℕ) → Placed (drop (buckets + n + n) w) m a b size n buckets j w′ → Placed words m a b size n buckets j w′
   placed-next j w′ q = rw (p .kept) at q
 
-pub placed-begin : (m : Multipliers) (a b : List ℕ) (size n buckets k : ℕ) (w : List ℕ) → k ≡ 0 → Placed (drop (buckets + n + n) w) m a b size n buckets 0 w → Placed (drop (buckets + n + n) w) m a b size n buckets k w
-placed-begin m a b size n buckets k w e p = rw e p
-
+-- a loop that has come to its end
 pub placed-all : (words : List ℕ) (m : Multipliers) (a b : List ℕ) (size n buckets k : ℕ) (w : List ℕ) → Placed words m a b size n buckets k w → k ≤ n → n ≤ k → Placed words m a b size n buckets n w
 placed-all words m a b size n buckets k w p h i = let e : k ≡ n = omega arith in rw e at p
 

@@ -1,9 +1,10 @@
 -- Records of two blocks on chains, compared and hashed by the runs that stand at the workspace's end.
-use Prim.Native.Nat.{ℕ, _+_, _<_, _≤_}
+use Prim.Native.Nat.{ℕ, _+_, _-_, _<_, _≤_}
 use mathlib.Core.Path.{_≡_}
+use mathlib.Core.Bool.{Bool, true}
 use mathlib.Core.List.{List, _++_}
 use lib.ListN.{length, drop}
-use Rattle.groups.specs.Groups.{numbersOf, distinctOf}
+use Rattle.groups.specs.Groups.{keyAt, numbersOf, distinctOf}
 use Rattle.groups.specs.Chains.{bucketOf, Chained, Built, Sought, Tallied}
 use Rattle.groups.specs.Duplicates.{keysOf}
 use Rattle.groups.specs.Runs.{runsIn, Inside}
@@ -37,6 +38,11 @@ pub record Seeks (keys : List (List ℕ)) (buckets k : ℕ) (w : List ℕ) (buck
 pub record SpotIs (words : List ℕ) (m : Multipliers) (a b : List ℕ) (size buckets k : ℕ) (s : Spot) : Type 0 where
   pub in-bucket : InBucket m words a b size buckets k (s .bucket)
   pub sought : Sought (keysBy words a b size) k (s .first)
+
+-- a yes says that a record is the same as the one before it
+pub record Repeats (keys : List (List ℕ)) (k : ℕ) (r : Bool) : Type 0 where
+  pub later : r ≡ true → 0 < k
+  pub equal : r ≡ true → keyAt keys (k - 1) ≡ keyAt keys k
 
 -- k of n records are placed, and the runs stand behind them
 pub record Placed (words : List ℕ) (m : Multipliers) (a b : List ℕ) (size n buckets k : ℕ) (w : List ℕ) : Type 0 where

@@ -15,7 +15,7 @@ ghost use Rattle.groups.specs.Groups.{keyAt, numbersOf, distinctOf};
 ghost use Rattle.groups.specs.Chains.{Sought, Tallied};
 ghost use Rattle.keys.specs.Hash.{Small};
 ghost use Rattle.duplicates.specs.Answers.{Listed};
-ghost use Rattle.duplicates.specs.Chaining.{keysBy, ByRuns, InBucket, Seeks, SpotIs, Placed, Compiled, Counted};
+ghost use Rattle.duplicates.specs.Chaining.{keysBy, ByRuns, InBucket, Seeks, SpotIs, Repeats, Placed, Compiled, Counted};
 
 // Where a record goes: its bucket, and one more than its first, or 0 where it is the first.
 pub struct Spot {
@@ -110,7 +110,7 @@ fn look_up<'a>(
 }
 
 // Record k: its first, and its place on a chain if it is one.
-fn place<'a>(
+fn place_new<'a>(
     a: &'a [u8],
     b: &'a [u8],
     size: usize,
@@ -133,6 +133,48 @@ fn place<'a>(
         work[buckets + n + k] = k as u64;
     } else {
         work[buckets + n + k] = first - 1;
+    }
+}
+
+// Whether record k is the same as the one before it.
+fn repeats<'a>(
+    a: &'a [u8],
+    b: &'a [u8],
+    size: usize,
+    n: usize,
+    m: Multipliers,
+    buckets: usize,
+    k: usize,
+    work: &[u64],
+) -> bool
+    requires { ⌜ Placed (drop (buckets + n + n) (now work)) m (now a) (now b) size n buckets k (now work) × (k < n) ⌝ }
+    ensures { λ r. ⌜ Repeats (keysBy (drop (buckets + n + n) (now (work .entry))) (now (a .entry)) (now (b .entry)) size) k r ⌝ }
+{
+    if k == 0 {
+        return false;
+    }
+    let runs = words_from(work, buckets + n + n);
+    same_key(a, b, size, runs, k - 1, k)
+}
+
+// Record k: with the first of the one before it if it is the same, which needs no hash.
+fn place<'a>(
+    a: &'a [u8],
+    b: &'a [u8],
+    size: usize,
+    n: usize,
+    m: Multipliers,
+    buckets: usize,
+    k: usize,
+    work: &mut [u64],
+)
+    requires { ⌜ Placed (drop (buckets + n + n) (now work)) m (now a) (now b) size n buckets k (now work) × (k < n) ⌝ }
+    ensures { λ _. ⌜ Placed (drop (buckets + n + n) (now (work .entry))) m (now (a .entry)) (now (b .entry)) size n buckets (k + 1) (now (work .exit)) ⌝ }
+{
+    if repeats(a, b, size, n, m, buckets, k, work) {
+        work[buckets + n + k] = work[buckets + n + k - 1];
+    } else {
+        place_new(a, b, size, n, m, buckets, k, work);
     }
 }
 

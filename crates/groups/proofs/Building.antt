@@ -8,10 +8,10 @@ use lib.ListN.{length, getD, take, drop, set, length-set, length-drop}
 use lib.Seq.{getD-set-same, getD-set-other, getD-take, getD-drop, drop-set-lt, length-take-le, take-all, ext-getD}
 use mir.Syntax.{w64}
 use mir.Val.{Fits}
-use Rattle.groups.specs.Groups.{firstOf, numbersOf, count}
+use Rattle.groups.specs.Groups.{keyAt, firstOf, numbersOf, count}
 use Rattle.groups.specs.Chains.{bucketOf, headOf, Chained, Built, namesIn, Named, Tallied}
 use Rattle.groups.proofs.Cases.{same-or-not, below-or-same}
-use Rattle.groups.proofs.Firsts.{first-below, length-numbers, number-at}
+use Rattle.groups.proofs.Firsts.{first-below, first-of-equal, length-numbers, number-at}
 use Rattle.groups.proofs.Counts.{count-take-hit, count-take-miss, count-later, count-le}
 use Rattle.groups.proofs.Heads.{head-hit, head-other, head-later}
 
@@ -22,7 +22,7 @@ unfolding headOf
 built-none hash keys n buckets w h z =
     record {
       room = h;
-      chains = record { heads = λ (b : ℕ) (l : b < buckets). z b l; links = λ (j : ℕ) (l : j < 0). absurd (omega arith) };
+      chains = record { heads = λ (b : ℕ) (l : b < buckets). z b l; links = λ (j : ℕ) (l : j < 0) f. absurd (omega arith) };
       firsts = λ (j : ℕ) (l : j < 0). absurd (omega arith);
     }
 
@@ -36,9 +36,9 @@ module _ (hash : List ℕ → ℕ) (keys : List (List ℕ)) (n buckets k : ℕ) 
         room = omega (arith, built .room);
         chains = record {
           heads = heads;
-          links = λ (j : ℕ) (h : j < k + 1).
+          links = λ (j : ℕ) (h : j < k + 1) (f : firstOf keys j ≡ j).
               ⊎-elim
-              (λ (g : j < k). links j g ∙ built .chains .links j g)
+              (λ (g : j < k). links j g ∙ built .chains .links j g f)
               (λ (g : j ≡ k). rw g (link ∙ built .chains .heads bucket i ∙ ap (λ (x : ℕ). headOf hash keys buckets x k) e))
               (below-or-same j k h);
         };
@@ -102,6 +102,34 @@ module _ (hash : List ℕ → ℕ) (keys : List (List ℕ)) (n buckets k : ℕ) 
       getD-set-other w₁ (buckets + n + k) (buckets + n + j) (p - 1) 0 (omega arith)
       ∙ getD-set-other w (buckets + k) (buckets + n + j) (getD w bucket 0) 0 (omega arith))
       (getD-set-same w₁ (buckets + n + k) (p - 1) 0 (omega arith) ∙ omega arith)
+
+-- a record that is the same as the one before it: no search, and no link
+pub built-repeat : (hash : List ℕ → ℕ) (keys : List (List ℕ)) (n buckets k : ℕ) (w : List ℕ) → Built hash keys n buckets k w → k < n → n ≡ length keys → 0 < k → keyAt keys (k - 1) ≡ keyAt keys k
+    → Built hash keys n buckets (k + 1) (set w (buckets + n + k) (getD w (buckets + n + k - 1) 0))
+built-repeat hash keys n buckets k w built l c z q =
+    let v = getD w (buckets + n + k - 1) 0 in
+    let r = built .room in
+    let f : firstOf keys (k - 1) ≡ firstOf keys k = first-of-equal keys (k - 1) k q in
+    let low : firstOf keys k < k = omega (arith, f, first-below keys (k - 1) (omega arith)) in
+    let at : buckets + n + k - 1 ≡ buckets + n + (k - 1) = omega arith in
+    let e : v ≡ firstOf keys k = rw at (built .firsts (k - 1) (omega arith)) ∙ f in
+    record {
+      room = omega (arith, length-set w (buckets + n + k) v, r);
+      chains = record {
+        heads = λ (b : ℕ) (h : b < buckets).
+            getD-set-other w (buckets + n + k) b v 0 (omega arith) ∙ built .chains .heads b h ∙ sym (head-later hash keys buckets b k (omega arith));
+        links = λ (j : ℕ) (h : j < k + 1) (g : firstOf keys j ≡ j).
+            ⊎-elim
+            (λ (i : j < k). getD-set-other w (buckets + n + k) (buckets + j) v 0 (omega arith) ∙ built .chains .links j i g)
+            (λ (i : j ≡ k). absurd (let y : firstOf keys k ≡ k = rw i at g in omega arith))
+            (below-or-same j k h);
+      };
+      firsts = λ (j : ℕ) (h : j < k + 1).
+          ⊎-elim
+          (λ (i : j < k). getD-set-other w (buckets + n + k) (buckets + n + j) v 0 (omega arith) ∙ built .firsts j i)
+          (λ (i : j ≡ k). rw i (getD-set-same w (buckets + n + k) v 0 (omega arith) ∙ e))
+          (below-or-same j k h);
+    }
 
 -- ---- the names in the workspace
 

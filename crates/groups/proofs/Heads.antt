@@ -166,7 +166,7 @@ module _ (hash : List ℕ → ℕ) (keys : List (List ℕ)) (buckets bucket k : 
       find-place n l = omega (arith, seek-inside hash keys buckets bucket k h b p s (p - 1) z refl)
 
       link : getD w (buckets + (p - 1)) 0 ≡ headOf hash keys buckets (bucketOf hash keys buckets (p - 1)) (p - 1)
-      link = chains .links (p - 1) (seek-inside hash keys buckets bucket k h b p s (p - 1) z refl)
+      link = chains .links (p - 1) (seek-inside hash keys buckets bucket k h b p s (p - 1) z refl) (here hash keys buckets bucket k h b p s (p - 1) z refl .0)
 
       pub find-falls : getD w (buckets + (p - 1)) 0 < p
       find-falls = seek-falls hash keys buckets bucket k h b p s (p - 1) z refl (getD w (buckets + (p - 1)) 0) link

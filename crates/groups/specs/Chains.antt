@@ -17,10 +17,10 @@ headOf hash keys buckets bucket zero = 0
 headOf hash keys buckets bucket (suc m) =
     cond (eqb (firstOf keys m) m && eqb (bucketOf hash keys buckets m) bucket) (suc m) (headOf hash keys buckets bucket m)
 
--- the chains when k records have been placed: a head leads to the greatest first of its bucket, a link to the next smaller one
+-- the chains when k records have been placed: a head leads to the greatest first of its bucket, a first's link to the next smaller one
 pub record Chained (hash : List ℕ → ℕ) (keys : List (List ℕ)) (buckets k : ℕ) (w : List ℕ) : Type 0 where
   pub heads : (b : ℕ) → b < buckets → getD w b 0 ≡ headOf hash keys buckets b k
-  pub links : (j : ℕ) → j < k → getD w (buckets + j) 0 ≡ headOf hash keys buckets (bucketOf hash keys buckets j) j
+  pub links : (j : ℕ) → j < k → firstOf keys j ≡ j → getD w (buckets + j) 0 ≡ headOf hash keys buckets (bucketOf hash keys buckets j) j
 
 -- and the firsts found so far
 pub record Built (hash : List ℕ → ℕ) (keys : List (List ℕ)) (n buckets k : ℕ) (w : List ℕ) : Type 0 where

@@ -1,47 +1,27 @@
-use lib.ListN.{length-set}
-use Rattle.duplicates.proofs.Chaining.{placed-below, placed-room, placed-first, placed-later}
+use Rattle.duplicates.proofs.Chaining.{placed-repeat}
 use borrow.Author.Needs.{needs}
 use Rattle.duplicates.proofs.chains.place.Statement.{statement}
 use Rattle.duplicates.proofs.chains.place.Tie as tie
 
-slice-write-work-2 : tie.Need-slice-write-work-2
-slice-write-work-2 c = simp length-set (search (placed-below, placed-room, needs))
-
-slice-write-work-3 : tie.Need-slice-write-work-3
-slice-write-work-3 c = simp length-set (search (placed-below, placed-room, needs))
-
-slice-write-work-4 : tie.Need-slice-write-work-4
-slice-write-work-4 c = simp length-set (search (placed-below, placed-room, needs))
-
 returns : tie.Need-returns
-returns c = search placed-first
-
-returns-2 : tie.Need-returns-2
-returns-2 c = search placed-later
+returns c = search placed-repeat
 
 pub place-spec : {M : Type 1} → statement M
 place-spec =
     tie.close
     (tie.spec
-    (λ c κs. search needs)  -- look-up-requires
-    (λ c. search needs)  -- mul-head
-    (λ c. search needs)  -- slice-read-head
+    (λ c κs. search needs)  -- repeats-requires
     (λ c. search needs)  -- add-work
-    (λ c. search needs)  -- mul-work
-    (λ c. search needs)  -- slice-write-work
     (λ c. search needs)  -- add-work-2
-    (λ c. search needs)  -- mul-work-2
-    slice-write-work-2
+    (λ c. search needs)  -- sub-work
+    (λ c. search needs)  -- mul-work
+    (λ c. search needs)  -- slice-read-work
     (λ c. search needs)  -- add-work-3
     (λ c. search needs)  -- add-work-4
-    (λ c. search needs)  -- mul-work-3
-    slice-write-work-3
-    (λ c. search needs)  -- sub-work
-    (λ c. search needs)  -- add-work-5
-    (λ c. search needs)  -- add-work-6
-    (λ c. search needs)  -- mul-work-4
-    slice-write-work-4
+    (λ c. search needs)  -- mul-work-2
+    (λ c. search needs)  -- slice-write-work
+    (λ c κs. search needs)  -- place-new-requires
     (λ c. search needs)  -- same-length
     returns
     (λ c. search needs)  -- same-length-2
-    returns-2)
+    (λ c. search needs))  -- returns-2
