@@ -1,5 +1,5 @@
-// Reads types with thousands of members, and writes, compares and lists the slots of what was read, on a thread whose stack has 256 KiB: the
-// stack must not grow with a count.
+// Reads types with thousands of members, writes and compares what was read, lists its slots and finds which records are the same, on a thread
+// whose stack has 256 KiB: the stack must not grow with a count. The same for blocks of 0, 1 and 1,000,000 records.
 #include <pthread.h>
 #include <stdint.h>
 #include <stdio.h>
@@ -43,7 +43,10 @@ static void enumeration(unsigned members) {
     for (unsigned i = 0; i < members; i++) put("\1", 1);
 }
 
-static uint8_t written[MOST], a[255], b[255];
+enum { RECORDS = 1000000 };
+
+static uint8_t written[MOST], a[255], b[255], block[RECORDS * 4];
+static uint64_t numbers[RECORDS], sizes[RECORDS], work[RECORDS * 3 + 8192];
 static int failed;
 
 static void expect(const char *name, const char *call, uint32_t number, uint32_t expected) {
@@ -77,22 +80,59 @@ static void *calls(void *given) {
     expect(run->name, "the comparison", first == run->differs, 1);
     number = datatype_slots(table, ROWS * 16, pool, POOL, &slot, 1, &first, &second);
     expect(run->name, "slots", number, 0);
-    if (!failed) printf("%s: %zu bytes read, written, compared, searched for slots\n", run->name, length);
+    memset(block, 1, 3 * run->size);
+    memset(block + run->size, 2, run->size);
+    for (size_t words = 0; words <= 4 * 3 + 8192; words += 4 * 3 + 8192) {
+        number = datatype_duplicates(table, ROWS * 16, pool, POOL, block, 3 * run->size, numbers, 3, sizes, 3, work, words, &first, &second);
+        expect(run->name, "duplicates", number, run->compared);
+        if (number == 0)
+            expect(run->name, "the groups", first == 3 && second == 2 && numbers[0] == 0 && numbers[1] == 1 && numbers[2] == 0 && sizes[0] == 2 && sizes[1] == 1, 1);
+    }
+    if (!failed) printf("%s: %zu bytes read, written, compared, searched for slots and for duplicates\n", run->name, length);
     return 0;
 }
 
-static void run(struct run given) {
+// Records of two members of a byte with a gap behind each: 251 values of the one and 3 of the other.
+static void *records(void *given) {
+    const char *name = given;
+    uint64_t first = 0, second = 0, words = 0;
+    expect(name, "read", datatype_read(message, length, 15, table, ROWS * 16, pool, POOL, &first, &second), 0);
+    expect(name, "words", datatype_duplicates_words(table, ROWS * 16, pool, POOL, RECORDS, &words, &second), 0);
+    expect(name, "the words", words == 3 * (uint64_t)RECORDS + 4, 1);
+    for (size_t k = 0; k < RECORDS; k++) {
+        uint8_t record[4] = {k % 251, k * 7, k / 251 % 3, k * 13};
+        memcpy(block + 4 * k, record, 4);
+    }
+    for (size_t n = 0; n <= RECORDS; n = n < 2 ? n + 1 : n < RECORDS ? RECORDS : RECORDS + 1) {
+        expect(name, "duplicates", datatype_duplicates(table, ROWS * 16, pool, POOL, block, 4 * n, numbers, n, sizes, n, work, words, &first, &second), 0);
+        expect(name, "the records", first == n, 1);
+        expect(name, "the distinct", second == (n < 753 ? n : 753), 1);
+        for (size_t k = 0; k < n; k++)
+            if (numbers[k] != k % 251 + 251 * (k / 251 % 3)) expect(name, "a number", k, 0);
+        uint64_t sum = 0;
+        for (size_t g = 0; g < second; g++) sum += sizes[g];
+        expect(name, "the sizes' sum", sum == n, 1);
+    }
+    if (!failed) printf("%s: searched for duplicates\n", name);
+    return 0;
+}
+
+static void on_small_stack(void *(*calls)(void *), void *given) {
     pthread_attr_t attributes;
     pthread_t thread;
     pthread_attr_init(&attributes);
     pthread_attr_setstacksize(&attributes, 256 * 1024);
-    if (pthread_create(&thread, &attributes, calls, &given) != 0) {
-        printf("%s: no thread\n", given.name);
+    if (pthread_create(&thread, &attributes, calls, given) != 0) {
+        printf("no thread\n");
         failed = 1;
         return;
     }
     pthread_join(thread, 0);
     length = 0;
+}
+
+static void run(struct run given) {
+    on_small_stack(calls, &given);
 }
 
 int main(void) {
@@ -103,5 +143,11 @@ int main(void) {
     for (int i = 0; i < 30; i++) header(0x19, 0, 16);
     compound(2032);
     run((struct run){"2,032 members under 30 sequences", 16, DATATYPE_HEAP_HELD, 0});
+    header(0x36, 2, 4);
+    put("a\0\0", 3);
+    fixed();
+    put("b\0\2", 3);
+    fixed();
+    on_small_stack(records, "blocks of 0, 1, 2 and 1,000,000 records");
     return failed;
 }

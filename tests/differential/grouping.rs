@@ -68,6 +68,7 @@ enum Kind {
     Half,
     Different,
     Alike,
+    Turns,
 }
 
 /// So many records of members of 4 bytes, 8 apart. A record that is an earlier one over again is so of any of them; the gaps are random always.
@@ -79,6 +80,7 @@ fn block(members: usize, records: usize, kind: Kind) -> Vec<u8> {
         let again = match kind {
             Kind::Half if k % 2 == 1 => Some(next(state) as usize % k),
             Kind::Alike if k > 0 => Some(0),
+            Kind::Turns if k > 1 => Some(k % 2),
             _ => None,
         };
         for m in 0..members {
@@ -148,6 +150,10 @@ pub fn lines() {
             line(map, &of, members, times);
             line(sorted, &of, members, lent.beside(words, by_sorting));
         }
+        // no record is the one before it, so each is hashed and compared: the dearest of such blocks, beside the goal
+        let mut lent = Lent::new(members, 10_000, Kind::Turns);
+        let words = lent.work.len();
+        line(map, "10,000 records, gapped, two in turn", members, lent.beside(words, by_hash_map));
     }
     // growth: the same type and kind, ever more records
     let mut each = Vec::new();
