@@ -4,4 +4,5 @@ pub mod Chaining
 pub mod Compiling
 pub mod KeyLaws
 pub mod Places
+pub mod Promises
 pub mod WordLaws
