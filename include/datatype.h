@@ -135,16 +135,17 @@ uint32_t datatype_references(const uint8_t *block, size_t block_length, uint64_t
    the result in either. A block without bytes has no records, and is not refused for its length or for room.
 
    work is a workspace. With as many words as datatype_duplicates_words says, or more, the time grows little faster than the block; with a
-   shorter one, or none, the answer is the same and the time grows with the number of records times that of distinct records. What it holds
-   does not change the answer. Its first word as lent seeds the hash: a host that reads files which it does not trust fills that word at
-   random before each call, so that nobody can choose records that make the call slow. The workspace is all zero afterwards, refused or not,
-   whatever its length. */
+   shorter one, or none, the answer is the same, and each record is compared with those before it up to the first that is the same, twice,
+   so that the time may grow with the square of the records. What it holds does not change the answer. Its first word as lent seeds the
+   hash: a host that reads files which it does not trust fills that word at random before each call, so that nobody can choose records that
+   make the call slow. The workspace is all zero afterwards, refused or not, whatever its length. */
 uint32_t datatype_duplicates(const uint32_t *table, size_t table_length, const uint8_t *pool, size_t pool_length, const uint8_t *block,
                              size_t block_length, uint64_t *numbers, size_t numbers_length, uint64_t *sizes, size_t sizes_length,
                              uint64_t *work, size_t work_length, uint64_t *first, uint64_t *second);
 
-/* How long a workspace makes datatype_duplicates fast on a block of so many records: 3 words a record and 2 a run of the type. A run is
-   fields that lie side by side and count whole, or one NUL-terminated string. Refusals: 1, 12, 16, 17. first: how many 64-bit words. */
+/* How long a workspace makes datatype_duplicates fast on a block of so many records: 3 words a record and 2 a run of the type, at most
+   18,446,744,073,709,551,615. A run is fields that follow one another without a gap and count whole, or one NUL-terminated string; one more
+   is counted where the first field is a string or does not begin the record. Refusals: 1, 12, 16, 17. first: how many 64-bit words. */
 uint32_t datatype_duplicates_words(const uint32_t *table, size_t table_length, const uint8_t *pool, size_t pool_length, uint64_t records,
                                    uint64_t *first, uint64_t *second);
 

@@ -5,4 +5,5 @@ fn main() {
     println!("cargo:rustc-link-search=native={folder}");
     println!("cargo:rustc-link-lib=static=abi");
     println!("cargo:rerun-if-env-changed=DATATYPE_ABI");
+    println!("cargo:rerun-if-changed={folder}/libabi.a");
 }

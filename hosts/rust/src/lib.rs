@@ -533,8 +533,9 @@ pub fn same(table: &[u32], pool: &[u8], a: &[u8], b: &[u8]) -> Result<bool, Refu
 ///
 /// `NoRoom` tells the number of records where `numbers` is shorter, then that of distinct records where `sizes` is. A refusal leaves both as
 /// they were. The workspace does not change the answer and is all zero afterwards in every case: with as many words as [`duplicates_words`]
-/// says, or more, the time grows little faster than the block; with a shorter one, or none, with the number of records times that of distinct
-/// records. Its first word as lent seeds the hash: fill it at random where the records come from somebody who is not trusted.
+/// says, or more, the time grows little faster than the block; with a shorter one, or none, each record is compared with those before it, so
+/// that the time may grow with the square of the records. Its first word as lent seeds the hash: fill it at random where the records come
+/// from somebody who is not trusted.
 ///
 /// ```
 /// use datatype_message::{duplicates, duplicates_words, read, Refusal, ROW};
