@@ -25,21 +25,18 @@ module _ (rs : List Field) (n : ℕ) where
   pub heads-none : (w : List ℕ) → Heads rs n 0 w
   heads-none w = record { room = λ l. absurd (omega arith); words = λ l. absurd (omega arith) }
 
-  module _ (k : ℕ) (w w′ : List ℕ) (g : RunsListed rs k w w′) (h : n < length w / 2) (f : k ≤ (length w′ - 2 * n - 1) / 2) (low : length w * 8 < 9223372036854775808) where
-    l : length w′ ≡ length w
-    l = g .stored .long
-
+  module _ (k : ℕ) (w w′ : List ℕ) (g : RunsListed ((length w - 2 * n - 1) / 2 + 1) rs k w w′) (h : n < length w / 2) (f : k < (length w - 2 * n - 1) / 2 + 1) (low : length w * 8 < 9223372036854775808) where
     all-counted : k ≡ length rs
-    all-counted = omega (arith, g .count, l)
+    all-counted = omega (arith, g .count f)
 
-    behind : length w′ - 2 * n - 2 * k + n + n ≡ length w - 2 * length rs
-    behind = omega (arith, all-counted, l)
+    behind : length w - 2 * n - 2 * k + n + n ≡ length w - 2 * length rs
+    behind = omega (arith, all-counted)
 
-    pub heads-some : Heads rs n (length w′ - 2 * n - 2 * k) w′
+    pub heads-some : Heads rs n (length w - 2 * n - 2 * k) w′
     heads-some =
         record {
-          room = λ z. omega (arith, behind, l);
-          words = λ z. rw behind (g .stored .words (omega (arith, all-counted)));
+          room = λ z. omega (arith, behind, g .long);
+          words = λ z. rw behind (g .stored f .words (omega (arith, all-counted)));
         }
 
 -- ---- keys by runs are keys by fields

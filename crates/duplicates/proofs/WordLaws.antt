@@ -38,10 +38,10 @@ module _ (n k : ℕ) where
   words-all h l = omega arith
 
 -- the count of runs may have stopped before their number
-module _ (rs : List Field) (n k : ℕ) (w w′ : List ℕ) (g : RunsListed rs k w w′) where
+module _ (rs : List Field) (n k : ℕ) (w w′ : List ℕ) (g : RunsListed 9223372036854775809 rs k w w′) where
   counted : mostWords n k ≡ mostWords n (length rs)
   unfolding mostWords needed
-  counted = omega (arith, g .count)
+  counted = omega (arith, g .count (omega (arith, g .low)))
 
 -- ---- the answers
 
@@ -65,7 +65,7 @@ module _ (table pool : List ℕ) (n : ℕ) {x : Admission} (h : x ≡ admissionO
       unfold wordsNeeded in admission-refused table pool (λ t. gives (mostWords n (length (runsOf (fieldsOf t))))) e (refused-admission table pool h e q) in
       as-refused (wordsNeeded table pool n) e k
 
-  pub words-given : (size k : ℕ) (w w′ : List ℕ) (r : ℕ) → x ≡ Size size → RunsListed (runsOf (fieldsIn table pool)) k w w′ → r ≡ mostWords n k → WordsAre (wordsNeeded table pool n) (Needed r)
+  pub words-given : (size k : ℕ) (w w′ : List ℕ) (r : ℕ) → x ≡ Size size → RunsListed 9223372036854775809 (runsOf (fieldsIn table pool)) k w w′ → r ≡ mostWords n k → WordsAre (wordsNeeded table pool n) (Needed r)
   words-given size k w w′ r q g e =
       let a = admitted-size table pool h size q in
       let d = a .admitted in

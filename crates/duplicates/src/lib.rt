@@ -49,9 +49,11 @@ fn list_type(table: &[u32], pool: &[u8], size: u32, n: usize, work: &mut [u64]) 
     if work.len() / 2 <= n {
         return 0;
     }
-    let runs = list_runs(table, pool, size, work);
     let room = work.len() - 2 * n;
-    if (((room - 1) / 2) as u64) < runs {
+    // One run more than fit beside a head.
+    let most = (room - 1) / 2 + 1;
+    let runs = list_runs(table, pool, size, most, work);
+    if runs >= most as u64 {
         return 0;
     }
     room - 2 * (runs as usize)
@@ -176,7 +178,9 @@ pub fn duplicates_words(table: &[u32], pool: &[u8], records: u64) -> Words
         Admission::Refused(e) => Words::Refused(e),
         Admission::Size(size) => {
             let mut none: [u64; 1] = [0; 1];
-            let runs = list_runs(table, pool, size, &mut none);
+            // Above its greatest answer, so that it never stops.
+            let most: usize = 9223372036854775809;
+            let runs = list_runs(table, pool, size, most, &mut none);
             Words::Needed(most_words(records, runs))
         }
     }

@@ -1,6 +1,6 @@
 -- `list_runs`: from an empty run on, the runs of the type that is set out.
-use Prim.Native.Nat.{ℕ, _-_, _*_}
-use mathlib.Core.Path.{_≡_, refl}
+use Prim.Native.Nat.{ℕ, _-_, _*_, _<_}
+use mathlib.Core.Path.{_≡_, refl, _∙_}
 use mathlib.Core.Bool.{false}
 use mathlib.Core.List.{List, []}
 use native.Mathlib.Omega.{arith}
@@ -13,7 +13,7 @@ use Rattle.format.proofs.Walking.{moved-none}
 use Rattle.compare.specs.Agreeing.{Admits}
 use Rattle.groups.specs.Duplicates.{fieldsGiven, fieldsIn}
 use Rattle.groups.specs.Runs.{RunList, addRuns, noRun, allRuns, runsOf, wordsOf}
-use Rattle.runs.specs.Listing.{Held, Stores, ListsAs, ListsAt, RunsListed}
+use Rattle.runs.specs.Listing.{mostRuns, StoredIn, Held, Stores, ListsAs, ListsAt, RunsListed}
 use Rattle.runs.specs.declared.Runs.{Runs}
 
 -- no run but an empty one
@@ -37,11 +37,22 @@ module _ (table pool : List ℕ) {size : ℕ} (g : Admits table pool size) (w : 
   unfolding fieldsIn fieldsGiven
   fields-is = rw (g .is)
 
-  pub runs-listed : (s₁ : Runs) (w₁ : List ℕ) → ListsAt 32 table pool 0 size 0 started w s₁ w₁ → (r : ℕ) (w₂ : List ℕ) → Stores s₁ w₁ r w₂ → RunsListed (runsOf (fieldsIn table pool)) r w w₂
+  pub runs-listed : (most : ℕ) (s₁ : Runs) (w₁ : List ℕ) → ListsAt most 32 table pool 0 size 0 started w s₁ w₁ → (r : ℕ) (w₂ : List ℕ) → Stores s₁ w₁ r w₂ → length w₁ ≡ length w → length w₂ ≡ length w₁
+      → RunsListed most (runsOf (fieldsIn table pool)) r w w₂
   unfolding ListsAs runsOf allRuns
-  runs-listed s₁ w₁ h r w₂ k =
-      let f = type-found table pool t (g .is) in
-      let i = rw (f .is) at (h .lists 0) (g .admitted) (omega (arith, g .size-is)) in
-      let e : Held (length w) (addRuns none (fieldsOf t)) s₁ w₁ = rw (moved-none (fieldsOf t)) at (i .holds (length w) none (held-none w)) in
-      let d = k .stores (length w) (addRuns none (fieldsOf t) .before) (e .low) (e .closed-is) (e .stored) in
-      rw (fields-is, ← e .open-is) (record { count = d .0; stored = d .1 })
+  runs-listed most s₁ w₁ h r w₂ k l₁ l₂ =
+      record {
+        low = k .grows .low (h .grows .low (omega arith));
+        count = λ z. all z .0;
+        stored = λ z. all z .1;
+        long = l₂ ∙ l₁;
+      }
+    where
+      all : r < most → (r ≡ mostRuns (length (runsOf (fieldsIn table pool)))) × StoredIn (length w) (runsOf (fieldsIn table pool)) w₂
+      all z =
+          let f = type-found table pool t (g .is) in
+          let below : s₁ .closed < most = omega (arith, k .grows .more) in
+          let i = rw (f .is) at (h .lists below 0) (g .admitted) (omega (arith, g .size-is)) in
+          let e : Held (length w) (addRuns none (fieldsOf t)) s₁ w₁ = rw (moved-none (fieldsOf t)) at (i .holds (length w) none (held-none w)) in
+          let d = k .stores (length w) (addRuns none (fieldsOf t) .before) (e .low) (e .closed-is) (e .stored) in
+          rw (fields-is, ← e .open-is) d

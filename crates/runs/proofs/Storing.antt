@@ -14,7 +14,7 @@ use Rattle.rows.specs.declared.Entry.{Entry}
 use Rattle.compare.specs.Agreeing.{isField, isString}
 use Rattle.groups.specs.Runs.{RunList, joins, joined, addRuns, runCode, wordsOf}
 use Rattle.groups.proofs.Runs.{joins-says, run-longer, run-new}
-use Rattle.runs.specs.Listing.{openRun, fieldAt, Stores, Lists, ListsField}
+use Rattle.runs.specs.Listing.{openRun, fieldAt, Grows, Stores, ListsOne, ListsField}
 use Rattle.runs.specs.declared.Runs.{Runs}
 
 -- ---- whether a field lengthens the open run
@@ -54,6 +54,17 @@ pub code-whole : (n : ℕ) {e : Bool} → e ≡ false → n * 2 ≡ runCode (fie
 unfolding runCode
 code-whole n h = rw h
 
+-- ---- the count of closed runs
+
+pub grows-same : (c : ℕ) → Grows c c
+grows-same c = record { more = omega arith; low = λ l. l }
+
+pub grows-both : {a b c : ℕ} → Grows a b → Grows b c → Grows a c
+grows-both h k = record { more = omega (arith, h .more, k .more); low = λ l. k .low (h .low l) }
+
+grows-one : (c : ℕ) → c < 9223372036854775808 → Grows c (c + 1)
+grows-one c h = record { more = omega arith; low = λ l. omega arith }
+
 -- ---- the open run stored
 
 drop-two : (w : List ℕ) (at p c : ℕ) → at + 2 ≤ length w → drop at (set (set w at p) (suc at) c) ≡ p ∷ c ∷ drop (suc (suc at)) w
@@ -72,21 +83,22 @@ drop-two w at p c h =
 
 module _ (s : Runs) (w : List ℕ) where
   -- no workspace has the room for as many
-  pub store-full : 9223372036854775808 ≤ s .closed → length w < 18446744073709551616 → Stores s w 9223372036854775808 w
-  store-full h l = record { stores = λ len rs z e g. (omega arith, record { long = g .long; words = λ q. absurd (omega (arith, g .long)) }) }
-
-  pub store-large : (r : ℕ) → 4294967296 ≤ s .size → Stores s w r w
-  store-large r h = record { stores = λ len rs z e g. absurd (omega arith) }
+  pub store-full : 9223372036854775808 ≤ s .closed → length w < 18446744073709551616 → Stores s w (s .closed) w
+  store-full h l = record { grows = grows-same (s .closed); stores = λ len rs z e g. (omega arith, record { long = g .long; words = λ q. absurd (omega (arith, g .long)) }) }
 
   module _ (few : s .closed < 9223372036854775808) where
+    pub store-large : 4294967296 ≤ s .size → Stores s w (s .closed + 1) w
+    store-large h = record { grows = grows-one (s .closed) few; stores = λ len rs z e g. absurd (omega arith) }
+
     pub store-past : length w / 2 ≤ s .closed → Stores s w (s .closed + 1) w
-    store-past h = record { stores = λ len rs z e g. (omega arith, record { long = g .long; words = λ q. absurd (omega (arith, g .long)) }) }
+    store-past h = record { grows = grows-one (s .closed) few; stores = λ len rs z e g. (omega arith, record { long = g .long; words = λ q. absurd (omega (arith, g .long)) }) }
 
     pub store-here : {code : ℕ} → code ≡ runCode (fieldAt 0 (s .size) (s .ended)) → s .closed < length w / 2
         → Stores s w (s .closed + 1) (set (set w (length w - 2 * s .closed - 2) (s .place)) (length w - 2 * s .closed - 2 + 1) code)
     unfolding wordsOf runCode
     store-here {code = code} c h =
         record {
+          grows = grows-one (s .closed) few;
           stores = λ len rs z e g.
               let at : ℕ = length w - 2 * s .closed - 2 in (
                 omega arith,
@@ -121,40 +133,44 @@ module _ (s : Runs) (place size : ℕ) (ended : Bool) (row : ℕ) (w : List ℕ)
         rw (n, ← h)
 
     pub add-longer : place + size < 4294967296
-        → Lists (fieldAt place size ended ∷ []) row s w (record { row = row; closed = s .closed; place = s .place; size = place - s .place + size; ended = false }) w
+        → ListsOne (fieldAt place size ended) row s w (record { row = row; closed = s .closed; place = s .place; size = place - s .place + size; ended = false }) w
     unfolding addRuns
     add-longer l =
         record {
-          row-is = refl;
-          holds = λ len v h.
-              let e : joins (v .last) (fieldAt place size ended) ≡ true = rw (← h .open-is) (test-is so) in
-              rw (run-longer v (fieldAt place size ended) e)
-              (record { open-is = longer v (h .open-is); low = omega arith; closed-is = h .closed-is; stored = h .stored });
+          grows = grows-same (s .closed);
+          lists = record {
+            row-is = refl;
+            holds = λ len v h.
+                let e : joins (v .last) (fieldAt place size ended) ≡ true = rw (← h .open-is) (test-is so) in
+                rw (run-longer v (fieldAt place size ended) e)
+                (record { open-is = longer v (h .open-is); low = omega arith; closed-is = h .closed-is; stored = h .stored });
+          };
         }
 
   pub add-new : {w′ : List ℕ} {closed : ℕ} → Stores s w closed w′ → j ≡ false → place + size < 4294967296
-      → Lists (fieldAt place size ended ∷ []) row s w (record { row = row; closed = closed; place = place; size = size; ended = ended }) w′
+      → ListsOne (fieldAt place size ended) row s w (record { row = row; closed = closed; place = place; size = size; ended = ended }) w′
   unfolding addRuns
   add-new k not-so l =
       record {
-        row-is = refl;
-        holds = λ len v h.
-            let e : joins (v .last) (fieldAt place size ended) ≡ false = rw (← h .open-is) (test-is not-so) in
-            let d = k .stores len (v .before) (h .low) (h .closed-is) (h .stored) in
-            rw (run-new v (fieldAt place size ended) e)
-            (record { open-is = refl; low = omega arith; closed-is = d .0; stored = rw (h .open-is) at (d .1) });
+        grows = k .grows;
+        lists = record {
+          row-is = refl;
+          holds = λ len v h.
+              let e : joins (v .last) (fieldAt place size ended) ≡ false = rw (← h .open-is) (test-is not-so) in
+              let d = k .stores len (v .before) (h .low) (h .closed-is) (h .stored) in
+              rw (run-new v (fieldAt place size ended) e)
+              (record { open-is = refl; low = omega arith; closed-is = d .0; stored = rw (h .open-is) at (d .1) });
+        };
       }
 
 -- ---- a field within the limit
 
-module _ (n : ℕ) (ended : Bool) (limit at next : ℕ) (s : Runs) (w : List ℕ) (s′ : Runs) (w′ : List ℕ) where
-  pub field-past : limit - at < n → at ≤ limit → ListsField n ended limit at next s w s′ w′
-  unfolding ListsField
-  field-past h g l = absurd (omega arith)
+module _ (n : ℕ) (ended : Bool) (limit at next : ℕ) (s : Runs) (w : List ℕ) where
+  pub field-past : limit - at < n → at ≤ limit → ListsField n ended limit at next s w s w
+  field-past h g = record { grows = grows-same (s .closed); lists = λ l. absurd (omega arith) }
 
-  pub field-listed : Lists (fieldAt at n ended ∷ []) next s w s′ w′ → ListsField n ended limit at next s w s′ w′
-  unfolding ListsField
-  field-listed h l = h
+  pub field-listed : (s′ : Runs) (w′ : List ℕ) → ListsOne (fieldAt at n ended) next s w s′ w′ → ListsField n ended limit at next s w s′ w′
+  field-listed s′ w′ h = record { grows = h .grows; lists = λ l. h .lists }
 
 -- ---- a field that counts whole
 

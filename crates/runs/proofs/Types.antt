@@ -27,7 +27,7 @@ use Rattle.compare.proofs.Fields.{IsField, field-moved, leaf-field, enumeration
 use Rattle.compare.proofs.Types.{base-admitted, base-sized, total-is, count-is, count-some}
 use Rattle.groups.specs.Runs.{RunList, addRuns}
 use Rattle.groups.proofs.Runs.{wholeAt, runs-entries}
-use Rattle.runs.specs.Listing.{Standing, Lists, ListsField, ListsAs, ListsIn, ListsEach, ListsAt, ListsMembers, ListsEntries, ListsArray}
+use Rattle.runs.specs.Listing.{Standing, Grows, Lists, ListsField, ListsAs, ListsIn, ListsEach, ListsAt, ListsMembers, ListsEntries, ListsArray}
 use Rattle.runs.specs.declared.Runs.{Runs}
 
 -- ---- one field
@@ -46,8 +46,8 @@ array-as-one at ds t i n k v =
 
 module _ (limit at : ℕ) (s : Runs) (w : List ℕ) (s′ : Runs) (w′ : List ℕ) where
   field-lists : (t : Datatype) (r p n : ℕ) (e : Bool) (next : ℕ) → IsField t n e → next ≡ r → ListsField n e limit at next s w s′ w′ → ListsAs (found t r p) limit at s w s′ w′
-  unfolding ListsAs ListsField
-  field-lists t r p n e next i q h d l = rw (← q, i .fields, field-moved at n e) (h (omega (arith, i .size)))
+  unfolding ListsAs
+  field-lists t r p n e next i q h d l = rw (← q, i .fields, field-moved at n e) (h .lists (omega (arith, i .size)))
 
   -- ---- an array
 
@@ -61,12 +61,12 @@ module _ (limit at : ℕ) (s : Runs) (w : List ℕ) (s′ : Runs) (w′ : List �
   module _ (ds : List ℕ) (size : ℕ) {total : ℕ} (ht : total ≡ min (size * product ds) 4294967296) where
     array-whole : (y : Found Datatype) (next : ℕ) → SizedTo y size → PassesTo y next → OneField false y → ListsField total false limit at next s w s′ w′
         → ListsAs (andThen y (λ t r p. found (array ds t) r p)) limit at s w s′ w′
-    unfolding SizedTo PassesTo OneField andThen ListsAs ListsField
+    unfolding SizedTo PassesTo OneField andThen ListsAs
     array-whole (found t r p) next f g i v =
         λ d l.
         let n : total ≡ product ds * typeSize t = omega (arith, total-is ds t d f ht, mul-comm (typeSize t) (product ds)) in
         let k : 0 < product ds = rw (count-is ds t d f ht) at (count-some ds t d f ht) in
-        rw (← g) (lists-as (array-as-one at ds t i n k) (v (omega (arith, n, array-size ds t (d .inside)))))
+        rw (← g) (lists-as (array-as-one at ds t i n k) (v .lists (omega (arith, n, array-size ds t (d .inside)))))
     array-whole bad next f g i v = tt
 
     array-each : (y : Found Datatype) → SizedTo y size → ListsEach y size (total / size) limit at s w s′ w′ → ListsAs (andThen y (λ t r p. found (array ds t) r p)) limit at s w s′ w′
@@ -79,33 +79,33 @@ module _ (limit at : ℕ) (s : Runs) (w : List ℕ) (s′ : Runs) (w′ : List �
 
 -- ---- by the row
 
-module _ (table pool : List ℕ) (depth row limit at : ℕ) (s : Runs) (w : List ℕ) (s′ : Runs) (w′ : List ℕ) {e : Entry} (shallow : depth ≤ 32) (says : RowSays table row e) where
-  by-row : {f : Entry} → e ≡ f → ((p : ℕ) → f ≡ entryAt table pool row p → ListsAs (fromEntry (typeAt (32 - depth) table pool) table pool row p f) limit at s w s′ w′)
-      → ListsAt (33 - depth) table pool row limit at s w s′ w′
-  by-row h v =
+module _ (table pool : List ℕ) (most depth row limit at : ℕ) (s : Runs) (w : List ℕ) (s′ : Runs) (w′ : List ℕ) {e : Entry} (shallow : depth ≤ 32) (says : RowSays table row e) where
+  by-row : {f : Entry} → e ≡ f → Grows (s .closed) (s′ .closed) → (s′ .closed < most → (p : ℕ) → f ≡ entryAt table pool row p → ListsAs (fromEntry (typeAt (32 - depth) table pool) table pool row p f) limit at s w s′ w′)
+      → ListsAt most (33 - depth) table pool row limit at s w s′ w′
+  by-row h c v =
       let j : 33 - depth ≡ suc (32 - depth) = omega arith in
-      record { lists = λ p. rw j (claim-of-type table pool row p (λ (y : Found Datatype). ListsAs y limit at s w s′ w′) (unfold ListsAs in tt) (32 - depth) e (says .is pool p) (λ q. rw h (v p (sym h ∙ q)))) }
+      record { grows = c; lists = λ z p. rw j (claim-of-type table pool row p (λ (y : Found Datatype). ListsAs y limit at s w s′ w′) (unfold ListsAs in tt) (32 - depth) e (says .is pool p) (λ q. rw h (v z p (sym h ∙ q)))) }
 
-  pub type-unknown : e ≡ Unknown → ListsAt (33 - depth) table pool row limit at s w s′ w′
-  type-unknown h = by-row h (λ p q. unfold fromEntry ListsAs in tt)
+  pub type-unknown : Grows (s .closed) (s′ .closed) → e ≡ Unknown → ListsAt most (33 - depth) table pool row limit at s w s′ w′
+  type-unknown c h = by-row h c (λ z p q. unfold fromEntry ListsAs in tt)
 
-  pub type-variableLength : {i v c : ℕ} → e ≡ VariableLength i v c → ListsAt (33 - depth) table pool row limit at s w s′ w′
-  type-variableLength {i = i} {v = v} {c = c} h = by-row h (λ p q. unfold fromEntry in go (typeAt (32 - depth) table pool (suc row) p))
+  pub type-variableLength : {i v c : ℕ} → Grows (s .closed) (s′ .closed) → e ≡ VariableLength i v c → ListsAt most (33 - depth) table pool row limit at s w s′ w′
+  type-variableLength {i = i} {v = v} {c = c} g h = by-row h g (λ z p q. unfold fromEntry in go (typeAt (32 - depth) table pool (suc row) p))
     where
       go : (y : Found Datatype) → ListsAs (andThen y (λ t r′ p′. found (variableLength i v c t) r′ p′)) limit at s w s′ w′
       go (found t r′ p′) = unfold andThen ListsAs heapHeld in λ d l. absurd (false≢true (sym (d .plain)))
       go bad = unfold andThen ListsAs in tt
 
-  pub type-leaf : {k n l y : ℕ} {c : Bool} → e ≡ Leaf k n l y → c ≡ nulTerminated k y → ListsField n c limit at (row + 1) s w s′ w′ → ListsAt (33 - depth) table pool row limit at s w s′ w′
+  pub type-leaf : {k n l y : ℕ} {c : Bool} → e ≡ Leaf k n l y → c ≡ nulTerminated k y → ListsField n c limit at (row + 1) s w s′ w′ → ListsAt most (33 - depth) table pool row limit at s w s′ w′
   type-leaf {k = k} {n = n} {l = l} {y = y} h u v =
-      by-row h (λ p q. unfold fromEntry in field-lists limit at s w s′ w′ (leafType table pool row p k) (suc row) (p + l) n (nulTerminated k y) (row + 1) (leaf-field table pool row p q refl) (add-one row) (rw u at v))
+      by-row h (v .grows) (λ z p q. unfold fromEntry in field-lists limit at s w s′ w′ (leafType table pool row p k) (suc row) (p + l) n (nulTerminated k y) (row + 1) (leaf-field table pool row p q refl) (add-one row) (rw u at v))
 
   -- an enumeration ends where its members do
   pub type-enumeration : {n k next : ℕ} → e ≡ Enumeration n k → PassesType (33 - depth) table row next → ListsField n false limit at next s w s′ w′
-      → ListsAt (33 - depth) table pool row limit at s w s′ w′
+      → ListsAt most (33 - depth) table pool row limit at s w s′ w′
   type-enumeration {n = n} {k = k} {next = next} h b v =
       let j : 33 - depth ≡ suc (32 - depth) = omega arith in
-      record { lists = λ p. rw j (claim-of-type table pool row p (λ (y : Found Datatype). PassesTo y next → ListsAs y limit at s w s′ w′) (λ g. unfold ListsAs in tt) (32 - depth) e (says .is pool p) (λ q. rw h (of-base p)) (rw j at (b .passes pool p))) }
+      record { grows = v .grows; lists = λ z p. rw j (claim-of-type table pool row p (λ (y : Found Datatype). PassesTo y next → ListsAs y limit at s w s′ w′) (λ g. unfold ListsAs in tt) (32 - depth) e (says .is pool p) (λ q. rw h (of-base p)) (rw j at (b .passes pool p))) }
     where
       of-values : (t : Datatype) (y : Found (List EnumMember)) → PassesTo (andThen y (λ ms r₃ p₃. found (enumeration n t ms) r₃ p₃)) next
           → ListsAs (andThen y (λ ms r₃ p₃. found (enumeration n t ms) r₃ p₃)) limit at s w s′ w′
@@ -127,11 +127,11 @@ module _ (table pool : List ℕ) (depth row limit at : ℕ) (s : Runs) (w : List
           → ListsAs (fromEntry (typeAt (32 - depth) table pool) table pool row p (Enumeration n k)) limit at s w s′ w′
       of-base p g = unfold fromEntry in of-types (typeAt (32 - depth) table pool (suc row) p) (unfold fromEntry in g)
 
-  pub type-array : {k : ℕ} → e ≡ Array k → ListsArray (32 - depth) table pool row k limit at s w s′ w′ → ListsAt (33 - depth) table pool row limit at s w s′ w′
-  type-array h v = by-row h (λ p q. v .lists p q)
+  pub type-array : {k : ℕ} → e ≡ Array k → ListsArray most (32 - depth) table pool row k limit at s w s′ w′ → ListsAt most (33 - depth) table pool row limit at s w s′ w′
+  type-array h v = by-row h (v .grows) (λ z p q. v .lists z p q)
 
-  pub type-compound : {n k : ℕ} → e ≡ Compound n k → ListsMembers (32 - depth) table pool k (row + 1) limit at s w s′ w′ → ListsAt (33 - depth) table pool row limit at s w s′ w′
-  type-compound {n = n} {k = k} h v = by-row h (λ p q. unfold fromEntry in go (membersAt (typeAt (32 - depth) table pool) table pool k (suc row) p) (rw (add-one row) at (v .lists p)))
+  pub type-compound : {n k : ℕ} → e ≡ Compound n k → ListsMembers most (32 - depth) table pool k (row + 1) limit at s w s′ w′ → ListsAt most (33 - depth) table pool row limit at s w s′ w′
+  type-compound {n = n} {k = k} h v = by-row h (v .grows) (λ z p q. unfold fromEntry in go (membersAt (typeAt (32 - depth) table pool) table pool k (suc row) p) (rw (add-one row) at (v .lists z p)))
     where
       go : (y : Found Members) → ListsIn y limit at s w s′ w′ → ListsAs (andThen y (λ ms r′ p′. found (compound n ms) r′ p′)) limit at s w s′ w′
       go (found ms r p) i =
@@ -145,43 +145,45 @@ module _ (table pool : List ℕ) (depth row limit at : ℕ) (s : Runs) (w : List
 whole-says : {c : Bool} (e : Entry) → c ≡ (isField e && not (isString e)) → c ≡ true → (isField e ≡ true) × (isString e ≡ false)
 whole-says e h t = let q = and-both (isField e) (not (isString e)) (sym h ∙ t) in (q .0, not-true (isString e) (q .1))
 
-module _ (table pool : List ℕ) (depth row k limit at : ℕ) (s : Runs) (w : List ℕ) (s′ : Runs) (w′ : List ℕ) where
+module _ (table pool : List ℕ) (most depth row k limit at : ℕ) (s : Runs) (w : List ℕ) (s′ : Runs) (w′ : List ℕ) where
   -- where no level is left there is no base
-  pub array-deep : 32 ≤ depth → ListsArray (32 - depth) table pool row k limit at s w s′ w′
-  array-deep h =
+  pub array-deep : Grows (s .closed) (s′ .closed) → 32 ≤ depth → ListsArray most (32 - depth) table pool row k limit at s w s′ w′
+  array-deep c h =
       let j : 32 - depth ≡ 0 = omega arith in
-      record { lists = λ p q. rw j (unfold fromEntry typeAt andThen ListsAs in tt) }
+      record { grows = c; lists = λ z p q. rw j (unfold fromEntry typeAt andThen ListsAs in tt) }
 
   module _ {size : ℕ} (f : SizedAt (32 - depth) table pool (row + 1) size) where
     base-size : (p : ℕ) → SizedTo (typeAt (32 - depth) table pool (suc row) p) size
     base-size p = rw (add-one row) at (f .sized p)
 
-    pub array-none : size ≡ 0 → ListsArray (32 - depth) table pool row k limit at s w s′ w′
+    pub array-none : Grows (s .closed) (s′ .closed) → size ≡ 0 → ListsArray most (32 - depth) table pool row k limit at s w s′ w′
     unfolding fromEntry
-    array-none z = record { lists = λ p q. array-zero limit at s w s′ w′ _ size (typeAt (32 - depth) table pool (suc row) (p + k * 4)) (base-size (p + k * 4)) z }
+    array-none c e = record { grows = c; lists = λ z p q. array-zero limit at s w s′ w′ _ size (typeAt (32 - depth) table pool (suc row) (p + k * 4)) (base-size (p + k * 4)) e }
 
     module _ {total : ℕ} (h : TotalAt table pool row k size total) where
       pub array-of-field : {c : Bool} (i : Entry) (next : ℕ) → RowSays table (row + 1) i → c ≡ (isField i && not (isString i)) → c ≡ true → PassesType (32 - depth) table (row + 1) next
-          → ListsField total false limit at next s w s′ w′ → ListsArray (32 - depth) table pool row k limit at s w s′ w′
+          → ListsField total false limit at next s w s′ w′ → ListsArray most (32 - depth) table pool row k limit at s w s′ w′
       unfolding fromEntry
       array-of-field i next n b c g v =
           let o = whole-says i b c in
           record {
-            lists = λ p q.
+            grows = v .grows;
+            lists = λ z p q.
                 array-whole limit at s w s′ w′ _ size (h .total p q) (typeAt (32 - depth) table pool (suc row) (p + k * 4)) next (base-size (p + k * 4)) (rw (add-one row) at (g .passes pool (p + k * 4)))
                 (rw (add-one row, o .1) at (type-field (32 - depth) table pool (row + 1) (p + k * 4) i (n .is pool (p + k * 4)) (o .0))) v;
           }
 
       pub array-entries : {path : Path} (inner : Path) → path .depth ≡ depth → Entered path (row + 1) inner → depth < 32
-          → ListsEntries (33 - inner .depth) table pool (topOf inner) size (total / size) limit at s w s′ w′ → ListsArray (32 - depth) table pool row k limit at s w s′ w′
+          → ListsEntries most (33 - inner .depth) table pool (topOf inner) size (total / size) limit at s w s′ w′ → ListsArray most (32 - depth) table pool row k limit at s w s′ w′
       unfolding fromEntry
-      array-entries inner e g d z =
+      array-entries inner e g d u =
           let i = g .deeper in
           let j : 33 - inner .depth ≡ 32 - depth = omega arith in
-          let y : ListsEntries (32 - depth) table pool (row + 1) size (total / size) limit at s w s′ w′ = rw (j, g .top) at z in
+          let y : ListsEntries most (32 - depth) table pool (row + 1) size (total / size) limit at s w s′ w′ = rw (j, g .top) at u in
           record {
-            lists = λ p q.
-                array-each limit at s w s′ w′ _ size (h .total p q) (typeAt (32 - depth) table pool (suc row) (p + k * 4)) (base-size (p + k * 4)) (rw (add-one row) at (y .lists (p + k * 4)));
+            grows = y .grows;
+            lists = λ z p q.
+                array-each limit at s w s′ w′ _ size (h .total p q) (typeAt (32 - depth) table pool (suc row) (p + k * 4)) (base-size (p + k * 4)) (rw (add-one row) at (y .lists z (p + k * 4)));
           }
 
 -- ---- one level further down
@@ -189,9 +191,9 @@ module _ (table pool : List ℕ) (depth row k limit at : ℕ) (s : Runs) (w : Li
 pub standing-entered : {limit at row : ℕ} {path : Path} (inner : Path) → Entered path row inner → path .depth < 32 → at ≤ limit → limit < 4294967296 → Standing inner limit at
 standing-entered inner e h b l = let d = e .deeper in record { deep = omega arith; shallow = omega arith; begins = b; low = l }
 
-pub member-entered : (table pool : List ℕ) (depth row limit at : ℕ) (s : Runs) (w : List ℕ) (s′ : Runs) (w′ : List ℕ) {path : Path} (inner : Path) → path .depth ≡ depth → depth < 32 → Entered path row inner
-    → ListsAt (33 - inner .depth) table pool (topOf inner) limit at s w s′ w′ → ListsAt (32 - depth) table pool row limit at s w s′ w′
-member-entered table pool depth row limit at s w s′ w′ inner e d h g =
+pub member-entered : (table pool : List ℕ) (most depth row limit at : ℕ) (s : Runs) (w : List ℕ) (s′ : Runs) (w′ : List ℕ) {path : Path} (inner : Path) → path .depth ≡ depth → depth < 32 → Entered path row inner
+    → ListsAt most (33 - inner .depth) table pool (topOf inner) limit at s w s′ w′ → ListsAt most (32 - depth) table pool row limit at s w s′ w′
+member-entered table pool most depth row limit at s w s′ w′ inner e d h g =
     let i = h .deeper in
     let j : 33 - inner .depth ≡ 32 - depth = omega arith in
     rw (j, h .top) at g

@@ -44,8 +44,14 @@ pub record Held (len : ℕ) (v : RunList) (s : Runs) (w : List ℕ) : Type 0 whe
   pub closed-is : s .closed ≡ mostRuns (length (v .before))
   pub stored : StoredIn len (v .before) w
 
+-- a count of closed runs that does not fall, and stops in time
+pub record Grows (c c′ : ℕ) : Type 0 where
+  pub more : c ≤ c′
+  pub low : c ≤ 9223372036854775808 → c′ ≤ 9223372036854775808
+
 -- the open run stored before those that are
 pub record Stores (s : Runs) (w : List ℕ) (r : ℕ) (w′ : List ℕ) : Type 0 where
+  pub grows : Grows (s .closed) r
   pub stores : (len : ℕ) (rs : List Field) → s .size < 4294967296 → s .closed ≡ mostRuns (length rs) → StoredIn len rs w
       → (r ≡ mostRuns (length (openRun s ∷ rs))) × StoredIn len (openRun s ∷ rs) w′
 
@@ -54,9 +60,15 @@ pub record Lists (fs : List Field) (next : ℕ) (s : Runs) (w : List ℕ) (s′ 
   pub row-is : s′ .row ≡ next
   pub holds : (len : ℕ) (v : RunList) → Held len v s w → Held len (addRuns v fs) s′ w′
 
--- of one field that lies within the limit
-unfoldable pub ListsField : (n : ℕ) (ended : Bool) (limit at next : ℕ) (s : Runs) (w : List ℕ) (s′ : Runs) (w′ : List ℕ) → Type 0
-ListsField n e limit at next s w s′ w′ = at + n ≤ limit → Lists (fieldAt at n e ∷ []) next s w s′ w′
+-- one field listed
+pub record ListsOne (f : Field) (next : ℕ) (s : Runs) (w : List ℕ) (s′ : Runs) (w′ : List ℕ) : Type 0 where
+  pub grows : Grows (s .closed) (s′ .closed)
+  pub lists : Lists (f ∷ []) next s w s′ w′
+
+-- if it lies within the limit
+pub record ListsField (n : ℕ) (ended : Bool) (limit at next : ℕ) (s : Runs) (w : List ℕ) (s′ : Runs) (w′ : List ℕ) : Type 0 where
+  pub grows : Grows (s .closed) (s′ .closed)
+  pub lists : at + n ≤ limit → Lists (fieldAt at n ended ∷ []) next s w s′ w′
 
 -- of an admitted type whose record lies within the limit
 unfoldable pub ListsAs : Found Datatype → (limit at : ℕ) (s : Runs) (w : List ℕ) (s′ : Runs) (w′ : List ℕ) → Type 0
@@ -74,21 +86,28 @@ ListsEach (found t r p) stride n limit at s w s′ w′ =
     Admitted t → stride ≡ typeSize t → 0 < n → at + n * stride ≤ limit → Lists (moveFields at (fieldEntries stride (fieldsOf t) 0 n)) r s w s′ w′
 ListsEach bad stride n limit at s w s′ w′ = Unit {0}
 
--- The same of what is found at a row, wherever its pool bytes begin.
-pub record ListsAt (levels : ℕ) (table pool : List ℕ) (row limit at : ℕ) (s : Runs) (w : List ℕ) (s′ : Runs) (w′ : List ℕ) : Type 0 where
-  pub lists : (p : ℕ) → ListsAs (typeAt levels table pool row p) limit at s w s′ w′
+-- The same of what is found at a row, wherever its pool bytes begin, if fewer runs than `most` are closed then: else the walk may have stopped
+-- before its end.
+pub record ListsAt (most levels : ℕ) (table pool : List ℕ) (row limit at : ℕ) (s : Runs) (w : List ℕ) (s′ : Runs) (w′ : List ℕ) : Type 0 where
+  pub grows : Grows (s .closed) (s′ .closed)
+  pub lists : s′ .closed < most → (p : ℕ) → ListsAs (typeAt levels table pool row p) limit at s w s′ w′
 
-pub record ListsMembers (levels : ℕ) (table pool : List ℕ) (count row limit at : ℕ) (s : Runs) (w : List ℕ) (s′ : Runs) (w′ : List ℕ) : Type 0 where
-  pub lists : (p : ℕ) → ListsIn (membersAt (typeAt levels table pool) table pool count row p) limit at s w s′ w′
+pub record ListsMembers (most levels : ℕ) (table pool : List ℕ) (count row limit at : ℕ) (s : Runs) (w : List ℕ) (s′ : Runs) (w′ : List ℕ) : Type 0 where
+  pub grows : Grows (s .closed) (s′ .closed)
+  pub lists : s′ .closed < most → (p : ℕ) → ListsIn (membersAt (typeAt levels table pool) table pool count row p) limit at s w s′ w′
 
-pub record ListsEntries (levels : ℕ) (table pool : List ℕ) (row stride n limit at : ℕ) (s : Runs) (w : List ℕ) (s′ : Runs) (w′ : List ℕ) : Type 0 where
-  pub lists : (p : ℕ) → ListsEach (typeAt levels table pool row p) stride n limit at s w s′ w′
+pub record ListsEntries (most levels : ℕ) (table pool : List ℕ) (row stride n limit at : ℕ) (s : Runs) (w : List ℕ) (s′ : Runs) (w′ : List ℕ) : Type 0 where
+  pub grows : Grows (s .closed) (s′ .closed)
+  pub lists : s′ .closed < most → (p : ℕ) → ListsEach (typeAt levels table pool row p) stride n limit at s w s′ w′
 
 -- of an array's row, with so many levels left below it
-pub record ListsArray (levels : ℕ) (table pool : List ℕ) (row rank limit at : ℕ) (s : Runs) (w : List ℕ) (s′ : Runs) (w′ : List ℕ) : Type 0 where
-  pub lists : (p : ℕ) → Array rank ≡ entryAt table pool row p → ListsAs (fromEntry (typeAt levels table pool) table pool row p (Array rank)) limit at s w s′ w′
+pub record ListsArray (most levels : ℕ) (table pool : List ℕ) (row rank limit at : ℕ) (s : Runs) (w : List ℕ) (s′ : Runs) (w′ : List ℕ) : Type 0 where
+  pub grows : Grows (s .closed) (s′ .closed)
+  pub lists : s′ .closed < most → (p : ℕ) → Array rank ≡ entryAt table pool row p → ListsAs (fromEntry (typeAt levels table pool) table pool row p (Array rank)) limit at s w s′ w′
 
--- `list_runs`: how many runs, which stand at the workspace's end if it has the room
-pub record RunsListed (rs : List Field) (r : ℕ) (w w′ : List ℕ) : Type 0 where
-  pub count : r ≡ mostRuns (length rs)
-  pub stored : StoredIn (length w) rs w′
+-- `list_runs`: how many runs, which stand at the workspace's end if it has the room; an answer that is not below `most` says neither
+pub record RunsListed (most : ℕ) (rs : List Field) (r : ℕ) (w w′ : List ℕ) : Type 0 where
+  pub low : r ≤ 9223372036854775808
+  pub count : r < most → r ≡ mostRuns (length rs)
+  pub stored : r < most → StoredIn (length w) rs w′
+  pub long : length w′ ≡ length w

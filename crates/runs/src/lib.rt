@@ -13,7 +13,6 @@ use table::next_row;
 use table::size_at;
 ghost use mathlib.Core.Path.{_≡_};
 ghost use mathlib.Core.Bool.{not, _&&_};
-ghost use mathlib.Core.List.{[], _∷_};
 ghost use Prim.Native.Nat.{_+_, _*_, _-_, _≤_, _<_};
 ghost use lib.ListN.{length};
 ghost use Rattle.compare.specs.Agreeing.{Admits, isField, isString};
@@ -21,7 +20,7 @@ ghost use Rattle.groups.specs.Duplicates.{fieldsIn};
 ghost use Rattle.groups.specs.Runs.{joins, runCode, runsOf};
 ghost use Rattle.rows.specs.Entries.{RowSays};
 ghost use Rattle.table.specs.Path.{topOf};
-ghost use Rattle.runs.specs.Listing.{openRun, fieldAt, Standing, Stores, Lists, ListsField, ListsAt, ListsArray, ListsMembers, ListsEntries, RunsListed};
+ghost use Rattle.runs.specs.Listing.{openRun, fieldAt, Standing, Stores, ListsOne, ListsField, ListsAt, ListsArray, ListsMembers, ListsEntries, RunsListed};
 
 // The runs so far: the row behind what is listed, how many runs are closed, and the open one. Closed runs stand in the workspace from its end
 // on, if there is room: the latest first.
@@ -67,7 +66,7 @@ fn store_run(s: Runs, work: &mut [u64]) -> usize
     ensures { λ r. ⌜ Stores s (now (work .entry)) r (now (work .exit)) ⌝ }
 {
     if s.closed >= 9223372036854775808 {
-        return 9223372036854775808;
+        return s.closed;
     }
     if s.size >= 4294967296 {
         return s.closed + 1;
@@ -85,7 +84,7 @@ fn store_run(s: Runs, work: &mut [u64]) -> usize
 // One field more, of `size` bytes at a place, the row behind it given.
 fn add_run(s: Runs, place: usize, size: usize, ended: bool, row: usize, work: &mut [u64]) -> Runs
     requires { ⌜ place + size < 4294967296 ⌝ }
-    ensures { λ r. ⌜ Lists (fieldAt place size ended ∷ []) row s (now (work .entry)) r (now (work .exit)) ⌝ }
+    ensures { λ r. ⌜ ListsOne (fieldAt place size ended) row s (now (work .entry)) r (now (work .exit)) ⌝ }
 {
     if joins_run(s, place, ended) {
         return Runs {
@@ -143,11 +142,12 @@ fn list_type(
     entry: Entry,
     limit: usize,
     at: usize,
+    most: usize,
     s: Runs,
     work: &mut [u64],
 ) -> Runs
     requires { ⌜ Standing path limit at × RowSays (now table) (topOf path) entry ⌝ }
-    ensures { λ r. ⌜ ListsAt (33 - path .depth) (now (table .entry)) (now (pool .entry)) (topOf path) limit at s (now (work .entry)) r (now (work .exit)) ⌝ }
+    ensures { λ r. ⌜ ListsAt most (33 - path .depth) (now (table .entry)) (now (pool .entry)) (topOf path) limit at s (now (work .entry)) r (now (work .exit)) ⌝ }
 {
     let depth = path.depth;
     // In a local of its own: read out of the path, the array is compiled to one copy more.
@@ -172,10 +172,11 @@ fn list_type(
             count,
             limit,
             at,
+            most,
             s,
             work,
         ),
-        Entry::Array(rank) => list_array(table, pool, path, row, rank, limit, at, s, work),
+        Entry::Array(rank) => list_array(table, pool, path, row, rank, limit, at, most, s, work),
     }
 }
 
@@ -189,11 +190,12 @@ fn list_array(
     rank: u32,
     limit: usize,
     at: usize,
+    most: usize,
     s: Runs,
     work: &mut [u64],
 ) -> Runs
     requires { ⌜ Standing path limit at × (row * 16 + 16 ≤ length (now table)) ⌝ }
-    ensures { λ r. ⌜ ListsArray (32 - path .depth) (now (table .entry)) (now (pool .entry)) row rank limit at s (now (work .entry)) r (now (work .exit)) ⌝ }
+    ensures { λ r. ⌜ ListsArray most (32 - path .depth) (now (table .entry)) (now (pool .entry)) row rank limit at s (now (work .entry)) r (now (work .exit)) ⌝ }
 {
     let depth = path.depth;
     if depth >= 32 {
@@ -220,12 +222,13 @@ fn list_array(
         at,
         stride as usize,
         count,
+        most,
         s,
         work,
     )
 }
 
-// The members of a compound whose record begins at `at`.
+// The members of a compound whose record begins at `at`, until `most` runs are closed.
 fn list_members(
     table: &[u32],
     pool: &[u8],
@@ -234,17 +237,21 @@ fn list_members(
     count: u32,
     limit: usize,
     at: usize,
+    most: usize,
     s: Runs,
     work: &mut [u64],
 ) -> Runs
     requires { ⌜ Standing path limit at ⌝ }
-    ensures { λ r. ⌜ ListsMembers (32 - path .depth) (now (table .entry)) (now (pool .entry)) count row limit at s (now (work .entry)) r (now (work .exit)) ⌝ }
+    ensures { λ r. ⌜ ListsMembers most (32 - path .depth) (now (table .entry)) (now (pool .entry)) count row limit at s (now (work .entry)) r (now (work .exit)) ⌝ }
 {
     let depth = path.depth;
     let mut state = s;
     let mut r = row;
     let mut left = count;
     while left > 0 {
+        if state.closed >= most {
+            return state;
+        }
         if depth >= 32 {
             return state;
         }
@@ -262,6 +269,7 @@ fn list_members(
             r + 1,
             limit,
             at + offset as usize,
+            most,
             state,
             work,
         );
@@ -280,17 +288,28 @@ fn list_member(
     row: usize,
     limit: usize,
     at: usize,
+    most: usize,
     s: Runs,
     work: &mut [u64],
 ) -> Runs
     requires { ⌜ (path .depth < 32) × ((at ≤ limit) × (limit < 4294967296)) ⌝ }
-    ensures { λ r. ⌜ ListsAt (32 - path .depth) (now (table .entry)) (now (pool .entry)) row limit at s (now (work .entry)) r (now (work .exit)) ⌝ }
+    ensures { λ r. ⌜ ListsAt most (32 - path .depth) (now (table .entry)) (now (pool .entry)) row limit at s (now (work .entry)) r (now (work .exit)) ⌝ }
 {
     let entry = row_entry(table, row);
-    list_type(table, pool, enter(path, row), entry, limit, at, s, work)
+    list_type(
+        table,
+        pool,
+        enter(path, row),
+        entry,
+        limit,
+        at,
+        most,
+        s,
+        work,
+    )
 }
 
-// So many entries of an array, a base size apart; the path's top is the base's row, and `entry` what it has.
+// So many entries of an array, a base size apart, until `most` runs are closed; the path's top is the base's row, and `entry` what it has.
 fn list_entries(
     table: &[u32],
     pool: &[u8],
@@ -300,20 +319,24 @@ fn list_entries(
     at: usize,
     stride: usize,
     count: usize,
+    most: usize,
     s: Runs,
     work: &mut [u64],
 ) -> Runs
     requires { ⌜ Standing path limit at × RowSays (now table) (topOf path) entry ⌝ }
-    ensures { λ r. ⌜ ListsEntries (33 - path .depth) (now (table .entry)) (now (pool .entry)) (topOf path) stride count limit at s (now (work .entry)) r (now (work .exit)) ⌝ }
+    ensures { λ r. ⌜ ListsEntries most (33 - path .depth) (now (table .entry)) (now (pool .entry)) (topOf path) stride count limit at s (now (work .entry)) r (now (work .exit)) ⌝ }
 {
     let mut state = s;
     let mut start = at;
     let mut done: usize = 0;
     while done < count {
+        if state.closed >= most {
+            return state;
+        }
         if limit - start < stride {
             return state;
         }
-        state = list_type(table, pool, path, entry, limit, start, state, work);
+        state = list_type(table, pool, path, entry, limit, start, most, state, work);
         start += stride;
         done += 1;
     }
@@ -321,11 +344,12 @@ fn list_entries(
 }
 
 // Lists the runs of a type that is admitted to comparison and has a size: two words a run from the workspace's end on, the latest run first.
-// The answer is their number; a workspace that is too short for them holds nothing of use. Cost: a step for each row of the type, an
-// enumeration's members excepted, and so for each entry of an array whose base is no field that counts whole.
-pub fn list_runs(table: &[u32], pool: &[u8], size: u32, work: &mut [u64]) -> u64
+// An answer below `most` is their number; a workspace that is too short for them holds nothing of use. The walk stops when `most` runs are
+// closed, so an answer of `most` or more tells no number, and the workspace then holds nothing of use. Cost: until then a step for each row of
+// the type, an enumeration's members excepted, and so for each entry of an array whose base is no field that counts whole.
+pub fn list_runs(table: &[u32], pool: &[u8], size: u32, most: usize, work: &mut [u64]) -> u64
     requires { ⌜ Admits (now table) (now pool) size ⌝ }
-    ensures { λ r. ⌜ RunsListed (runsOf (fieldsIn (now (table .entry)) (now (pool .entry)))) r (now (work .entry)) (now (work .exit)) ⌝ }
+    ensures { λ r. ⌜ RunsListed most (runsOf (fieldsIn (now (table .entry)) (now (pool .entry)))) r (now (work .entry)) (now (work .exit)) ⌝ }
 {
     let path = Path {
         rows: [0; 32],
@@ -339,7 +363,17 @@ pub fn list_runs(table: &[u32], pool: &[u8], size: u32, work: &mut [u64]) -> u64
         ended: false,
     };
     let entry = row_entry(table, 0);
-    let s = list_type(table, pool, path, entry, size as usize, 0, start, work);
+    let s = list_type(
+        table,
+        pool,
+        path,
+        entry,
+        size as usize,
+        0,
+        most,
+        start,
+        work,
+    );
     let closed = store_run(s, work);
     closed as u64
 }

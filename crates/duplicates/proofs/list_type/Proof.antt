@@ -21,10 +21,11 @@ list-type-spec =
     (tie.spec
     returns
     returns-2
-    (λ c κs. search needs)  -- list-runs-requires
     (λ c. search needs)  -- mul-room
     (λ c. search needs)  -- sub-room
-    (λ c. search needs)  -- sub-if3
+    (λ c. search needs)  -- sub-most
+    (λ c. search needs)  -- add-most
+    (λ c κs. search needs)  -- list-runs-requires
     (λ c. search needs)  -- same-length
     returns-3
     (λ c. search needs)  -- mul-result

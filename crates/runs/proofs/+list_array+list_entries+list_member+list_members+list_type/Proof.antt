@@ -2,8 +2,9 @@ use borrow.Author.Needs.{needs}
 use Rattle.rows.proofs.Known.{says-leaf-next, says-compound-next, says-array-row, names-next}
 use Rattle.table.specs.Path.{topOf}
 use Rattle.compare.proofs.Types.{says-entered}
+use Rattle.runs.proofs.Storing.{grows-same}
 use Rattle.runs.proofs.Types.{type-unknown, type-variableLength, type-leaf, type-enumeration, type-array, type-compound, array-deep, array-none, array-of-field, array-entries, standing-entered, member-entered}
-use Rattle.runs.proofs.Inside.{Leads, members-start, members-end, members-deep, members-unnamed, members-past, members-next, Going, entries-start, entries-end, entries-past, entries-next}
+use Rattle.runs.proofs.Inside.{Leads, members-start, members-end, members-stopped, members-deep, members-unnamed, members-past, members-next, Going, entries-start, entries-end, entries-stopped, entries-past, entries-next}
 use Prim.Native.Nat.{ℕ, _<_, _+_, _-_, _*_}
 use borrow.Fn.Kinds.{In}
 use borrow.Fn.PlainCycle.{Measures, is, falls, and}
@@ -109,10 +110,10 @@ abbrev list-type-calls : ℕ → list-type-lts.Claims
 list-type-calls t = (nul-terminated-reads.Asked, nul-terminated-reads.Learnt, list-field-reads.Asked, list-field-reads.Learnt, next-row-reads.Asked, next-row-reads.Learnt, list-members-below t, list-members.Post, list-array-below t, list-array.Post)
 
 list-array-returns : (t : ℕ) → list-array-lts.Need-returns (list-array-calls t) (list-array-at t) list-array.Post
-list-array-returns t c = search array-deep
+list-array-returns t c = search (array-deep, grows-same)
 
 list-array-returns-2 : (t : ℕ) → list-array-lts.Need-returns-2 (list-array-calls t) (list-array-at t) list-array.Post
-list-array-returns-2 t c = search array-none
+list-array-returns-2 t c = search (array-none, grows-same)
 
 list-array-returns-3 : (t : ℕ) → list-array-lts.Need-returns-3 (list-array-calls t) (list-array-at t) list-array.Post
 list-array-returns-3 t c = search array-of-field
@@ -124,22 +125,25 @@ list-array-returns-4 : (t : ℕ) → list-array-lts.Need-returns-4 (list-array-c
 list-array-returns-4 t c = search array-entries
 
 abbrev list-entries-Inv-loop : list-entries-lts.InvT-loop
-list-entries-Inv-loop table pool path entry limit at stride count work₀ state₀ start₀ done₀ work state start done = Going (33 - path .depth) table pool (topOf path) stride count done start limit at state₀ work₀ state work
+list-entries-Inv-loop table pool path entry limit at stride count most work₀ state₀ start₀ done₀ work state start done = Going most (33 - path .depth) table pool (topOf path) stride count done start limit at state₀ work₀ state work
 
 abbrev list-entries-μ-loop : list-entries-lts.MeasureT-loop
-list-entries-μ-loop table pool path entry limit at stride count work₀ state₀ start₀ done₀ work state start done = count - done
+list-entries-μ-loop table pool path entry limit at stride count most work₀ state₀ start₀ done₀ work state start done = count - done
 
 list-entries-loop-holds : (t : ℕ) → list-entries-lts.Need-loop-holds (list-type-below t, list-type.Post) (list-entries-at t) list-entries.Post list-entries-Inv-loop list-entries-μ-loop
 list-entries-loop-holds t c = search entries-start
 
 list-entries-returns : (t : ℕ) → list-entries-lts.Need-returns (list-type-below t, list-type.Post) (list-entries-at t) list-entries.Post list-entries-Inv-loop list-entries-μ-loop
-list-entries-returns t c = search entries-past
+list-entries-returns t c = search entries-stopped
+
+list-entries-returns-2 : (t : ℕ) → list-entries-lts.Need-returns-2 (list-type-below t, list-type.Post) (list-entries-at t) list-entries.Post list-entries-Inv-loop list-entries-μ-loop
+list-entries-returns-2 t c = search entries-past
 
 list-entries-loop-again : (t : ℕ) → list-entries-lts.Need-loop-again (list-type-below t, list-type.Post) (list-entries-at t) list-entries.Post list-entries-Inv-loop list-entries-μ-loop
 list-entries-loop-again t c = search entries-next
 
-list-entries-returns-2 : (t : ℕ) → list-entries-lts.Need-returns-2 (list-type-below t, list-type.Post) (list-entries-at t) list-entries.Post list-entries-Inv-loop list-entries-μ-loop
-list-entries-returns-2 t c = search entries-end
+list-entries-returns-3 : (t : ℕ) → list-entries-lts.Need-returns-3 (list-type-below t, list-type.Post) (list-entries-at t) list-entries.Post list-entries-Inv-loop list-entries-μ-loop
+list-entries-returns-3 t c = search entries-end
 
 list-member-list-type-requires : (t : ℕ) → list-member-lts.Need-list-type-requires (list-member-calls t) (list-member-at t) list-member.Post
 list-member-list-type-requires t c κs = search (standing-entered, says-entered, needs)
@@ -148,31 +152,34 @@ list-member-returns : (t : ℕ) → list-member-lts.Need-returns (list-member-ca
 list-member-returns t c = search member-entered
 
 abbrev list-members-Inv-loop : list-members-lts.InvT-loop
-list-members-Inv-loop table pool path row count limit at work₀ depth state₀ r₀ left₀ work state r left = Leads (32 - path .depth) table pool left r count row limit at state₀ work₀ state work
+list-members-Inv-loop table pool path row count limit at most work₀ depth state₀ r₀ left₀ work state r left = Leads most (32 - path .depth) table pool left r count row limit at state₀ work₀ state work
 
 abbrev list-members-μ-loop : list-members-lts.MeasureT-loop
-list-members-μ-loop table pool path row count limit at work₀ depth state₀ r₀ left₀ work state r left = left
+list-members-μ-loop table pool path row count limit at most work₀ depth state₀ r₀ left₀ work state r left = left
 
 list-members-loop-holds : (t : ℕ) → list-members-lts.Need-loop-holds (list-members-calls t) (list-members-at t) list-members.Post list-members-Inv-loop list-members-μ-loop
 list-members-loop-holds t c = search members-start
 
 list-members-returns : (t : ℕ) → list-members-lts.Need-returns (list-members-calls t) (list-members-at t) list-members.Post list-members-Inv-loop list-members-μ-loop
-list-members-returns t c = search members-deep
+list-members-returns t c = search members-stopped
 
 list-members-returns-2 : (t : ℕ) → list-members-lts.Need-returns-2 (list-members-calls t) (list-members-at t) list-members.Post list-members-Inv-loop list-members-μ-loop
-list-members-returns-2 t c = search members-unnamed
+list-members-returns-2 t c = search members-deep
 
 list-members-returns-3 : (t : ℕ) → list-members-lts.Need-returns-3 (list-members-calls t) (list-members-at t) list-members.Post list-members-Inv-loop list-members-μ-loop
-list-members-returns-3 t c = search members-past
+list-members-returns-3 t c = search members-unnamed
+
+list-members-returns-4 : (t : ℕ) → list-members-lts.Need-returns-4 (list-members-calls t) (list-members-at t) list-members.Post list-members-Inv-loop list-members-μ-loop
+list-members-returns-4 t c = search members-past
 
 list-members-add-list-member : (t : ℕ) → list-members-lts.Need-add-list-member (list-members-calls t) (list-members-at t) list-members.Post list-members-Inv-loop list-members-μ-loop
-list-members-add-list-member t c = search (names-next, needs)
+list-members-add-list-member t c = names-next _ _ (c .before .before .before .before .row-member .ensures) (c .before .before .member .given .1) (search needs)
 
 list-members-loop-again : (t : ℕ) → list-members-lts.Need-loop-again (list-members-calls t) (list-members-at t) list-members.Post list-members-Inv-loop list-members-μ-loop
 list-members-loop-again t c = search members-next
 
-list-members-returns-4 : (t : ℕ) → list-members-lts.Need-returns-4 (list-members-calls t) (list-members-at t) list-members.Post list-members-Inv-loop list-members-μ-loop
-list-members-returns-4 t c = search members-end
+list-members-returns-5 : (t : ℕ) → list-members-lts.Need-returns-5 (list-members-calls t) (list-members-at t) list-members.Post list-members-Inv-loop list-members-μ-loop
+list-members-returns-5 t c = search members-end
 
 list-type-add-list-field : (t : ℕ) → list-type-lts.Need-add-list-field (list-type-calls t) (list-type-at t) list-type.Post
 list-type-add-list-field t c = search (says-leaf-next, needs)
@@ -184,10 +191,10 @@ list-type-list-array-requires : (t : ℕ) → list-type-lts.Need-list-array-requ
 list-type-list-array-requires t c κs = search (says-array-row, needs)
 
 list-type-returns : (t : ℕ) → list-type-lts.Need-returns (list-type-calls t) (list-type-at t) list-type.Post
-list-type-returns t c = search type-unknown
+list-type-returns t c = search (type-unknown, grows-same)
 
 list-type-returns-2 : (t : ℕ) → list-type-lts.Need-returns-2 (list-type-calls t) (list-type-at t) list-type.Post
-list-type-returns-2 t c = search type-variableLength
+list-type-returns-2 t c = search (type-variableLength, grows-same)
 
 list-type-returns-3 : (t : ℕ) → list-type-lts.Need-returns-3 (list-type-calls t) (list-type-at t) list-type.Post
 list-type-returns-3 t c = search type-leaf
@@ -240,16 +247,18 @@ pub +list-array+list-entries+list-member+list-members+list-type-spec : {M : Type
     list-entries-Inv-loop
     list-entries-μ-loop
     (list-entries-loop-holds t)
-    (λ c. search needs)  -- list-entries-sub-if1
     (λ c. search needs)  -- list-entries-same-length
     (list-entries-returns t)
+    (λ c. search needs)  -- list-entries-sub-if1
+    (λ c. search needs)  -- list-entries-same-length-2
+    (list-entries-returns-2 t)
     (λ c κs. search needs)  -- list-entries-list-type-requires
     (λ c. search needs)  -- list-entries-add-start
     (λ c. search needs)  -- list-entries-add-done
     (λ c. search needs)  -- list-entries-loop-less
     (list-entries-loop-again t)
-    (λ c. search needs)  -- list-entries-same-length-2
-    (list-entries-returns-2 t))
+    (λ c. search needs)  -- list-entries-same-length-3
+    (list-entries-returns-3 t))
     (λ t. list-member-lts.spec
     (list-member-calls t)
     (list-member-at t)
@@ -268,15 +277,17 @@ pub +list-array+list-entries+list-member+list-members+list-type-spec : {M : Type
     (list-members-loop-holds t)
     (λ c. search needs)  -- list-members-same-length
     (list-members-returns t)
+    (λ c. search needs)  -- list-members-same-length-2
+    (list-members-returns-2 t)
     (λ c κs. search needs)  -- list-members-row-member-requires
     (λ c. search needs)  -- list-members-enum-known-member
     (λ c. search needs)  -- list-members-enum-told
-    (λ c. search needs)  -- list-members-same-length-2
-    (list-members-returns-2 t)
-    (λ c. search needs)  -- list-members-sub-if2
-    (λ c. search needs)  -- list-members-cast-if2
     (λ c. search needs)  -- list-members-same-length-3
     (list-members-returns-3 t)
+    (λ c. search needs)  -- list-members-sub-if2
+    (λ c. search needs)  -- list-members-cast-if2
+    (λ c. search needs)  -- list-members-same-length-4
+    (list-members-returns-4 t)
     (list-members-add-list-member t)
     (λ c. search needs)  -- list-members-cast-list-member
     (λ c. search needs)  -- list-members-add-list-member-2
@@ -284,8 +295,8 @@ pub +list-array+list-entries+list-member+list-members+list-type-spec : {M : Type
     (λ c. search needs)  -- list-members-sub-left
     (λ c. search needs)  -- list-members-loop-less
     (list-members-loop-again t)
-    (λ c. search needs)  -- list-members-same-length-4
-    (list-members-returns-4 t))
+    (λ c. search needs)  -- list-members-same-length-5
+    (list-members-returns-5 t))
     λ t. list-type-lts.spec
     (list-type-calls t)
     (list-type-at t)
