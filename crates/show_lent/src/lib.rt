@@ -1,4 +1,4 @@
-// For the programs that run cases: whether lent output, which is all 7 before a call, is as it was from a place on.
+// For the programs that run cases: whether lent output, which is all 7 before a call, is as it was from a place on, and what a list holds.
 use show::number;
 use show::text;
 
@@ -44,7 +44,8 @@ pub fn words_line(out: &[u32], from: usize) {
     lent_line(words_untouched(out, from), from);
 }
 
-fn numbers_untouched(out: &[u64], from: usize) -> bool {
+// Whether lent numbers of 64 bits are as they were from a place on.
+pub fn numbers_untouched(out: &[u64], from: usize) -> bool {
     let mut i = from;
     while i < out.len() {
         if out[i] != 7 {
@@ -58,4 +59,16 @@ fn numbers_untouched(out: &[u64], from: usize) -> bool {
 // A line for lent numbers of 64 bits.
 pub fn numbers_line(out: &[u64], from: usize) {
     lent_line(numbers_untouched(out, from), from);
+}
+
+// A line of all numbers of a list, behind its name.
+pub fn list_line(name: &[u8], list: &[u64]) {
+    text(name);
+    let mut i = 0;
+    while i < list.len() {
+        text(b" ");
+        number(list[i]);
+        i += 1;
+    }
+    text(b"\n");
 }
