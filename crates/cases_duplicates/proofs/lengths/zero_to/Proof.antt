@@ -1,0 +1,27 @@
+use Prim.Native.Nat.{_-_, _≤_}
+use lib.ListN.{length}
+use borrow.Author.Needs.{needs}
+use Rattle.cases_duplicates.proofs.lengths.zero_to.Statement.{statement}
+use Rattle.cases_duplicates.proofs.lengths.zero_to.Tie as tie
+
+abbrev Inv-loop : tie.InvT-loop
+Inv-loop work words i₀ i = (i ≤ words) × (words ≤ length work)
+
+abbrev μ-loop : tie.MeasureT-loop
+μ-loop work words i₀ i = words - i
+
+pub zero-to-spec : {M : Type 1} → statement M
+zero-to-spec =
+    tie.close
+    (tie.spec
+    Inv-loop
+    μ-loop
+    (λ c. search needs)  -- returns
+    (λ c. search needs)  -- loop-holds
+    (λ c. search needs)  -- mul-if2
+    (λ c. search needs)  -- shared-slice-read-if2
+    (λ c. search needs)  -- returns-2
+    (λ c. search needs)  -- add-i
+    (λ c. search needs)  -- loop-less
+    (λ c. search needs)  -- loop-again
+    (λ c. search needs))  -- returns-3
