@@ -134,11 +134,12 @@ uint32_t datatype_references(const uint8_t *block, size_t block_length, uint64_t
    with the number of distinct records, sizes is too short. A refusal leaves numbers and sizes as they were; a success writes nothing past
    the result in either. A block without bytes has no records, and is not refused for its length or for room.
 
-   work is a workspace. With as many words as datatype_duplicates_words says, or more, the time grows little faster than the block; with a
-   shorter one, or none, the answer is the same, and each record is compared with those before it up to the first that is the same, twice,
-   so that the time may grow with the square of the records. What it holds does not change the answer. Its first word as lent seeds the
-   hash: a host that reads files which it does not trust fills that word at random before each call, so that nobody can choose records that
-   make the call slow. The workspace is all zero afterwards, refused or not, whatever its length. */
+   work is a workspace. With as many words as datatype_duplicates_words says, or more, the time grows little faster than the block. With
+   fewer the answer is the same and the time grows; with 2 words a record and 2 a run or less, or none, each record is compared with those
+   before it up to the first that is the same, twice, so that the time may grow with the square of the records. What work holds does not
+   change the answer. Its first word as lent seeds the hash: a host that reads files which it does not trust fills that word at random before
+   each call, so that nobody can choose records that make the call slow. The workspace is all zero afterwards, refused or not, whatever its
+   length. */
 uint32_t datatype_duplicates(const uint32_t *table, size_t table_length, const uint8_t *pool, size_t pool_length, const uint8_t *block,
                              size_t block_length, uint64_t *numbers, size_t numbers_length, uint64_t *sizes, size_t sizes_length,
                              uint64_t *work, size_t work_length, uint64_t *first, uint64_t *second);
