@@ -137,10 +137,10 @@ fn answer(
 // For each record of a block the number, from 0, of the earliest record that is the same, into the front of `numbers`; the sizes of the groups,
 // by first record, into the front of `sizes`; the answer is how many records and how many groups. Refused, in this order: BadTable, ZeroSize,
 // OutsideRecord, HeapHeld, WrongLength, NoRoom for the numbers, NoRoom for the sizes; a refusal leaves both lists as they are. The workspace is
-// all zero afterwards and no answer depends on it. Cost: with 3 words a record and 2 a run of the type (`duplicates_words`) one pass over the
-// block and a few steps a record, whatever it holds; with fewer the chains grow longer, and with 2 a record and 2 a run or less, or none, each
-// record is compared with those before it. The workspace's first word seeds the hash: where it is filled at random, nobody can choose records
-// that make the call slow.
+// all zero afterwards and no answer depends on it. Cost: with 3 words a record and 2 a run of the type (`duplicates_words`) the time grows
+// little faster than the block; with fewer the chains grow longer, and with 2 a record and 2 a run or less, or none, each record is compared
+// with those before it. The workspace's first word seeds the hash: where it is filled at random, nobody can choose records that make the call
+// slow.
 pub fn duplicates(
     table: &[u32],
     pool: &[u8],

@@ -11,10 +11,10 @@ use lib.Dec.{eqb}
 use borrow.Author.Tests.{eqb-true, eq-eqb, ne-eqb}
 use Rattle.format.proofs.Booleans.{same-test}
 use Rattle.rows.specs.declared.Entry.{Entry}
-use Rattle.compare.specs.Agreeing.{isField, isString}
+use Rattle.compare.specs.Agreeing.{fieldAt, isField, isString}
 use Rattle.groups.specs.Runs.{RunList, joins, joined, addRuns, runCode, wordsOf}
 use Rattle.groups.proofs.Runs.{joins-says, run-longer, run-new}
-use Rattle.runs.specs.Listing.{openRun, fieldAt, Grows, Stores, ListsOne, ListsField}
+use Rattle.runs.specs.Listing.{openRun, Grows, Stores, ListsOne, ListsField}
 use Rattle.runs.specs.declared.Runs.{Runs}
 
 -- ---- whether a field lengthens the open run

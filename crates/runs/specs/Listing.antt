@@ -10,13 +10,9 @@ use Rattle.format.specs.Table.{Found, found, bad, typeAt, membersAt}
 use Rattle.rows.specs.Entries.{entryAt, fromEntry}
 use Rattle.rows.specs.declared.Entry.the-variants.{Array}
 use Rattle.table.specs.declared.Path.{Path}
-use Rattle.compare.specs.Agreeing.{Admitted, AdmittedIn}
+use Rattle.compare.specs.Agreeing.{fieldAt, Admitted, AdmittedIn}
 use Rattle.groups.specs.Runs.{RunList, addRuns, wordsOf}
 use Rattle.runs.specs.declared.Runs.{Runs}
-
--- a field of n bytes at a place
-abbrev pub fieldAt : (at n : ℕ) (ended : Bool) → Field
-fieldAt at n e = record { place = at; size = n; ended = e }
 
 -- the run that is open
 abbrev pub openRun : Runs → Field

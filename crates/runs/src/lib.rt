@@ -15,12 +15,12 @@ ghost use mathlib.Core.Path.{_≡_};
 ghost use mathlib.Core.Bool.{not, _&&_};
 ghost use Prim.Native.Nat.{_+_, _*_, _-_, _≤_, _<_};
 ghost use lib.ListN.{length};
-ghost use Rattle.compare.specs.Agreeing.{Admits, isField, isString};
+ghost use Rattle.compare.specs.Agreeing.{fieldAt, Admits, isField, isString};
 ghost use Rattle.groups.specs.Duplicates.{fieldsIn};
 ghost use Rattle.groups.specs.Runs.{joins, runCode, runsOf};
 ghost use Rattle.rows.specs.Entries.{RowSays};
 ghost use Rattle.table.specs.Path.{topOf};
-ghost use Rattle.runs.specs.Listing.{openRun, fieldAt, Standing, Stores, ListsOne, ListsField, ListsAt, ListsArray, ListsMembers, ListsEntries, RunsListed};
+ghost use Rattle.runs.specs.Listing.{openRun, Standing, Stores, ListsOne, ListsField, ListsAt, ListsArray, ListsMembers, ListsEntries, RunsListed};
 
 // The runs so far: the row behind what is listed, how many runs are closed, and the open one. Closed runs stand in the workspace from its end
 // on, if there is room: the latest first.
