@@ -1,4 +1,5 @@
 pub mod Chains
 pub mod Duplicates
 pub mod Groups
+pub mod Join
 pub mod Runs
