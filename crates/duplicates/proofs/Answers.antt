@@ -14,7 +14,9 @@ use Rattle.groups.specs.Groups.{numbersOf, firstsTo, sizesTo, firstsOf, distinc
 use Rattle.groups.specs.Chains.{namesIn, Tallied}
 use Rattle.groups.proofs.Firsts.{length-numbers}
 use Rattle.groups.proofs.Counts.{length-sizes}
-use Rattle.groups.proofs.Building.{length-names}
+use Rattle.groups.proofs.Building.{tallied-own}
+use Rattle.groups.proofs.Ways.{distinct-room}
+use Rattle.firsts.specs.Finding.{Known}
 use Rattle.duplicates.specs.Answers.{fittingAnswer, written, Listed}
 use Rattle.duplicates.specs.declared.outcome.Duplicates.{Duplicates}
 use Rattle.duplicates.specs.declared.outcome.Duplicates.the-variants.{Found, Refused}
@@ -42,19 +44,6 @@ module _ (ns : List ℕ) (n d : ℕ) (m s : List ℕ) (e : length ns ≡ n) (g :
         sizes-are = b ∙ rw (← e) (sets-front (sizesTo ns (length ns)) s (omega (arith, groups, length-sizes ns (length ns))));
       }
 
--- by the names of the workspace
-module _ (n buckets d : ℕ) (w m s : List ℕ) (t : Tallied (namesIn n buckets w) n buckets n w) (g : d ≡ length (firstsTo (namesIn n buckets w) n)) where
-  pub finish-full : length s < d → Listed (namesIn n buckets w) (Refused (NoRoom d)) m m s s
-  finish-full h = listed-full (namesIn n buckets w) n d m s (length-names n buckets w (t .room)) g h
-
-  pub finish-found : (m′ s′ : List ℕ) → d ≤ length s → n ≤ length m → m′ ≡ sets m 0 (namesIn n buckets w)
-      → s′ ≡ sets s 0 (sizesTo (namesIn n buckets w) n) → Listed (namesIn n buckets w) (Found n d) m m′ s s′
-  finish-found m′ s′ h r a b = listed-found (namesIn n buckets w) n d m s (length-names n buckets w (t .room)) g m′ s′ h r a b
-
-pub listed-as : (ns : List ℕ) (n buckets : ℕ) (w : List ℕ) (r : Duplicates) (m m′ s s′ : List ℕ) → Tallied ns n buckets n w
-    → Listed (namesIn n buckets w) r m m′ s s′ → Listed ns r m m′ s s′
-listed-as ns n buckets w r m m′ s s′ t l = rw (t .names) at l
-
 -- by the keys
 groups-of : (keys : List (List ℕ)) (n d : ℕ) → n ≡ length keys → d ≡ distinctOf keys → d ≡ length (firstsTo (numbersOf keys) n)
 unfolding distinctOf firstsOf
@@ -64,7 +53,7 @@ pub plain-full : (keys : List (List ℕ)) (n d : ℕ) (m s : List ℕ) → n ≡
 plain-full keys n d m s e g h = listed-full (numbersOf keys) n d m s (length-numbers keys ∙ sym e) (groups-of keys n d e g) h
 
 -- the numbers stored are the first n of what is lent
-pub numbers-taken : (keys : List (List ℕ)) (n : ℕ) (m m′ : List ℕ) → n ≡ length keys → n ≤ length m → m′ ≡ sets m 0 (numbersOf keys) → take n m′ ≡ numbersOf keys
+numbers-taken : (keys : List (List ℕ)) (n : ℕ) (m m′ : List ℕ) → n ≡ length keys → n ≤ length m → m′ ≡ sets m 0 (numbersOf keys) → take n m′ ≡ numbersOf keys
 numbers-taken keys n m m′ e r a =
     rw (a, sets-front (numbersOf keys) m (omega (arith, length-numbers keys)))
     (take-at (numbersOf keys) _ n (length-numbers keys ∙ sym e))
@@ -74,3 +63,23 @@ pub plain-found : (keys : List (List ℕ)) (n d : ℕ) (m m′ s s′ : List ℕ
 plain-found keys n d m m′ s s′ e g h r a b =
     listed-found (numbersOf keys) n d m s (length-numbers keys ∙ sym e) (groups-of keys n d e g) m′ s′ h r a
     (b ∙ ap (λ (x : List ℕ). sets s 0 (sizesTo x n)) (numbers-taken keys n m m′ e r a))
+
+-- ---- the sizes, by the numbers stored
+
+-- with heads in the workspace
+module _ (ns : List ℕ) (n buckets : ℕ) (w : List ℕ) (g : Known ns n buckets w) (z : buckets ≡ 0 → ⊥) where
+  pub known-tallied : Tallied (namesIn n buckets w) n buckets n w
+  known-tallied = tallied-own ns n buckets n w (g .tallied (omega arith))
+
+  pub known-room : (room : ℕ) → length (firstsTo ns n) ≤ room → length (firstsTo (namesIn n buckets w) n) ≤ room
+  known-room room h = rw (g .tallied (omega arith) .names) h
+
+  pub known-sizes : (s s′ : List ℕ) → s′ ≡ sets s 0 (sizesTo (namesIn n buckets w) n) → s′ ≡ sets s 0 (sizesTo ns n)
+  known-sizes s s′ e = e ∙ ap (λ (x : List ℕ). sets s 0 (sizesTo x n)) (g .tallied (omega arith) .names)
+
+module _ (keys : List (List ℕ)) (n : ℕ) (m m′ : List ℕ) (a : m′ ≡ sets m 0 (numbersOf keys)) (e : n ≡ length keys) (r : n ≤ length m) where
+  pub stored-known : (buckets : ℕ) (w : List ℕ) → Known (numbersOf keys) n buckets w → Known (take n m′) n buckets w
+  stored-known buckets w g = rw (numbers-taken keys n m m′ e r a) g
+
+  pub stored-room : (d room : ℕ) → d ≡ distinctOf keys → d ≤ room → length (firstsTo (take n m′) n) ≤ room
+  stored-room d room g h = distinct-room keys n d room (take n m′) e g (numbers-taken keys n m m′ e r a) h

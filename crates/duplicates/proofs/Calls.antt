@@ -31,10 +31,10 @@ use Rattle.groups.proofs.Firsts.{length-numbers}
 use Rattle.groups.proofs.Keys.{length-keys}
 use Rattle.groups.proofs.Counts.{length-sizes, firsts-le}
 use Rattle.duplicates.specs.Answers.{duplicatesNumber, duplicatesValues, groupsValues, answerOf, numbersGiven, sizesGiven, fittingAnswer, written, Listed, Answered, DuplicatesAre}
-use Rattle.duplicates.specs.Records.{Whole, keysIn, Comparable}
+use Rattle.firsts.specs.Records.{Whole, keysIn, Comparable}
 use Rattle.duplicates.specs.declared.outcome.Duplicates.{Duplicates}
 use Rattle.duplicates.specs.declared.outcome.Duplicates.the-variants.{Found, Refused}
-use Rattle.duplicates.proofs.KeyLaws.{fields-in}
+use Rattle.firsts.proofs.KeyLaws.{fields-in}
 
 -- ---- a refusal leaves both lists as they are
 
@@ -196,7 +196,3 @@ all-told o r m m′ s s′ w w′ w″ a l z =
       sizes-are = a .sizes-are;
       work-is = z ∙ rw (d, append-nil, l);
     }
-
-pub word-none : (w : List ℕ) → length w ≡ 0 → 0 ≡ getD w 0 0
-word-none [] e = refl
-word-none (x ∷ w) e = absurd (omega arith)

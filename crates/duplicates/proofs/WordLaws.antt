@@ -20,7 +20,7 @@ use Rattle.runs.specs.Listing.{RunsListed}
 use Rattle.duplicates.specs.WordCount.{mostWords, wordsNeeded, wordsNumber, wordsValues, wordsOutcome, WordsAre}
 use Rattle.duplicates.specs.declared.outcome.Words.{Words}
 use Rattle.duplicates.specs.declared.outcome.Words.the-variants.{Needed, Refused}
-use Rattle.duplicates.proofs.KeyLaws.{fields-in}
+use Rattle.firsts.proofs.KeyLaws.{fields-in}
 
 -- ---- the sum, which stops at the greatest word
 

@@ -8,11 +8,9 @@ use lib.Dec.{ltb}
 use Rattle.refusal.specs.Refusal.{numberOf, valuesOf}
 use Rattle.refusal.specs.declared.Refusal.the-variants.{NoRoom}
 use Rattle.format.specs.Bytes.{zeros}
-use Rattle.format.specs.Image.{Field}
 use Rattle.format.specs.Outcome.{Outcome, gives, refuses, whenGiven, outputAfter, outcomeNumber, outcomeValues}
 use Rattle.groups.specs.Groups.{firstsTo, sizesTo}
 use Rattle.groups.specs.Duplicates.{Groups}
-use Rattle.groups.specs.Runs.{wordsOf}
 use Rattle.duplicates.specs.declared.outcome.Duplicates.{Duplicates}
 use Rattle.duplicates.specs.declared.outcome.Duplicates.the-variants.{Found, Refused}
 
@@ -70,8 +68,3 @@ pub record DuplicatesAre (o : Outcome Groups) (r : Duplicates) (numbers numbers�
   pub numbers-are : numbers′ ≡ outputAfter numbers (numbersGiven o)
   pub sizes-are : sizes′ ≡ outputAfter sizes (sizesGiven o)
   pub work-is : work′ ≡ zeros (length work)
-
--- how many heads a workspace has room for before the links and firsts of n records and the runs, which stand at its end
-pub record Heads (rs : List Field) (n r : ℕ) (w : List ℕ) : Type 0 where
-  pub room : 0 < r → r + n + n ≤ length w
-  pub words : 0 < r → drop (r + n + n) w ≡ wordsOf rs

@@ -1,4 +1,2 @@
 pub mod Answers
-pub mod Chaining
-pub mod Records
 pub mod WordCount

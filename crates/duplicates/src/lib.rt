@@ -1,66 +1,57 @@
 // `duplicates`: which records of a block are the same as an earlier one.
-mod chains;
 mod lists;
 pub mod outcome;
-mod plain;
-mod records;
 
-use chains::fast;
 use compare::Admission;
 use compare::admit;
-use keys::seeded;
-use lists::clear;
+use firsts::counts::clear;
+use firsts::find_firsts;
+use lists::list_sizes;
+use lists::put_numbers;
 use outcome::Duplicates;
 use outcome::Words;
-use plain::plain;
 use refusal::Refusal;
 use runs::list_runs;
 ghost use mathlib.Core.Path.{_≡_};
 ghost use mathlib.Core.List.{[]};
-ghost use Prim.Native.Nat.{_≤_, _<_};
-ghost use lib.ListN.{length, getD};
-ghost use Rattle.groups.specs.Duplicates.{duplicating, fieldsIn};
-ghost use Rattle.groups.specs.Groups.{numbersOf};
-ghost use Rattle.groups.specs.Runs.{runsOf};
+ghost use Prim.Native.Nat.{_≤_};
+ghost use lib.ListN.{length};
+ghost use Rattle.groups.specs.Duplicates.{duplicating};
+ghost use Rattle.groups.specs.Groups.{numbersOf, distinctOf};
 ghost use Rattle.compare.specs.Agreeing.{Admits};
-ghost use Rattle.duplicates.specs.Answers.{Listed, Answered, DuplicatesAre, Heads};
-ghost use Rattle.duplicates.specs.Records.{keysIn, Comparable};
+ghost use Rattle.duplicates.specs.Answers.{Listed, Answered, DuplicatesAre};
+ghost use Rattle.firsts.specs.Finding.{Known};
+ghost use Rattle.firsts.specs.Records.{keysIn, Comparable};
 ghost use Rattle.duplicates.specs.WordCount.{wordsNeeded, mostWords, WordsAre};
 
-// The first word of a workspace, or 0.
-fn first_word(work: &[u64]) -> u64
-    ensures { λ r. ⌜ r ≡ getD (now (work .entry)) 0 0 ⌝ }
+// The groups of the n records of two blocks, d of them, with room for n numbers.
+fn list_groups<'a>(
+    table: &[u32],
+    pool: &[u8],
+    a: &'a [u8],
+    b: &'a [u8],
+    size: usize,
+    n: usize,
+    d: usize,
+    buckets: usize,
+    work: &[u64],
+    numbers: &mut [u64],
+    sizes: &mut [u64],
+) -> Duplicates
+    requires { ⌜ Comparable (now table) (now pool) (now a) (now b) size ⌝ }
+    requires { ⌜ (n ≡ length (keysIn (now table) (now pool) (now a) (now b) size)) × (n ≤ length (now numbers)) ⌝ }
+    requires { ⌜ d ≡ distinctOf (keysIn (now table) (now pool) (now a) (now b) size) ⌝ }
+    requires { ⌜ Known (numbersOf (keysIn (now table) (now pool) (now a) (now b) size)) n buckets (now work) ⌝ }
+    ensures { λ r. ⌜ Listed (numbersOf (keysIn (now (table .entry)) (now (pool .entry)) (now (a .entry)) (now (b .entry)) size)) r (now (numbers .entry)) (now (numbers .exit)) (now (sizes .entry)) (now (sizes .exit)) ⌝ }
 {
-    if work.len() == 0 {
-        return 0;
+    if sizes.len() < d {
+        return Duplicates::Refused(Refusal::NoRoom(d as u64));
     }
-    work[0]
+    put_numbers(table, pool, a, b, size, n, buckets, work, numbers);
+    list_sizes(n, buckets, work, numbers, sizes);
+    Duplicates::Found(n as u64, d as u64)
 }
 
-// Lists the runs of the type at the workspace's end. The answer is how many heads it has room for before the links and firsts of n records and
-// the runs; 0 where it is too short, or where there are too few records for it to be of use.
-fn list_type(table: &[u32], pool: &[u8], size: u32, n: usize, work: &mut [u64]) -> usize
-    requires { ⌜ Admits (now table) (now pool) size ⌝ }
-    ensures { λ r. ⌜ Heads (runsOf (fieldsIn (now (table .entry)) (now (pool .entry)))) n r (now (work .exit)) ⌝ }
-{
-    if n < 2 {
-        return 0;
-    }
-    if work.len() / 2 <= n {
-        return 0;
-    }
-    let room = work.len() - 2 * n;
-    // One run more than fit beside a head.
-    let most = (room - 1) / 2 + 1;
-    let runs = list_runs(table, pool, size, most, work);
-    if runs >= most as u64 {
-        return 0;
-    }
-    room - 2 * (runs as usize)
-}
-
-// The groups of the n records of two blocks, with room for n numbers: by chains where the workspace has the room, else each record against
-// those before it.
 fn grouped<'a>(
     table: &[u32],
     pool: &[u8],
@@ -76,13 +67,22 @@ fn grouped<'a>(
     requires { ⌜ (n ≡ length (keysIn (now table) (now pool) (now a) (now b) size)) × (n ≤ length (now numbers)) ⌝ }
     ensures { λ r. ⌜ Listed (numbersOf (keysIn (now (table .entry)) (now (pool .entry)) (now (a .entry)) (now (b .entry)) size)) r (now (numbers .entry)) (now (numbers .exit)) (now (sizes .entry)) (now (sizes .exit)) ⌝ }
 {
-    let m = seeded(first_word(work));
-    let buckets = list_type(table, pool, size, n, work);
-    if buckets == 0 {
-        plain(table, pool, a, b, size as usize, n, numbers, sizes)
-    } else {
-        fast(a, b, size as usize, n, m, buckets, numbers, sizes, work)
-    }
+    let found = find_firsts(table, pool, a, b, size, n, work);
+    let buckets = found.buckets;
+    let d = found.distinct;
+    list_groups(
+        table,
+        pool,
+        a,
+        b,
+        size as usize,
+        n,
+        d,
+        buckets,
+        work,
+        numbers,
+        sizes,
+    )
 }
 
 // No bytes of a block.

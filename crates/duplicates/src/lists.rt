@@ -1,16 +1,40 @@
-// Numbers and sizes from the first of each record: stored into what is lent, or counted in a workspace. Nothing here knows what a record is.
-use crate::outcome::Duplicates;
-use refusal::Refusal;
+// Numbers and sizes from the first of each record, stored into what is lent.
+use firsts::first_at;
 ghost use mathlib.Core.Path.{_≡_};
 ghost use Prim.Native.Nat.{_+_, _≤_, _<_};
-ghost use lib.ListN.{length, take, drop, replicate};
+ghost use lib.ListN.{length, take};
 ghost use lib.Seq.{sets};
-ghost use mathlib.Core.List.{_++_};
-ghost use Rattle.groups.specs.Groups.{count, firstsTo, sizesTo, sizeAt, Grown};
-ghost use Rattle.groups.specs.Chains.{namesIn, Named, Tallied};
-ghost use Rattle.duplicates.specs.Answers.{Listed};
+ghost use Rattle.groups.specs.Groups.{numbersOf, count, firstsTo, sizesTo, sizeAt, Grown};
+ghost use Rattle.groups.specs.Chains.{namesIn, Tallied};
+ghost use Rattle.firsts.specs.Finding.{Known};
+ghost use Rattle.firsts.specs.Records.{keysIn, Comparable};
 
-// ---- from the numbers
+pub fn put_numbers<'a>(
+    table: &[u32],
+    pool: &[u8],
+    a: &'a [u8],
+    b: &'a [u8],
+    size: usize,
+    n: usize,
+    buckets: usize,
+    work: &[u64],
+    numbers: &mut [u64],
+)
+    requires { ⌜ Comparable (now table) (now pool) (now a) (now b) size ⌝ }
+    requires { ⌜ n ≡ length (keysIn (now table) (now pool) (now a) (now b) size) ⌝ }
+    requires { ⌜ Known (numbersOf (keysIn (now table) (now pool) (now a) (now b) size)) n buckets (now work) ⌝ }
+    requires { ⌜ n ≤ length (now numbers) ⌝ }
+    ensures { λ _. ⌜ now (numbers .exit) ≡ sets (now (numbers .entry)) 0 (numbersOf (keysIn (now (table .entry)) (now (pool .entry)) (now (a .entry)) (now (b .entry)) size)) ⌝ }
+{
+    let mut k = 0;
+    while k < n {
+        let f = first_at(table, pool, a, b, size, n, buckets, work, k);
+        numbers[k] = f as u64;
+        k += 1;
+    }
+}
+
+// ---- sizes from the numbers
 
 // How many of the first n entries are x.
 fn count_entries(numbers: &[u64], n: usize, x: u64) -> u64
@@ -42,7 +66,7 @@ fn plain_size(numbers: &[u64], n: usize, k: usize, g: usize, sizes: &mut [u64]) 
     g
 }
 
-pub fn plain_sizes(numbers: &[u64], n: usize, sizes: &mut [u64])
+fn plain_sizes(numbers: &[u64], n: usize, sizes: &mut [u64])
     requires { ⌜ n ≤ length (now numbers) ⌝ }
     requires { ⌜ length (firstsTo (take n (now numbers)) n) ≤ length (now sizes) ⌝ }
     ensures { λ _. ⌜ now (sizes .exit) ≡ sets (now (sizes .entry)) 0 (sizesTo (take n (now (numbers .entry))) n) ⌝ }
@@ -55,70 +79,7 @@ pub fn plain_sizes(numbers: &[u64], n: usize, sizes: &mut [u64])
     }
 }
 
-// ---- from a workspace: heads, then n links, then n firsts
-
-// The words before a place are zeroed.
-pub fn clear(work: &mut [u64], end: usize)
-    requires { ⌜ end ≤ length (now work) ⌝ }
-    ensures { λ _. ⌜ now (work .exit) ≡ replicate end 0 ++ drop end (now (work .entry)) ⌝ }
-{
-    let mut i = 0;
-    while i < end {
-        work[i] = 0;
-        i += 1;
-    }
-}
-
-// The first of record k, as the workspace has it.
-fn name_of(n: usize, buckets: usize, k: usize, work: &[u64]) -> usize
-    requires { ⌜ k < n ⌝ }
-    requires { ⌜ Tallied (namesIn n buckets (now work)) n buckets k (now work) ⌝ }
-    ensures { λ r. ⌜ Named (namesIn n buckets (now (work .entry))) k r ⌝ }
-{
-    work[buckets + n + k] as usize
-}
-
-// Record k's first, which one entry more names: counts stand where the links stood.
-fn tally_one(n: usize, buckets: usize, k: usize, work: &mut [u64]) -> usize
-    requires { ⌜ k < n ⌝ }
-    requires { ⌜ Tallied (namesIn n buckets (now work)) n buckets k (now work) ⌝ }
-    ensures { λ r. ⌜ Named (namesIn n buckets (now (work .entry))) k r × Tallied (namesIn n buckets (now (work .entry))) n buckets (k + 1) (now (work .exit)) ⌝ }
-{
-    let f = name_of(n, buckets, k, work);
-    work[buckets + k] = 0;
-    let c = work[buckets + f];
-    work[buckets + f] = c + 1;
-    f
-}
-
-// Puts how many entries name record j in place of its link, and counts the firsts.
-pub fn tally(n: usize, buckets: usize, work: &mut [u64]) -> usize
-    requires { ⌜ Tallied (namesIn n buckets (now work)) n buckets 0 (now work) ⌝ }
-    ensures { λ r. ⌜ (r ≡ length (firstsTo (namesIn n buckets (now (work .entry))) n)) × Tallied (namesIn n buckets (now (work .entry))) n buckets n (now (work .exit)) ⌝ }
-{
-    let mut d = 0;
-    let mut k = 0;
-    while k < n {
-        let f = tally_one(n, buckets, k, work);
-        if f == k {
-            d += 1;
-        }
-        k += 1;
-    }
-    d
-}
-
-fn put_numbers(n: usize, buckets: usize, work: &[u64], numbers: &mut [u64])
-    requires { ⌜ buckets + n + n ≤ length (now work) ⌝ }
-    requires { ⌜ n ≤ length (now numbers) ⌝ }
-    ensures { λ _. ⌜ now (numbers .exit) ≡ sets (now (numbers .entry)) 0 (namesIn n buckets (now (work .entry))) ⌝ }
-{
-    let mut k = 0;
-    while k < n {
-        numbers[k] = work[buckets + n + k];
-        k += 1;
-    }
-}
+// ---- sizes from a workspace: heads, then n counts, then n firsts
 
 // What number k adds to the sizes, which are g so far.
 fn put_size(n: usize, buckets: usize, k: usize, work: &[u64], g: usize, sizes: &mut [u64]) -> usize
@@ -147,24 +108,16 @@ fn put_sizes(n: usize, buckets: usize, work: &[u64], sizes: &mut [u64])
     }
 }
 
-// The answer, d groups, from a workspace that names the firsts and has their counts.
-pub fn finish(
-    n: usize,
-    buckets: usize,
-    d: usize,
-    work: &[u64],
-    numbers: &mut [u64],
-    sizes: &mut [u64],
-) -> Duplicates
-    requires { ⌜ Tallied (namesIn n buckets (now work)) n buckets n (now work) ⌝ }
-    requires { ⌜ d ≡ length (firstsTo (namesIn n buckets (now work)) n) ⌝ }
+// The sizes of the groups: from the workspace, or from the numbers where that has no heads.
+pub fn list_sizes(n: usize, buckets: usize, work: &[u64], numbers: &[u64], sizes: &mut [u64])
     requires { ⌜ n ≤ length (now numbers) ⌝ }
-    ensures { λ r. ⌜ Listed (namesIn n buckets (now (work .entry))) r (now (numbers .entry)) (now (numbers .exit)) (now (sizes .entry)) (now (sizes .exit)) ⌝ }
+    requires { ⌜ Known (take n (now numbers)) n buckets (now work) ⌝ }
+    requires { ⌜ length (firstsTo (take n (now numbers)) n) ≤ length (now sizes) ⌝ }
+    ensures { λ _. ⌜ now (sizes .exit) ≡ sets (now (sizes .entry)) 0 (sizesTo (take n (now (numbers .entry))) n) ⌝ }
 {
-    if sizes.len() < d {
-        return Duplicates::Refused(Refusal::NoRoom(d as u64));
+    if buckets == 0 {
+        plain_sizes(numbers, n, sizes);
+    } else {
+        put_sizes(n, buckets, work, sizes);
     }
-    put_numbers(n, buckets, work, numbers);
-    put_sizes(n, buckets, work, sizes);
-    Duplicates::Found(n as u64, d as u64)
 }

@@ -142,6 +142,10 @@ module _ (n buckets : ℕ) (w : List ℕ) (r : buckets + n + n ≤ length w) whe
   unfolding namesIn
   name-at k h = getD-take n (drop (buckets + n) w) k 0 h ∙ getD-drop (buckets + n) w k 0
 
+  -- a name as it is read
+  pub name-is : (k : ℕ) → k < n → getD (namesIn n buckets w) k 0 ≤ k → Named (namesIn n buckets w) k (getD w (buckets + n + k) 0)
+  name-is k h low = record { name = sym (name-at k h); low = omega (arith, name-at k h) }
+
   names-set : (i v : ℕ) → i < buckets + n → namesIn n buckets (set w i v) ≡ namesIn n buckets w
   unfolding namesIn
   names-set i v h = ap (take n) (drop-set-lt (buckets + n) w i v h)
@@ -177,9 +181,9 @@ module _ (ns : List ℕ) (n buckets k : ℕ) (w : List ℕ) (t : Tallied ns n bu
   entry-at : getD w (buckets + n + k) 0 ≡ getD ns k 0
   entry-at = sym (name-at n buckets w (t .room) k l) ∙ ap (λ (x : List ℕ). getD x k 0) (t .names)
 
-  -- the name of k, in the workspace and in the list
-  pub entry-is : Named ns k (getD w (buckets + n + k) 0)
-  entry-is = record { name = entry-at; low = omega (arith, entry-at, t .low k l) }
+  -- the name of k is not above it
+  pub entry-low : getD ns k 0 ≤ k
+  entry-low = t .low k l
 
   later : (j : ℕ) → k ≤ j → count j (take k ns) ≡ 0
   later j h = count-later ns (λ (i : ℕ) (g : i < length ns). t .low i (omega (arith, length-of))) k j (omega (arith, length-of)) h

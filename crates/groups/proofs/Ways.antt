@@ -60,18 +60,13 @@ distinct-all keys n k d g l h i =
 
 -- ---- numbers stored
 
-pub number-more : (keys : List (List ℕ)) (l l₁ : List ℕ) (n k v : ℕ) → n ≡ length keys → k < n → v ≡ firstOf keys k → l₁ ≡ sets l 0 (take k (numbersOf keys))
+pub number-more : (keys : List (List ℕ)) (l l₁ : List ℕ) (n k v : ℕ) → n ≡ length keys → k < n → v ≡ getD (numbersOf keys) k 0 → l₁ ≡ sets l 0 (take k (numbersOf keys))
     → set l₁ k v ≡ sets l 0 (take (k + 1) (numbersOf keys))
 number-more keys l l₁ n k v e h g i =
-    copy-more l l₁ (numbersOf keys) k v (omega (arith, length-numbers keys)) (g ∙ sym (number-at keys k (omega arith))) i
+    copy-more l l₁ (numbersOf keys) k v (omega (arith, length-numbers keys)) g i
 
 pub numbers-all : (keys : List (List ℕ)) (l l₁ : List ℕ) (n k : ℕ) → l₁ ≡ sets l 0 (take k (numbersOf keys)) → n ≡ length keys → n ≤ k → l₁ ≡ sets l 0 (numbersOf keys)
 numbers-all keys l l₁ n k e g h = copy-all l l₁ (numbersOf keys) k (omega (arith, length-numbers keys)) e
-
-pub name-more : (n buckets k : ℕ) (w l l₁ : List ℕ) → buckets + n + n ≤ length w → k < n → l₁ ≡ sets l 0 (take k (namesIn n buckets w))
-    → set l₁ k (getD w (buckets + n + k) 0) ≡ sets l 0 (take (k + 1) (namesIn n buckets w))
-name-more n buckets k w l l₁ r h e =
-    copy-more l l₁ (namesIn n buckets w) k (getD w (buckets + n + k) 0) (omega (arith, length-names n buckets w r)) (sym (name-at n buckets w r k h)) e
 
 -- ---- sizes stored
 
@@ -171,12 +166,6 @@ module _ (hash : List ℕ → ℕ) (keys : List (List ℕ)) (n buckets : ℕ) (w
 
   pub tallied-is : (w′ : List ℕ) → Tallied (namesIn n buckets w) n buckets n w′ → Tallied (numbersOf keys) n buckets n w′
   tallied-is w′ t = tallied-for (numbersOf keys) (namesIn n buckets w) n buckets n w′ names-are t
-
--- the groups by the names of the workspace
-pub groups-are : (keys : List (List ℕ)) (n buckets d : ℕ) (w : List ℕ) → n ≡ length keys → d ≡ distinctOf keys → Tallied (numbersOf keys) n buckets n w
-    → d ≡ length (firstsTo (namesIn n buckets w) n)
-unfolding distinctOf firstsOf
-groups-are keys n buckets d w e g t = g ∙ rw (t .names, e)
 
 -- room for the groups
 pub distinct-room : (keys : List (List ℕ)) (n d room : ℕ) (ns : List ℕ) → n ≡ length keys → d ≡ distinctOf keys → ns ≡ numbersOf keys → d ≤ room

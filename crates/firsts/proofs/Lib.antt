@@ -1,0 +1,4 @@
+pub mod Places
+pub mod KeyLaws
+pub mod Chaining
+pub mod Compiling

@@ -1,0 +1,3 @@
+pub mod Chaining
+pub mod Finding
+pub mod Records
