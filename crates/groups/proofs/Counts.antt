@@ -100,7 +100,7 @@ firsts-mono ns m (suc n) h =
     (λ (e : m ≡ suc n). rw e (omega arith))
     (below-or-same m (suc n) (omega arith))
 
-map-append : (f : ℕ → ℕ) (s t : List ℕ) → map f (s ++ t) ≡ map f s ++ map f t
+pub map-append : (f : ℕ → ℕ) (s t : List ℕ) → map f (s ++ t) ≡ map f s ++ map f t
 map-append f [] t = refl
 map-append f (x ∷ s) t = ap (λ (l : List ℕ). f x ∷ l) (map-append f s t)
 
