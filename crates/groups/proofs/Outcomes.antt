@@ -124,7 +124,7 @@ numbered x e none true h q = let k : OutsideRecord ≡ e = cc in rw (← k) (ome
 numbered x e none false true q = let k : HeapHeld ≡ e = cc in rw (← k) (omega arith)
 numbered x e none false false q = absurd (let k : _≡_ {A = ℕ} 0 1 = cc in omega arith)
 
-admission-number : (table pool : List ℕ) (e : Refusal) → admission table pool ≡ refuses e → numberOf e < 18
+pub admission-number : (table pool : List ℕ) (e : Refusal) → admission table pool ≡ refuses e → numberOf e < 18
 unfolding admission
 admission-number table pool e = go (typeOf table pool) refl
   where
@@ -159,11 +159,11 @@ pub data TooShort (table pool block : List ℕ) (room places : ℕ) : (wanted : 
       → TooShort table pool block room places (needed (distinctOf (keysOf (fieldsIn table pool) block size)))
 
 -- a result is no refusal
-not-given : {A B : Type 0} {o : Outcome A} {e : Refusal} {x : A} → o ≡ gives x → o ≡ refuses e → B
+pub not-given : {A B : Type 0} {o : Outcome A} {e : Refusal} {x : A} → o ≡ gives x → o ≡ refuses e → B
 not-given g h = absurd (let k : _≡_ {A = ℕ} 0 1 = cc in omega arith)
 
 -- refusals behind the admission: of other numbers they are not equal
-not-equal : {A B : Type 0} (e f : Refusal) → _≡_ {A = Outcome A} (refuses e) (refuses f) → (numberOf e ≡ numberOf f → ⊥) → B
+pub not-equal : {A B : Type 0} (e f : Refusal) → _≡_ {A = Outcome A} (refuses e) (refuses f) → (numberOf e ≡ numberOf f → ⊥) → B
 not-equal e f h n = absurd (let k : e ≡ f = cc in n (ap numberOf k))
 
 module _ (table pool block : List ℕ) (room places : ℕ) where
