@@ -81,7 +81,7 @@ module _ (table pool block : List ℕ) (t : Datatype) (given : typeOf table pool
   unfolding image
   image-key i h = sym (key-at (fieldsOf t) block (typeSize t) i (omega (arith, length-keys (fieldsOf t) block (typeSize t))))
 
-  compared : (i j : ℕ) → i < length block / typeSize t → j < length block / typeSize t
+  pub compared : (i j : ℕ) → i < length block / typeSize t → j < length block / typeSize t
       → comparing table pool (recordAt block (typeSize t) i) (recordAt block (typeSize t) j)
       ≡ gives (sameWords (keyAt (keysOf (fieldsOf t) block (typeSize t)) i) (keyAt (keysOf (fieldsOf t) block (typeSize t)) j))
   unfolding agree
@@ -114,7 +114,7 @@ module _ (table pool block : List ℕ) (size : ℕ) (keys : List (List ℕ))
         let z : _≡_ {A = ℕ} 0 1 = cc in
         omega arith
 
-  numbers-exactly : NumbersExactly table pool block size (length keys) (numbersOf keys)
+  pub numbers-exactly : NumbersExactly table pool block size (length keys) (numbersOf keys)
   numbers-exactly =
       record {
         for-each = length-numbers keys;
@@ -156,7 +156,7 @@ module _ (table pool block : List ℕ) (size : ℕ) (keys : List (List ℕ))
   one-first : (x y : ℕ) → FirstAt (numbersOf keys) (length keys) x → FirstAt (numbersOf keys) (length keys) y → keyAt keys x ≡ keyAt keys y → x ≡ y
   one-first x y f g e = sym (f .own) ∙ number-at keys x (f .below) ∙ first-of-equal keys x y e ∙ sym (number-at keys y (g .below)) ∙ g .own
 
-  groups-exactly : GroupsExactly table pool block size (length keys) (numbersOf keys) (firstsOf keys) (sizesOf keys)
+  pub groups-exactly : GroupsExactly table pool block size (length keys) (numbersOf keys) (firstsOf keys) (sizesOf keys)
   groups-exactly =
       record {
         rising = rise;
@@ -205,7 +205,7 @@ of-type table pool block t i z o p d w =
       groups = rw n at (groups-exactly table pool block (typeSize t) keys c);
     }
 
-of-fields : (table pool block : List ℕ) (size : ℕ) (t : Datatype) → typeOf table pool ≡ gives t → size ≡ typeSize t
+pub of-fields : (table pool block : List ℕ) (size : ℕ) (t : Datatype) → typeOf table pool ≡ gives t → size ≡ typeSize t
     → keysOf (fieldsIn table pool) block size ≡ keysOf (fieldsOf t) block (typeSize t)
 unfolding fieldsIn fieldsGiven
 of-fields table pool block size t i s = rw (i, s)

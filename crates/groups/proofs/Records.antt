@@ -4,7 +4,7 @@ use mathlib.Core.Path.{_≡_, refl, sym, ap, _∙_}
 use mathlib.Core.Logic.{⊎-elim}
 use mathlib.Core.Bool.{cond}
 use mathlib.Core.List.{List, [], _∷_, _++_, map, append-nil, append-assoc}
-use native.Mathlib.Nat.{add-zero, zero-mul, suc-mul, add-mul, div-add-mod', mul-add-div-right}
+use native.Mathlib.Nat.{add-zero, zero-mul, suc-mul, add-mul, div-add-mod', mul-add-div-right, zero-mod, add-mod}
 use native.Mathlib.Numerals.{add-one}
 use native.Mathlib.Omega.{arith}
 use lib.ListN.{length, getD, drop, length-append, length-drop}
@@ -110,6 +110,9 @@ module _ (a b : List ℕ) (size : ℕ) where
     pub records-split : (xs ys : List ℕ) → ((i : ℕ) → i < length xs → getD xs i 0 < length a / size)
         → recordsAt (a ++ b) size (xs ++ map (λ (k : ℕ). length a / size + k) ys) ≡ recordsAt a size xs ++ recordsAt b size ys
     records-split xs ys f = rw (records-append (a ++ b) size xs (map (λ (k : ℕ). length a / size + k) ys), records-first xs f, records-second ys)
+
+    pub both-whole : length b % size ≡ 0 → length (a ++ b) % size ≡ 0
+    both-whole v = rw (length-append a b, add-mod (length a) (length b) size, w, v) (zero-mod size)
 
     pub records-of-both : 0 < size → length (a ++ b) / size ≡ length a / size + length b / size
     records-of-both p =
