@@ -20,7 +20,6 @@ use Rattle.format.specs.Table.{typeOf}
 use Rattle.format.proofs.Admission.{admission-refused}
 use Rattle.format.proofs.Booleans.{true-or-false}
 use Rattle.format.proofs.Ownership.{admitting-given}
-use Rattle.format.proofs.Slots.{first-zero-size}
 use Rattle.compare.specs.Agreeing.{Admits, admissionOf}
 use Rattle.compare.specs.declared.Admission.{Admission}
 use Rattle.compare.specs.declared.Admission.the-variants.{Size, Refused as AdmissionRefused}
@@ -34,7 +33,7 @@ use Rattle.duplicates.specs.Answers.{duplicatesNumber, duplicatesValues,
 use Rattle.firsts.specs.Records.{Whole, keysIn, Comparable}
 use Rattle.duplicates.specs.declared.outcome.Duplicates.{Duplicates}
 use Rattle.duplicates.specs.declared.outcome.Duplicates.the-variants.{Found, Refused}
-use Rattle.firsts.proofs.KeyLaws.{fields-in}
+use Rattle.firsts.proofs.KeyLaws.{admits-some, fields-in}
 
 -- ---- a refusal leaves both lists as they are
 
@@ -67,9 +66,6 @@ unfolding fittingAnswer
 fits-all n d places q = rw q
 
 -- ---- an admitted type
-
-pub admits-some : (table pool : List ℕ) (size : ℕ) → Admits table pool size → 0 < size
-admits-some table pool size g = omega (arith, g .size-is, first-zero-size (g .type) (g .admitted .sized))
 
 module _ (table pool block : List ℕ) (size : ℕ) (g : Admits table pool size) where
   abbrev keys : List (List ℕ)

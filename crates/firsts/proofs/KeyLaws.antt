@@ -7,10 +7,11 @@ use native.Mathlib.Omega.{arith}
 use lib.ListN.{length}
 use Rattle.format.specs.Datatype.{Datatype, typeSize}
 use Rattle.format.specs.Image.{Field, fieldsOf, image, imageFrom, agree}
-use Rattle.format.specs.Outcome.{gives}
-use Rattle.format.specs.Ownership.{comparing}
+use Rattle.format.specs.Outcome.{gives, whenGiven}
+use Rattle.format.specs.Ownership.{admission, comparing}
 use Rattle.format.specs.Table.{sameWords}
-use Rattle.format.proofs.Ownership.{comparing-records}
+use Rattle.format.proofs.Ownership.{admitting-given, comparing-records}
+use Rattle.format.proofs.Slots.{first-zero-size}
 use Rattle.compare.specs.Agreeing.{Admits}
 use Rattle.groups.specs.Groups.{keyAt}
 use Rattle.groups.specs.Duplicates.{keysOf, fieldsGiven, fieldsIn}
@@ -25,6 +26,13 @@ module _ (fs : List Field) (block : List ℕ) (size : ℕ) where
   key-of k h r = rw (r .long, r .is) (sym (key-at fs block size k h))
 
 -- ---- by the fields of a type
+
+pub admits-some : (table pool : List ℕ) (size : ℕ) → Admits table pool size → 0 < size
+admits-some table pool size g = omega (arith, g .size-is, first-zero-size (g .type) (g .admitted .sized))
+
+pub admits-admission : (table pool : List ℕ) (size : ℕ) → Admits table pool size → admission table pool ≡ gives size
+unfolding admission whenGiven
+admits-admission table pool size g = rw (g .is, g .size-is) (admitting-given (g .type) _ (g .admitted .sized) (g .admitted .inside) (g .admitted .plain))
 
 pub fields-in : (table pool : List ℕ) (size : ℕ) (g : Admits table pool size) → fieldsIn table pool ≡ fieldsOf (g .type)
 unfolding fieldsIn fieldsGiven

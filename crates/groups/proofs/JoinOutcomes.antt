@@ -90,19 +90,19 @@ module _ (table pool a b : List ℕ) (room size : ℕ) (h : admission table pool
     joining-second-length n = admitted ∙ rw (eq-eqb (length a % size) 0 w, ne-eqb (length b % size) 0 n)
 
     module _ (v : length b % size ≡ 0) where
-      whole : joining table pool a b room ≡ fittingJoint room (jointOf (fieldsIn table pool) a b size)
+      pub joining-whole : joining table pool a b room ≡ fittingJoint room (jointOf (fieldsIn table pool) a b size)
       unfolding unless
-      whole = admitted ∙ rw (eq-eqb (length a % size) 0 w, eq-eqb (length b % size) 0 v)
+      joining-whole = admitted ∙ rw (eq-eqb (length a % size) 0 w, eq-eqb (length b % size) 0 v)
 
       -- the needed bytes are those of the distinct records
       pub joining-room : room < distinctOf (keysOf (fieldsIn table pool) (a ++ b) size) * size
           → joining table pool a b room ≡ refuses (NoRoom (needed (distinctOf (keysOf (fieldsIn table pool) (a ++ b) size) * size)))
       joining-room l =
           let e = length-joint (fieldsIn table pool) a b size in
-          whole ∙ joint-short room (jointOf (fieldsIn table pool) a b size) (omega arith) ∙ rw e
+          joining-whole ∙ joint-short room (jointOf (fieldsIn table pool) a b size) (omega arith) ∙ rw e
 
       pub joining-given : distinctOf (keysOf (fieldsIn table pool) (a ++ b) size) * size ≤ room → joining table pool a b room ≡ gives (jointOf (fieldsIn table pool) a b size)
-      joining-given l = whole ∙ joint-given room (jointOf (fieldsIn table pool) a b size) (omega (arith, length-joint (fieldsIn table pool) a b size))
+      joining-given l = joining-whole ∙ joint-given room (jointOf (fieldsIn table pool) a b size) (omega (arith, length-joint (fieldsIn table pool) a b size))
 
       -- room for both blocks is enough
       pub joining-enough-room : length a + length b ≤ room → joining table pool a b room ≡ gives (jointOf (fieldsIn table pool) a b size)

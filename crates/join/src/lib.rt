@@ -47,8 +47,9 @@ fn put_record<'a>(
     let f = first_at(table, pool, a, b, size, n, buckets, work, k);
     if f == k {
         let x = record_of(a, b, size, k);
+        let next = to + size;
         copy_bytes(x, 0, size, out, to);
-        return to + size;
+        return next;
     }
     to
 }

@@ -1,4 +1,5 @@
-use Rattle.duplicates.proofs.Calls.{admits-some, sized-length, sized-room, none-comparable, none-count, none-listed}
+use Rattle.firsts.proofs.KeyLaws.{admits-some}
+use Rattle.duplicates.proofs.Calls.{sized-length, sized-room, none-comparable, none-count, none-listed}
 use borrow.Author.Needs.{needs}
 use Rattle.duplicates.proofs.sized.Statement.{statement}
 use Rattle.duplicates.proofs.sized.Tie as tie
