@@ -1,15 +1,17 @@
 -- Laws of records copied one behind the other.
 use Prim.Native.Nat.{ℕ, zero, suc, _+_, _*_, _/_, _<_, _≤_}
 use mathlib.Core.Path.{_≡_, refl, sym, ap, _∙_}
+use mathlib.Core.Bool.{Bool, true, false}
 use mathlib.Core.Logic.{⊎-elim}
 use mathlib.Core.List.{List, [], _++_, append-nil}
 use native.Mathlib.Numerals.{add-one}
 use native.Mathlib.Omega.{arith}
 use lib.ListN.{length, getD, take, drop, length-append}
 use lib.Seq.{sets, take-all}
+use lib.Dec.{eqb}
 use mir.Syntax.{w64}
 use mir.Val.{Fits}
-use borrow.Author.Tests.{eq-eqb, ne-eqb}
+use borrow.Author.Tests.{eq-eqb, ne-eqb, eqb-true, eqb-false}
 use Rattle.format.proofs.Lists.{sets-append}
 use Rattle.groups.specs.Groups.{numbersOf, firstsTo, firstsOf}
 use Rattle.groups.specs.Duplicates.{recordAt}
@@ -48,12 +50,15 @@ records-mono ns block size m (suc n) h =
     (λ (e : m ≡ suc n). rw e (omega arith))
     (below-or-same m (suc n) (omega arith))
 
--- ---- one record, by its first as it was found
+-- ---- one record
 
-module _ (ns block : List ℕ) (size k f : ℕ) (g : f ≡ getD ns k 0) where
-  module _ (e : f ≡ k) {x : List ℕ} (r : IsRecord block size k x) where
+pub first-told : {x : Bool} (ns : List ℕ) (k f : ℕ) → f ≡ getD ns k 0 → x ≡ eqb f k → x ≡ eqb (getD ns k 0) k
+first-told ns k f g e = e ∙ ap (λ (i : ℕ). eqb i k) g
+
+module _ (ns block : List ℕ) (size k : ℕ) {t : Bool} (g : t ≡ eqb (getD ns k 0) k) where
+  module _ (e : t ≡ true) {x : List ℕ} (r : IsRecord block size k x) where
     here : added ns block size k ≡ x
-    here = added-here ns block size k (sym g ∙ e) ∙ sym (r .is)
+    here = added-here ns block size k (eqb-true (getD ns k 0) k (sym g ∙ e)) ∙ sym (r .is)
 
     pub put-from : 0 + size ≤ length x
     put-from = omega (arith, r .long)
@@ -69,9 +74,9 @@ module _ (ns block : List ℕ) (size k f : ℕ) (g : f ≡ getD ns k 0) where
         let t : take size (drop 0 x) ≡ x = take-all size x (omega (arith, r .long)) in
         record { next = omega (arith, ap length here, r .long); stored = q ∙ rw (t, here) }
 
-  pub put-not : (f ≡ k → ⊥) → (to : ℕ) (out : List ℕ) → Put ns block size k to to out out
+  pub put-not : t ≡ false → (to : ℕ) (out : List ℕ) → Put ns block size k to to out out
   put-not d to out =
-      let z : added ns block size k ≡ [] = added-not ns block size k (λ (q : getD ns k 0 ≡ k). d (g ∙ q)) in
+      let z : added ns block size k ≡ [] = added-not ns block size k (eqb-false (getD ns k 0) k (sym g ∙ d)) in
       record { next = rw z (omega arith); stored = rw z }
 
 -- ---- all records

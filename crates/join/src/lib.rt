@@ -13,8 +13,9 @@ use refusal::Refusal;
 ghost use mathlib.Core.Path.{_≡_};
 ghost use mathlib.Core.List.{_++_};
 ghost use Prim.Native.Nat.{_+_, _≤_, _<_};
-ghost use lib.ListN.{length};
+ghost use lib.ListN.{length, getD};
 ghost use lib.Seq.{sets};
+ghost use lib.Dec.{eqb};
 ghost use Rattle.groups.specs.Groups.{numbersOf, firstsOf, distinctOf};
 ghost use Rattle.groups.specs.Duplicates.{fieldsIn};
 ghost use Rattle.groups.specs.Join.{recordsAt, jointOf, fittingJoint, joining};
@@ -23,6 +24,27 @@ ghost use Rattle.firsts.specs.Finding.{Known};
 ghost use Rattle.firsts.specs.Records.{keysIn, Comparable};
 ghost use Rattle.join.specs.Answers.{JoinAnswered, JoiningIs};
 ghost use Rattle.join.specs.Copying.{added, Put};
+
+// Whether record k has no earlier one that is the same.
+fn is_first<'a>(
+    table: &[u32],
+    pool: &[u8],
+    a: &'a [u8],
+    b: &'a [u8],
+    size: usize,
+    n: usize,
+    buckets: usize,
+    work: &[u64],
+    k: usize,
+) -> bool
+    requires { ⌜ Comparable (now table) (now pool) (now a) (now b) size ⌝ }
+    requires { ⌜ (n ≡ length (keysIn (now table) (now pool) (now a) (now b) size)) × (k < n) ⌝ }
+    requires { ⌜ Known (numbersOf (keysIn (now table) (now pool) (now a) (now b) size)) n buckets (now work) ⌝ }
+    ensures { λ r. ⌜ r ≡ eqb (getD (numbersOf (keysIn (now (table .entry)) (now (pool .entry)) (now (a .entry)) (now (b .entry)) size)) k 0) k ⌝ }
+{
+    let f = first_at(table, pool, a, b, size, n, buckets, work, k);
+    f == k
+}
 
 // Record k behind the `to` bytes so far, if it is a first.
 fn put_record<'a>(
@@ -44,8 +66,7 @@ fn put_record<'a>(
     requires { ⌜ to + length (added (numbersOf (keysIn (now table) (now pool) (now a) (now b) size)) (now a ++ now b) size k) ≤ length (now out) ⌝ }
     ensures { λ r. ⌜ Put (numbersOf (keysIn (now (table .entry)) (now (pool .entry)) (now (a .entry)) (now (b .entry)) size)) (now (a .entry) ++ now (b .entry)) size k to r (now (out .entry)) (now (out .exit)) ⌝ }
 {
-    let f = first_at(table, pool, a, b, size, n, buckets, work, k);
-    if f == k {
+    if is_first(table, pool, a, b, size, n, buckets, work, k) {
         let x = record_of(a, b, size, k);
         let next = to + size;
         copy_bytes(x, 0, size, out, to);

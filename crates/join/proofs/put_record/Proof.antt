@@ -23,7 +23,7 @@ pub put-record-spec : {M : Type 1} → statement M
 put-record-spec =
     tie.close
     (tie.spec
-    (λ c κs. search needs)  -- first-at-requires
+    (λ c κs. search needs)  -- is-first-requires
     record-of-requires
     add-next
     copy-bytes-requires
