@@ -1,10 +1,10 @@
-// The groups of a block of records of a type that is read first, at limit 15, into 64 rows and 256 pool bytes. What is lent for numbers and sizes
-// and as workspace is all 7 before the call and shown whole after it.
+// The groups of a block of records of a type that is read first into 64 rows and 256 pool bytes. What is lent for numbers and sizes and as workspace
+// is all 7 before the call and shown whole after it.
 use duplicates::duplicates;
 use duplicates::duplicates_words;
 use duplicates::outcome::Duplicates;
 use duplicates::outcome::Words;
-use reading::Reading;
+use record_types::read_labelled;
 use show::number;
 use show::refusal_line;
 use show::text;
@@ -73,12 +73,8 @@ pub fn grouping(
 ) {
     let mut table = [7u32; 1024];
     let mut pool = [7u8; 256];
-    text(label);
-    text(b": ");
-    let got = reader::read(message, 15, &mut table, &mut pool);
-    match got {
-        Reading::Refused(e) => refusal_line(e),
-        Reading::Read(_) => group_in(&table, &pool, block, places, groups, words),
+    if read_labelled(label, message, &mut table, &mut pool) {
+        group_in(&table, &pool, block, places, groups, words);
     }
 }
 
@@ -96,12 +92,8 @@ fn words_line(answer: Words) {
 pub fn words(label: &[u8], message: &[u8], records: u64) {
     let mut table = [7u32; 1024];
     let mut pool = [7u8; 256];
-    text(label);
-    text(b": ");
-    let got = reader::read(message, 15, &mut table, &mut pool);
-    match got {
-        Reading::Refused(e) => refusal_line(e),
-        Reading::Read(_) => words_line(duplicates_words(&table, &pool, records)),
+    if read_labelled(label, message, &mut table, &mut pool) {
+        words_line(duplicates_words(&table, &pool, records));
     }
 }
 

@@ -4,10 +4,11 @@ use duplicates::duplicates_words;
 use duplicates::outcome::Duplicates;
 use duplicates::outcome::Words;
 use reading::Reading;
+use record_types::P;
 use show::number;
 use show::refusal_line;
 use show::text;
-use show_lent::numbers_untouched;
+use show_lent::cleared_to;
 
 fn same_list(a: &[u64], b: &[u64]) -> bool {
     if a.len() != b.len() {
@@ -23,21 +24,6 @@ fn same_list(a: &[u64], b: &[u64]) -> bool {
     true
 }
 
-// Whether there are so many words and they are 0.
-fn zero_to(work: &[u64], words: usize) -> bool {
-    if work.len() < words {
-        return false;
-    }
-    let mut i = 0;
-    while i < words {
-        if work[i] != 0 {
-            return false;
-        }
-        i += 1;
-    }
-    true
-}
-
 // Whether the lists are those of the six records, the lent words are 0 and those behind them as before.
 fn lists_are(numbers: &[u64], sizes: &[u64], work: &[u64; 32], words: usize) -> bool {
     if !same_list(numbers, &[0, 1, 0, 0, 1, 5, 7]) {
@@ -46,10 +32,7 @@ fn lists_are(numbers: &[u64], sizes: &[u64], work: &[u64; 32], words: usize) -> 
     if !same_list(sizes, &[3, 2, 1, 7]) {
         return false;
     }
-    if !zero_to(work, words) {
-        return false;
-    }
-    numbers_untouched(work, words)
+    cleared_to(work, words)
 }
 
 fn six_and_three(answer: Duplicates) -> bool {
@@ -123,12 +106,7 @@ fn needed_and_more(table: &[u32], pool: &[u8]) {
 pub fn workspace_case() {
     let mut table = [7u32; 1024];
     let mut pool = [7u8; 256];
-    let got = reader::read(
-        b"\x36\x02\x00\x00\x04\x00\x00\x00\x61\x00\x00\x10\x00\x00\x00\x01\x00\x00\x00\x00\x00\x08\x00\x62\x00\x02\x10\x00\x00\x00\x02\x00\x00\x00\x00\x00\x10\x00",
-        15,
-        &mut table,
-        &mut pool,
-    );
+    let got = reader::read(&P, 15, &mut table, &mut pool);
     match got {
         Reading::Refused(e) => refusal_line(e),
         Reading::Read(_) => needed_and_more(&table, &pool),

@@ -1,58 +1,33 @@
-// Document 02's cases of records that are the same as an earlier one. P is document 01's; a record with a name has a string of 3 bytes and a U1.
+// Document 02's cases of records that are the same as an earlier one.
 use crate::calls::grouping;
 use crate::calls::words;
-
-fn of_p(label: &[u8], block: &[u8], places: usize, groups: usize, words: usize) {
-    grouping(
-        label,
-        b"\x36\x02\x00\x00\x04\x00\x00\x00\x61\x00\x00\x10\x00\x00\x00\x01\x00\x00\x00\x00\x00\x08\x00\x62\x00\x02\x10\x00\x00\x00\x02\x00\x00\x00\x00\x00\x10\x00",
-        block,
-        places,
-        groups,
-        words,
-    );
-}
-
-fn of_name(label: &[u8], block: &[u8], places: usize, groups: usize, words: usize) {
-    grouping(
-        label,
-        b"\x36\x02\x00\x00\x04\x00\x00\x00\x61\x00\x00\x13\x00\x00\x00\x03\x00\x00\x00\x62\x00\x03\x10\x00\x00\x00\x01\x00\x00\x00\x00\x00\x08\x00",
-        block,
-        places,
-        groups,
-        words,
-    );
-}
-
-fn of_no_member(label: &[u8], block: &[u8], places: usize, groups: usize, words: usize) {
-    grouping(
-        label,
-        b"\x36\x00\x00\x00\x04\x00\x00\x00",
-        block,
-        places,
-        groups,
-        words,
-    );
-}
+use record_types::NAME;
+use record_types::NO_MEMBER;
+use record_types::OUTSIDE;
+use record_types::P;
+use record_types::SEQUENCE;
 
 // Records that differ in what no field owns, with more room than is needed.
 pub fn group_cases() {
-    of_p(
+    grouping(
         b"six of P",
+        &P,
         b"\x01\xff\x05\x00\x02\x00\x05\x00\x01\x00\x05\x00\x01\x11\x05\x00\x02\x77\x05\x00\x01\x00\x05\x01",
         7,
         4,
         22,
     );
-    of_name(
+    grouping(
         b"five with a name",
+        &NAME,
         b"A\x00\x55\x01A\x00\x00\x01A\x00\x66\x02ABC\x01A\x00\x77\x02",
         6,
         4,
         21,
     );
-    of_no_member(
+    grouping(
         b"three of a compound without members",
+        &NO_MEMBER,
         b"\x00\x01\x02\x03\x04\x05\x06\x07\x08\x09\x0a\x0b",
         4,
         2,
@@ -61,8 +36,9 @@ pub fn group_cases() {
 }
 
 fn six_of_p(label: &[u8], places: usize, groups: usize) {
-    of_p(
+    grouping(
         label,
+        &P,
         b"\x01\xff\x05\x00\x02\x00\x05\x00\x01\x00\x05\x00\x01\x11\x05\x00\x02\x77\x05\x00\x01\x00\x05\x01",
         places,
         groups,
@@ -78,8 +54,9 @@ pub fn room_cases() {
 }
 
 fn six_and_a_byte(label: &[u8], places: usize, groups: usize) {
-    of_p(
+    grouping(
         label,
+        &P,
         b"\x01\xff\x05\x00\x02\x00\x05\x00\x01\x00\x05\x00\x01\x11\x05\x00\x02\x77\x05\x00\x01\x00\x05\x01\x01",
         places,
         groups,
@@ -89,20 +66,21 @@ fn six_and_a_byte(label: &[u8], places: usize, groups: usize) {
 
 // No record, and blocks that are no whole number of records.
 pub fn length_cases() {
-    of_p(b"an empty block and no room", b"", 0, 0, 0);
-    of_p(b"an empty block", b"", 1, 1, 3);
-    of_p(b"a byte and no room", b"\x01", 0, 0, 3);
+    grouping(b"an empty block and no room", &P, b"", 0, 0, 0);
+    grouping(b"an empty block", &P, b"", 1, 1, 3);
+    grouping(b"a byte and no room", &P, b"\x01", 0, 0, 3);
     six_and_a_byte(b"a byte more than six of P", 7, 4);
     six_and_a_byte(b"a byte more and no room", 0, 0);
 }
 
 // One record.
 pub fn single_cases() {
-    of_p(b"one of P", b"\x01\xff\x05\x00", 2, 2, 7);
-    of_p(b"one of P and no room", b"\x01\xff\x05\x00", 0, 0, 7);
-    of_name(b"one with a name", b"A\x00\x55\x01", 2, 2, 9);
-    of_no_member(
+    grouping(b"one of P", &P, b"\x01\xff\x05\x00", 2, 2, 7);
+    grouping(b"one of P and no room", &P, b"\x01\xff\x05\x00", 0, 0, 7);
+    grouping(b"one with a name", &NAME, b"A\x00\x55\x01", 2, 2, 9);
+    grouping(
         b"one of a compound without members",
+        &NO_MEMBER,
         b"\x00\x01\x02\x03",
         2,
         2,
@@ -113,21 +91,13 @@ pub fn single_cases() {
 // Words of workspace: 3 a record and 2 a run. P has two runs; the type with a name has three, since the empty run that each list of runs begins with
 // is not joined to a string.
 pub fn word_cases() {
-    words(
-        b"words for six of P",
-        b"\x36\x02\x00\x00\x04\x00\x00\x00\x61\x00\x00\x10\x00\x00\x00\x01\x00\x00\x00\x00\x00\x08\x00\x62\x00\x02\x10\x00\x00\x00\x02\x00\x00\x00\x00\x00\x10\x00",
-        6,
-    );
+    words(b"words for six of P", &P, 6);
     words(
         b"words for 18,446,744,073,709,551,615 of P",
-        b"\x36\x02\x00\x00\x04\x00\x00\x00\x61\x00\x00\x10\x00\x00\x00\x01\x00\x00\x00\x00\x00\x08\x00\x62\x00\x02\x10\x00\x00\x00\x02\x00\x00\x00\x00\x00\x10\x00",
+        &P,
         18446744073709551615,
     );
-    words(
-        b"words for five with a name",
-        b"\x36\x02\x00\x00\x04\x00\x00\x00\x61\x00\x00\x13\x00\x00\x00\x03\x00\x00\x00\x62\x00\x03\x10\x00\x00\x00\x01\x00\x00\x00\x00\x00\x08\x00",
-        5,
-    );
+    words(b"words for five with a name", &NAME, 5);
 }
 
 fn refused(label: &[u8], message: &[u8], block: &[u8]) {
@@ -139,12 +109,12 @@ fn refused(label: &[u8], message: &[u8], block: &[u8]) {
 pub fn refused_cases() {
     refused(
         b"a member past the end of its compound",
-        b"\x36\x01\x00\x00\x04\x00\x00\x00\x61\x00\x00\x17\x00\x00\x00\x08\x00\x00\x00",
+        &OUTSIDE,
         b"\x00\x00\x00\x00",
     );
     refused(
         b"a sequence",
-        b"\x19\x00\x00\x00\x10\x00\x00\x00\x10\x00\x00\x00\x01\x00\x00\x00\x00\x00\x08\x00",
+        &SEQUENCE,
         b"\x00\x00\x00\x00\x00\x00\x00\x00\x00\x00\x00\x00\x00\x00\x00\x00",
     );
 }

@@ -44,8 +44,7 @@ pub fn words_line(out: &[u32], from: usize) {
     lent_line(words_untouched(out, from), from);
 }
 
-// Whether lent numbers of 64 bits are as they were from a place on.
-pub fn numbers_untouched(out: &[u64], from: usize) -> bool {
+fn numbers_untouched(out: &[u64], from: usize) -> bool {
     let mut i = from;
     while i < out.len() {
         if out[i] != 7 {
@@ -59,6 +58,29 @@ pub fn numbers_untouched(out: &[u64], from: usize) -> bool {
 // A line for lent numbers of 64 bits.
 pub fn numbers_line(out: &[u64], from: usize) {
     lent_line(numbers_untouched(out, from), from);
+}
+
+// Whether the first numbers, so many, are 0.
+fn zero_to(list: &[u64], count: usize) -> bool {
+    if list.len() < count {
+        return false;
+    }
+    let mut i = 0;
+    while i < count {
+        if list[i] != 0 {
+            return false;
+        }
+        i += 1;
+    }
+    true
+}
+
+// Whether the first numbers, so many, are 0 and those behind them as they were.
+pub fn cleared_to(list: &[u64], count: usize) -> bool {
+    if !zero_to(list, count) {
+        return false;
+    }
+    numbers_untouched(list, count)
 }
 
 // A line of all numbers of a list, behind its name.

@@ -1,14 +1,14 @@
 use Prim.Native.Nat.{_-_, _≤_}
 use lib.ListN.{length}
 use borrow.Author.Needs.{needs}
-use Rattle.cases_duplicates.proofs.lengths.zero_to.Statement.{statement}
-use Rattle.cases_duplicates.proofs.lengths.zero_to.Tie as tie
+use Rattle.show_lent.proofs.zero_to.Statement.{statement}
+use Rattle.show_lent.proofs.zero_to.Tie as tie
 
 abbrev Inv-loop : tie.InvT-loop
-Inv-loop work words i₀ i = (i ≤ words) × (words ≤ length work)
+Inv-loop list count i₀ i = (i ≤ count) × (count ≤ length list)
 
 abbrev μ-loop : tie.MeasureT-loop
-μ-loop work words i₀ i = words - i
+μ-loop list count i₀ i = count - i
 
 pub zero-to-spec : {M : Type 1} → statement M
 zero-to-spec =
