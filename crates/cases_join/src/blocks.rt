@@ -15,7 +15,7 @@ const A_AND_A_BYTE: [u8; 13] = *b"\x01\xff\x05\x00\x01\x00\x05\x00\x02\x00\x05\x
 
 const B_AND_A_BYTE: [u8; 13] = *b"\x02\x99\x05\x00\x03\x00\x00\x00\x03\x01\x00\x00\x01";
 
-// Just enough room, room to spare and room for both blocks.
+// Just enough room, room to spare and room for both blocks; the other way round; and a block with itself.
 pub fn joined_cases() {
     joining(b"A and B, room for 12", &P, &A, &B, 12, 22);
     joining(b"A and B, room for 16", &P, &A, &B, 16, 22);

@@ -78,6 +78,8 @@ fn refused_table(label: &[u8], table: &[u32], pool: &[u8]) {
     text(label);
     text(b": ");
     join_in(table, pool, b"\x01", b"\x01", 1, 3);
+    text(b"  no room: ");
+    join_in(table, pool, b"\x01", b"\x01", 0, 3);
 }
 
 // By a table that sets out no type, and of a fixed type of size 0, which no message gives.

@@ -1,4 +1,4 @@
-// For the programs that run cases: whether lent output, which is all 7 before a call, is as it was from a place on, and what a list holds.
+// For the programs that run cases: whether lent output, which is all 7 before a call, is as it was from a place on, or 0 up to it, and what a list holds.
 use show::number;
 use show::text;
 
