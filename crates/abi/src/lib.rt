@@ -6,6 +6,8 @@ use duplicates::duplicates;
 use duplicates::duplicates_words;
 use duplicates::outcome::Duplicates;
 use duplicates::outcome::Words;
+use join::join;
+use join::outcome::Joining;
 use reader::read;
 use reading::Reading;
 use references::References;
@@ -43,8 +45,10 @@ ghost use Rattle.table.specs.Extent.{extending, extentValues, usingNumber, usin
 ghost use Rattle.slots.specs.Slots.{slotsNumber, slotsValues};
 ghost use Rattle.references.specs.References.{referencesNumber, referencesValues, placesAfter, valuesAfter};
 ghost use Rattle.groups.specs.Duplicates.{duplicating};
+ghost use Rattle.groups.specs.Join.{joining};
 ghost use Rattle.duplicates.specs.Answers.{duplicatesNumber, duplicatesValues, groupsValues, numbersGiven, sizesGiven};
 ghost use Rattle.duplicates.specs.WordCount.{wordsNeeded, wordsNumber, wordsValues};
+ghost use Rattle.join.specs.Answers.{joiningNumber, joiningValues, jointValues, bytesGiven};
 ghost use Rattle.abi.specs.Answers.{Tells};
 
 // The answer of a call: 0 or the refusal's number, and two values, 0 for each that is not there.
@@ -168,6 +172,15 @@ fn of_words(answer: Words) -> Answer
     match answer {
         Words::Needed(words) => given(words),
         Words::Refused(e) => refused(e),
+    }
+}
+
+fn of_joining(answer: Joining) -> Answer
+    ensures { λ r. ⌜ Tells (joiningNumber answer) (joiningValues answer) r ⌝ }
+{
+    match answer {
+        Joining::Joined(bytes, records) => given_two(bytes as u64, records),
+        Joining::Refused(e) => refused(e),
     }
 }
 
@@ -356,6 +369,30 @@ pub extern "C" fn datatype_duplicates_words(
     ensures second { λ _. ⌜ now (second .exit) ≡ getD (outcomeValues (λ n. n ∷ []) (wordsNeeded (now (table .entry)) (now (pool .entry)) records)) 1 0 ⌝ }
 {
     let answer = of_words(duplicates_words(table, pool, records));
+    *first = answer.first;
+    *second = answer.second;
+    answer.number
+}
+
+// `join`. first: the bytes, second: the records of the joined block.
+#[no_mangle]
+pub extern "C" fn datatype_join<'a>(
+    table: &[u32],
+    pool: &[u8],
+    a: &'a [u8],
+    b: &'a [u8],
+    out: &mut [u8],
+    work: &mut [u64],
+    first: &mut u64,
+    second: &mut u64,
+) -> u32
+    ensures number { λ r. ⌜ r ≡ outcomeNumber (joining (now (table .entry)) (now (pool .entry)) (now (a .entry)) (now (b .entry)) (length (now (out .entry)))) ⌝ }
+    ensures first { λ _. ⌜ now (first .exit) ≡ getD (outcomeValues jointValues (joining (now (table .entry)) (now (pool .entry)) (now (a .entry)) (now (b .entry)) (length (now (out .entry))))) 0 0 ⌝ }
+    ensures second { λ _. ⌜ now (second .exit) ≡ getD (outcomeValues jointValues (joining (now (table .entry)) (now (pool .entry)) (now (a .entry)) (now (b .entry)) (length (now (out .entry))))) 1 0 ⌝ }
+    ensures out { λ _. ⌜ now (out .exit) ≡ outputAfter (now (out .entry)) (bytesGiven (joining (now (table .entry)) (now (pool .entry)) (now (a .entry)) (now (b .entry)) (length (now (out .entry))))) ⌝ }
+    ensures work { λ _. ⌜ now (work .exit) ≡ zeros (length (now (work .entry))) ⌝ }
+{
+    let answer = of_joining(join(table, pool, a, b, out, work));
     *first = answer.first;
     *second = answer.second;
     answer.number
