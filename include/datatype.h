@@ -144,11 +144,29 @@ uint32_t datatype_duplicates(const uint32_t *table, size_t table_length, const u
                              size_t block_length, uint64_t *numbers, size_t numbers_length, uint64_t *sizes, size_t sizes_length,
                              uint64_t *work, size_t work_length, uint64_t *first, uint64_t *second);
 
-/* How long a workspace makes datatype_duplicates fast on a block of so many records: 3 words a record and 2 a run of the type, at most
-   18,446,744,073,709,551,615. A run is fields that follow one another without a gap and count whole, or one NUL-terminated string; one more
-   is counted where the first field is a string or does not begin the record. Refusals: 1, 12, 16, 17. first: how many 64-bit words. */
+/* How long a workspace makes datatype_duplicates fast on a block of so many records, and datatype_join on two of so many together: 3 words
+   a record and 2 a run of the type, at most 18,446,744,073,709,551,615. A run is fields that follow one another without a gap and count
+   whole, or one NUL-terminated string; one more is counted where the first field is a string or does not begin the record. Refusals: 1, 12,
+   16, 17. first: how many 64-bit words. */
 uint32_t datatype_duplicates_words(const uint32_t *table, size_t table_length, const uint8_t *pool, size_t pool_length, uint64_t records,
                                    uint64_t *first, uint64_t *second);
+
+/* Two blocks of records of one type made one: the front of out gets, in order and byte for byte, the records of a that are the same as no
+   earlier one of a, then the records of b that are the same as none of a and no earlier one of b; the same as datatype_compare says it. No
+   two records of the result are the same, and each record of a and of b is the same as one of them. first: how many bytes the result has,
+   second: how many records.
+
+   a and b are the records one behind the other; they may share bytes, or be one block. Refusals, in this order: 1, 12, 16 and 17, as for
+   datatype_compare; 18, a is no whole number of records; 18, b is none; 21 with the number of bytes of the result, out is too short. A
+   refusal leaves out as it was; a success writes nothing past the result. Room for the bytes of both blocks is always enough. A block
+   without bytes has no records, and is not refused for its length: of the other's records that are the same the first is kept.
+
+   work is a workspace as that of datatype_duplicates, for the records of both blocks together: with as many words as
+   datatype_duplicates_words says of them, or more, the time grows little faster than the blocks; with fewer, or none, the answer is the
+   same and the time grows as there. Its first word as lent seeds the hash, and it is all zero afterwards, refused or not. */
+uint32_t datatype_join(const uint32_t *table, size_t table_length, const uint8_t *pool, size_t pool_length, const uint8_t *a,
+                       size_t a_length, const uint8_t *b, size_t b_length, uint8_t *out, size_t out_length, uint64_t *work,
+                       size_t work_length, uint64_t *first, uint64_t *second);
 
 /* The name of the member at a row. Returns 0. first: its place in the pool, second: its length; both 0 where there is none. */
 uint32_t datatype_member_name(const uint32_t *table, size_t table_length, const uint8_t *pool, size_t pool_length, uint64_t row,
