@@ -44,6 +44,10 @@ static void empty_slices(void) {
     answers("datatype_duplicates of NULL", datatype_duplicates(table, 16, NULL, 0, NULL, 0, NULL, 0, NULL, 0, NULL, 0, &first, &second), 0, 0, 0);
     answers("datatype_duplicates into NULL", datatype_duplicates(table, 16, NULL, 0, NAME, 8, NULL, 0, NULL, 0, NULL, 0, &first, &second), DATATYPE_NO_ROOM, 2, 0);
     answers("datatype_duplicates_words of NULL", datatype_duplicates_words(NULL, 0, NULL, 0, 1, &first, &second), DATATYPE_BAD_TABLE, 0, 0);
+    answers("datatype_join of NULL", datatype_join(NULL, 0, NULL, 0, NULL, 0, NULL, 0, NULL, 0, NULL, 0, &first, &second), DATATYPE_BAD_TABLE, 0, 0);
+    answers("datatype_join of NULL", datatype_join(table, 16, NULL, 0, NULL, 0, NULL, 0, NULL, 0, NULL, 0, &first, &second), 0, 0, 0);
+    answers("datatype_join into NULL", datatype_join(table, 16, NULL, 0, NAME, 8, NULL, 0, NULL, 0, NULL, 0, &first, &second), DATATYPE_NO_ROOM, 8, 0);
+    answers("datatype_join into NULL", datatype_join(table, 16, NULL, 0, NULL, 0, NAME, 8, NULL, 0, NULL, 0, &first, &second), DATATYPE_NO_ROOM, 8, 0);
     answers("datatype_member_name of NULL", datatype_member_name(NULL, 0, NULL, 0, 1, &first, &second), 0, 0, 0);
     answers("datatype_holds_object_address of NULL", datatype_holds_object_address(NULL, 0, NULL, 0, &first, &second), DATATYPE_BAD_TABLE, 0, 0);
     answers("datatype_holds_file_address of NULL", datatype_holds_file_address(NULL, 0, NULL, 0, &first, &second), DATATYPE_BAD_TABLE, 0, 0);
@@ -120,6 +124,44 @@ static void duplicates(size_t words) {
     }
 }
 
+// One call of datatype_join on P, into `room` of 32 bytes: all 32 are `expected` and then 0x77 afterwards, and of 64 words of workspace those lent
+// are 0.
+static void joins(size_t words, const uint8_t *a, size_t a_length, const uint8_t *b, size_t b_length, size_t room, size_t length, uint32_t number, uint64_t one, uint64_t two, const uint8_t *expected) {
+    uint8_t joined[32], after[32];
+    uint64_t work[64];
+    memset(joined, 0x77, sizeof joined);
+    memset(after, 0x77, sizeof after);
+    memset(work, 0x55, sizeof work);
+    if (number == 0 && one > 0) memcpy(after, expected, one);
+    answers("datatype_join", datatype_join(table, words, pool, 32, a, a_length, b, b_length, joined, room, work, length, &first, &second), number, one, two);
+    if (memcmp(joined, after, sizeof joined) != 0) failed = 1;
+    for (size_t i = 0; i < 64; i++) {
+        if (work[i] != (i < length ? 0 : UINT64_C(0x5555555555555555))) failed = 1;
+    }
+}
+
+// Two blocks of three records of P and a byte behind them; without a workspace, with a short one and with as much as is told.
+static void join(size_t words) {
+    const uint8_t a[13] = {1, 0xFF, 5, 0, 1, 0, 5, 0, 2, 0, 5, 0, 9}, b[13] = {2, 0x99, 5, 0, 3, 0, 0, 0, 3, 1, 0, 0, 9};
+    const uint8_t ab[12] = {1, 0xFF, 5, 0, 2, 0, 5, 0, 3, 0, 0, 0}, ba[12] = {2, 0x99, 5, 0, 3, 0, 0, 0, 1, 0xFF, 5, 0};
+    if (datatype_duplicates_words(table, words, pool, 32, 6, &first, &second) != 0 || first > 64) failed = 1;
+    const size_t told = first < 64 ? (size_t)first : 64, lent[4] = {0, told / 2, told, 64};
+    for (int i = 0; i < 4; i++) {
+        joins(words, a, 12, b, 12, 12, lent[i], 0, 12, 3, ab);
+        joins(words, a, 12, b, 12, 32, lent[i], 0, 12, 3, ab);
+        joins(words, b, 12, a, 12, 24, lent[i], 0, 12, 3, ba);
+        joins(words, a, 12, b, 12, 11, lent[i], DATATYPE_NO_ROOM, 12, 0, NULL);
+        joins(words, a, 12, b, 12, 0, lent[i], DATATYPE_NO_ROOM, 12, 0, NULL);
+        joins(words, NULL, 0, NULL, 0, 0, lent[i], 0, 0, 0, NULL);
+        joins(words, a, 12, NULL, 0, 32, lent[i], 0, 8, 2, ab);
+        joins(words, NULL, 0, b, 12, 32, lent[i], 0, 8, 2, ba);
+        joins(words, a, 12, b, 13, 0, lent[i], DATATYPE_WRONG_LENGTH, 0, 0, NULL);
+        joins(words, a, 12, b, 13, 32, lent[i], DATATYPE_WRONG_LENGTH, 0, 0, NULL);
+        joins(words, a, 13, b, 12, 0, lent[i], DATATYPE_WRONG_LENGTH, 0, 0, NULL);
+        joins(words, a, 11, b, 13, 32, lent[i], DATATYPE_WRONG_LENGTH, 0, 0, NULL);
+    }
+}
+
 int main(void) {
     const size_t words = sizeof table / sizeof *table;
     empty_slices();
@@ -139,6 +181,7 @@ int main(void) {
     answers("datatype_extent", datatype_extent(table, 5 * 16, pool, 2, &first, &second), 0, 5, 2);
     answers("datatype_extent", datatype_extent(table, 5 * 16 - 1, pool, 2, &first, &second), DATATYPE_BAD_TABLE, 0, 0);
     duplicates(words);
+    join(words);
     list_fields("a 0 0 1\nb 2 0 2\n");
     answers("datatype_member_name", datatype_member_name(table, words, pool, 32, 3, &first, &second), 0, 1, 1);
     answers("datatype_member_name", datatype_member_name(table, words, pool, 32, 0, &first, &second), 0, 0, 0);

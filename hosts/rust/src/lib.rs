@@ -175,6 +175,22 @@ mod abi {
             second: *mut u64,
         ) -> u32;
         pub fn datatype_duplicates_words(table: *const u32, table_length: usize, pool: *const u8, pool_length: usize, records: u64, first: *mut u64, second: *mut u64) -> u32;
+        pub fn datatype_join(
+            table: *const u32,
+            table_length: usize,
+            pool: *const u8,
+            pool_length: usize,
+            a: *const u8,
+            a_length: usize,
+            b: *const u8,
+            b_length: usize,
+            out: *mut u8,
+            out_length: usize,
+            work: *mut u64,
+            work_length: usize,
+            first: *mut u64,
+            second: *mut u64,
+        ) -> u32;
         pub fn datatype_references(
             block: *const u8,
             block_length: usize,
@@ -411,21 +427,50 @@ impl Type {
     /// ```
     #[cfg(feature = "std")]
     pub fn duplicates(&self, block: &[u8]) -> Result<Duplicates, Refusal> {
-        use core::hash::{BuildHasher, Hasher};
         let records = match duplicates(&self.table, &self.pool, block, &mut [], &mut [], &mut []) {
             Err(Refusal::NoRoom { needed }) => needed,
             other => return other.map(|_| Duplicates { numbers: Vec::new(), sizes: Vec::new() }),
         };
-        // More than this is told only where fields share bytes, and then it may be very much more: a shorter workspace does.
-        let most = block.len().saturating_mul(5).saturating_add(2);
-        let mut work = vec![0; duplicates_words(&self.table, &self.pool, records)?.min(most)];
-        if let Some(seed) = work.first_mut() {
-            *seed = std::hash::RandomState::new().build_hasher().finish();
-        }
+        let mut work = self.workspace(records, block.len())?;
         let (mut numbers, mut sizes) = (vec![0; count(records)], vec![0; count(records)]);
         let (_, distinct) = duplicates(&self.table, &self.pool, block, &mut numbers, &mut sizes, &mut work)?;
         sizes.truncate(distinct);
         Ok(Duplicates { numbers, sizes })
+    }
+
+    /// The block of two made one, and how many records it has, in a workspace of its own: see [`join`]. With feature `std`, as
+    /// [`Type::duplicates`].
+    ///
+    /// ```
+    /// use datatype_message::{Refusal, Type};
+    ///
+    /// // NUL-terminated strings of 4 bytes
+    /// let (name, _) = Type::from_message(&[0x13, 0, 0, 0, 4, 0, 0, 0], 5)?;
+    /// assert_eq!(name.join(b"A\0xyB\0\0\0A\0zz", b"B\0yyC\0\0\0C\0xx")?, (b"A\0xyB\0\0\0C\0\0\0".to_vec(), 3));
+    /// assert_eq!(name.join(b"A\0xy", b"B"), Err(Refusal::WrongLength));
+    /// # Ok::<(), Refusal>(())
+    /// ```
+    #[cfg(feature = "std")]
+    pub fn join(&self, a: &[u8], b: &[u8]) -> Result<(Vec<u8>, usize), Refusal> {
+        let both = a.len() + b.len();
+        let mut work = self.workspace(both as u64 / u64::from(self.size().max(1)), both)?;
+        let mut out = vec![0; both];
+        let (bytes, records) = join(&self.table, &self.pool, a, b, &mut out, &mut work)?;
+        out.truncate(bytes);
+        Ok((out, records))
+    }
+
+    /// A workspace with a random first word, for so many records in so many bytes.
+    #[cfg(feature = "std")]
+    fn workspace(&self, records: u64, bytes: usize) -> Result<Vec<u64>, Refusal> {
+        use core::hash::{BuildHasher, Hasher};
+        // More than this is told only where fields share bytes, and then it may be very much more: a shorter workspace does.
+        let most = bytes.saturating_mul(5).saturating_add(2);
+        let mut work = vec![0; duplicates_words(&self.table, &self.pool, records)?.min(most)];
+        if let Some(seed) = work.first_mut() {
+            *seed = std::hash::RandomState::new().build_hasher().finish();
+        }
+        Ok(work)
     }
 
     /// The size of a record in bytes: see [`type_size`].
@@ -582,10 +627,61 @@ pub fn duplicates(table: &[u32], pool: &[u8], block: &[u8], numbers: &mut [u64],
     .map(|(records, distinct)| (count(records), count(distinct)))
 }
 
-/// How many words of workspace make [`duplicates`] fast on a block of so many records.
+/// How many words of workspace make [`duplicates`] fast on a block of so many records, and [`join`] on two of so many together.
 pub fn duplicates_words(table: &[u32], pool: &[u8], records: u64) -> Result<usize, Refusal> {
     // SAFETY: as for `read`.
     ask(|first, second| unsafe { abi::datatype_duplicates_words(table.as_ptr(), table.len(), pool.as_ptr(), pool.len(), records, first, second) }).map(count)
+}
+
+/// Two blocks of records of one type made one. Writes to the start of `out`, in order and byte for byte, the records of `a` that are the same
+/// as no earlier one of `a`, then the records of `b` that are the same as none of `a` and no earlier one of `b`, as [`same`] says it; gives
+/// the number of bytes and of records written.
+///
+/// `NoRoom` tells the number of bytes where `out` is shorter; room for both blocks is always enough. A refusal leaves `out` as it was. The
+/// workspace is as that of [`duplicates`], with as many words as [`duplicates_words`] says for the records of both blocks together.
+///
+/// ```
+/// use datatype_message::{duplicates_words, join, read, Refusal, ROW};
+///
+/// // a compound of size 4: a byte at 0 and two bytes at 2
+/// let message = [
+///     0x36, 2, 0, 0, 4, 0, 0, 0, //
+///     b'a', 0, 0, 0x10, 0, 0, 0, 1, 0, 0, 0, 0, 0, 8, 0, //
+///     b'b', 0, 2, 0x10, 0, 0, 0, 2, 0, 0, 0, 0, 0, 16, 0,
+/// ];
+/// let (mut table, mut pool) = ([0; 5 * ROW], [0; 2]);
+/// assert_eq!(read(&message, 15, &mut table, &mut pool), Ok(38));
+///
+/// // the byte at 1 belongs to no field
+/// let (a, b) = ([1, 0xFF, 5, 0, 1, 0, 5, 0, 2, 0, 5, 0], [2, 0x99, 5, 0, 3, 0, 0, 0]);
+/// let mut work = vec![0; duplicates_words(&table, &pool, 5)?];
+/// let mut out = [9; 20];
+/// assert_eq!(join(&table, &pool, &a, &b, &mut out[..11], &mut work), Err(Refusal::NoRoom { needed: 12 }));
+/// assert_eq!(join(&table, &pool, &a, &b, &mut out, &mut work), Ok((12, 3)));
+/// assert_eq!(out, [1, 0xFF, 5, 0, 2, 0, 5, 0, 3, 0, 0, 0, 9, 9, 9, 9, 9, 9, 9, 9]);
+/// # Ok::<(), Refusal>(())
+/// ```
+pub fn join(table: &[u32], pool: &[u8], a: &[u8], b: &[u8], out: &mut [u8], work: &mut [u64]) -> Result<(usize, usize), Refusal> {
+    // SAFETY: as for `read`.
+    ask_two(|first, second| unsafe {
+        abi::datatype_join(
+            table.as_ptr(),
+            table.len(),
+            pool.as_ptr(),
+            pool.len(),
+            a.as_ptr(),
+            a.len(),
+            b.as_ptr(),
+            b.len(),
+            out.as_mut_ptr(),
+            out.len(),
+            work.as_mut_ptr(),
+            work.len(),
+            first,
+            second,
+        )
+    })
+    .map(|(bytes, records)| (count(bytes), count(records)))
 }
 
 /// The size of a record in bytes: 16 for a variable-length type, at most 4,294,967,295 for an array.
@@ -812,5 +908,99 @@ mod tests {
         assert_eq!(duplicates(region.table(), region.pool(), &[], &mut [], &mut [], &mut []), Err(Refusal::HeapHeld));
         assert_eq!(duplicates_words(region.table(), region.pool(), 1), Err(Refusal::HeapHeld));
         assert_eq!(duplicates_words(&[], &[], 1), Err(Refusal::BadTable));
+    }
+
+    /// The joined block by comparing each record with all before it.
+    fn joined_by_pairs(of: &Type, a: &[u8], b: &[u8]) -> Vec<u8> {
+        let both = [a, b].concat();
+        let records: Vec<&[u8]> = both.chunks_exact(of.size() as usize).collect();
+        let kept = (0..records.len()).filter(|k| !records[..*k].iter().any(|j| of.same(j, records[*k]).unwrap()));
+        kept.flat_map(|k| records[k].iter().copied()).collect()
+    }
+
+    #[test]
+    fn joined_blocks_are_those_of_same() {
+        let mut state = 1;
+        for message in recorded() {
+            let of = Type::from_message(&message, 5).unwrap().0;
+            let size = of.size() as usize;
+            for _ in 0..300 {
+                let [a, b] = [(); 2].map(|()| (0..below(&mut state, 12) * size).map(|_| below(&mut state, 2) as u8).collect::<Vec<u8>>());
+                let expected = joined_by_pairs(&of, &a, &b);
+                let n = expected.len();
+                let told = duplicates_words(of.table(), of.pool(), ((a.len() + b.len()) / size) as u64).unwrap();
+                for length in [0, 1, told / 2, told.saturating_sub(1), told, told + 5] {
+                    let mut work: Vec<u64> = (0..length).map(|_| below(&mut state, 1 << 40) as u64).collect();
+                    let mut out = vec![77; n + 3];
+                    assert_eq!(join(of.table(), of.pool(), &a, &b, &mut out, &mut work), Ok((n, n / size)));
+                    assert_eq!((&out[..n], &out[n..]), (&expected[..], &[77; 3][..]));
+                    assert!(work.iter().all(|w| *w == 0));
+                }
+                #[cfg(feature = "std")]
+                assert_eq!(of.join(&a, &b), Ok((expected, n / size)));
+            }
+        }
+    }
+
+    /// A compound of size 4, a byte at 0 and two bytes at 2, and two blocks of three records, each with a byte behind them.
+    fn pair() -> (Type, [u8; 13], [u8; 13]) {
+        let message = [0x36, 2, 0, 0, 4, 0, 0, 0, b'a', 0, 0, 0x10, 0, 0, 0, 1, 0, 0, 0, 0, 0, 8, 0, b'b', 0, 2, 0x10, 0, 0, 0, 2, 0, 0, 0, 0, 0, 16, 0];
+        (Type::from_message(&message, 5).unwrap().0, [1, 0xFF, 5, 0, 1, 0, 5, 0, 2, 0, 5, 0, 9], [2, 0x99, 5, 0, 3, 0, 0, 0, 3, 1, 0, 0, 9])
+    }
+
+    #[test]
+    fn a_join_keeps_the_first_of_each() {
+        let (of, a, b) = pair();
+        let joined = |first: &[u8], second: &[u8], expected: &[u8]| {
+            let n = expected.len();
+            for (room, words) in [(n, 40), (24, 40), (n, 0), (24, 0)] {
+                let (mut out, mut work) = ([77; 24], [77; 40]);
+                assert_eq!(join(of.table(), of.pool(), first, second, &mut out[..room], &mut work[..words]), Ok((n, n / 4)));
+                assert_eq!((&out[..n], &out[n..]), (expected, &[77; 24][n..]));
+                assert_eq!((&work[..words], &work[words..]), (&[0; 40][..words], &[77; 40][words..]));
+            }
+            #[cfg(feature = "std")]
+            assert_eq!(of.join(first, second), Ok((expected.to_vec(), n / 4)));
+        };
+        joined(&a[..12], &b[..12], &[1, 0xFF, 5, 0, 2, 0, 5, 0, 3, 0, 0, 0]);
+        joined(&b[..12], &a[..12], &[2, 0x99, 5, 0, 3, 0, 0, 0, 1, 0xFF, 5, 0]);
+        joined(&a[..12], &[], &[1, 0xFF, 5, 0, 2, 0, 5, 0]);
+        joined(&[], &b[..12], &[2, 0x99, 5, 0, 3, 0, 0, 0]);
+        joined(&a[..12], &a[..12], &[1, 0xFF, 5, 0, 2, 0, 5, 0]);
+        joined(&[], &[], &[]);
+    }
+
+    #[test]
+    fn refused_joins_leave_out_as_it_was() {
+        let (of, a, b) = pair();
+        let refused = |first: &[u8], second: &[u8], room: usize| {
+            let [told, none] = [40, 0].map(|words| {
+                let (mut out, mut work) = ([77; 24], [77; 40]);
+                let answer = join(of.table(), of.pool(), first, second, &mut out[..room], &mut work[..words]);
+                assert_eq!(out, [77; 24]);
+                assert_eq!((&work[..words], &work[words..]), (&[0; 40][..words], &[77; 40][words..]));
+                answer
+            });
+            assert_eq!(told, none);
+            told
+        };
+        assert_eq!(refused(&a[..12], &b[..12], 11), Err(Refusal::NoRoom { needed: 12 }));
+        assert_eq!(refused(&a[..12], &b[..12], 0), Err(Refusal::NoRoom { needed: 12 }));
+        for room in [0, 24] {
+            assert_eq!(refused(&a[..12], &b, room), Err(Refusal::WrongLength));
+            assert_eq!(refused(&a, &b[..12], room), Err(Refusal::WrongLength));
+            assert_eq!(refused(&a, &b, room), Err(Refusal::WrongLength));
+            // whole laid end to end, and neither whole
+            assert_eq!(refused(&a[..11], &b, room), Err(Refusal::WrongLength));
+        }
+        assert_eq!(refused(&[], &[], 0), Ok((0, 0)));
+        let region = Type::from_message(&[0x17, 1, 0, 0, 12, 0, 0, 0], 5).unwrap().0;
+        assert_eq!(join(region.table(), region.pool(), &[0], &[], &mut [], &mut []), Err(Refusal::HeapHeld));
+        assert_eq!(join(&[], &[], &[0], &[0], &mut [], &mut []), Err(Refusal::BadTable));
+        #[cfg(feature = "std")]
+        {
+            assert_eq!(region.join(&[0], &[]), Err(Refusal::HeapHeld));
+            assert_eq!(of.join(&a[..11], &b), Err(Refusal::WrongLength));
+        }
     }
 }
