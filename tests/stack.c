@@ -1,5 +1,5 @@
-// Reads types with thousands of members, writes and compares what was read, lists its slots and finds which records are the same, on a thread
-// whose stack has 256 KiB: the stack must not grow with a count. The same for blocks of 0, 1 and 1,000,000 records.
+// Reads types with thousands of members, writes and compares what was read, lists its slots, finds which records are the same and joins two
+// blocks, on a thread whose stack has 256 KiB: the stack must not grow with a count. The same for blocks of 0, 1, 2 and 1,000,000 records.
 #include <pthread.h>
 #include <stdint.h>
 #include <stdio.h>
@@ -45,7 +45,7 @@ static void enumeration(unsigned members) {
 
 enum { RECORDS = 1000000 };
 
-static uint8_t written[MOST], a[255], b[255], block[RECORDS * 4];
+static uint8_t written[MOST], a[255], b[255], block[RECORDS * 4], joined[RECORDS * 4];
 static uint64_t numbers[RECORDS], sizes[RECORDS], work[RECORDS * 3 + 8192];
 static int failed;
 
@@ -89,8 +89,13 @@ static void *calls(void *given) {
         expect(run->name, "duplicates", number, run->compared);
         if (number == 0)
             expect(run->name, "the groups", first == 3 && second == 2 && numbers[0] == 0 && numbers[1] == 1 && numbers[2] == 0 && sizes[0] == 2 && sizes[1] == 1, 1);
+        memset(joined, 255, 3 * run->size);
+        number = datatype_join(table, ROWS * 16, pool, POOL, block, 2 * run->size, block + run->size, 2 * run->size, joined, 3 * run->size, work, words, &first, &second);
+        expect(run->name, "join", number, run->compared);
+        if (number == 0)
+            expect(run->name, "the joined block", first == 2 * run->size && second == 2 && memcmp(joined, block, 2 * run->size) == 0 && joined[2 * run->size] == 255, 1);
     }
-    if (!failed) printf("%s: %zu bytes read, written, compared, searched for slots and for duplicates\n", run->name, length);
+    if (!failed) printf("%s: %zu bytes read, written, compared, searched for slots and for duplicates, joined\n", run->name, length);
     return 0;
 }
 
@@ -116,8 +121,16 @@ static void *records(void *given) {
         uint64_t sum = 0;
         for (size_t g = 0; g < second; g++) sum += sizes[g];
         expect(name, "the sizes' sum", sum == n, 1);
+        for (size_t m = 0; m <= n; m = m < n / 2 ? n / 2 : m < n ? n : n + 1) {
+            const size_t kept = n < 753 ? n : 753;
+            memset(joined, 255, sizeof joined);
+            expect(name, "join", datatype_join(table, ROWS * 16, pool, POOL, block, 4 * m, block + 4 * m, 4 * (n - m), joined, 4 * n, work, words, &first, &second), 0);
+            expect(name, "the joined block", first == 4 * kept && second == kept && memcmp(joined, block, 4 * kept) == 0, 1);
+            for (size_t i = 4 * kept; i < sizeof joined; i++)
+                if (joined[i] != 255) expect(name, "a byte behind the joined block", 1, 0);
+        }
     }
-    if (!failed) printf("%s: searched for duplicates\n", name);
+    if (!failed) printf("%s: searched for duplicates, joined\n", name);
     return 0;
 }
 
