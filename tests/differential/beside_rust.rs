@@ -12,6 +12,7 @@ mod duplicates;
 mod error;
 mod flat;
 mod generate;
+mod join;
 mod message_type;
 mod walk;
 

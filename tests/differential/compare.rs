@@ -6,6 +6,7 @@ use crate::duplicates;
 use crate::error::FormatError;
 use crate::flat::Flat;
 use crate::generate::Random;
+use crate::join;
 use crate::walk;
 use datatype_message::{self as library, Refusal, POOL, ROW, ROWS};
 
@@ -92,14 +93,20 @@ pub fn message(message: &[u8], r: &mut Random, counts: &mut Counts) {
     on_type(&t, r, counts);
 }
 
-/// Every call on the table of a type.
-pub fn on_type(t: &Datatype, r: &mut Random, counts: &mut Counts) {
+/// The table and pool of a type; of some, longer ones than it needs.
+pub fn lent(t: &Datatype, r: &mut Random) -> (Vec<u32>, Vec<u8>) {
     let flat = Flat::of(t);
     let (mut table, mut pool) = (flat.words(), flat.pool.clone());
     if r.below(4) == 0 {
         table.extend([0; 21]);
         pool.extend([0; 5]);
     }
+    (table, pool)
+}
+
+/// Every call on the table of a type.
+pub fn on_type(t: &Datatype, r: &mut Random, counts: &mut Counts) {
+    let (table, pool) = lent(t, r);
     sizes(t, &table, &pool, counts);
     predicates(t, &table, &pool, counts);
     for edition in 0..5 {
@@ -311,7 +318,7 @@ fn damaged(mut table: Vec<u32>, mut pool: Vec<u8>, r: &mut Random, counts: &mut 
         (Call::Slots, number(&library::embedded_reference_slots(&table, &pool, &mut listed))),
         (Call::Same, number(&library::same(&table, &pool, &[], &[]))),
     ];
-    for (call, n) in answers.into_iter().chain(duplicates::damaged(&table, &pool)) {
+    for (call, n) in answers.into_iter().chain(duplicates::damaged(&table, &pool)).chain([join::damaged(&table, &pool)]) {
         if (n == 1) != bad {
             differs("BadTable", &format!("{table:?} {pool:?}"), n, bad);
         }

@@ -13,9 +13,10 @@ pub enum Call {
     Same,
     Duplicates,
     DuplicatesWords,
+    Join,
 }
 
-pub const CALLS: [&str; 10] = ["read", "write", "written and read by the Rust", "sizes", "predicates", "slots", "references", "same", "duplicates", "words of its workspace"];
+pub const CALLS: [&str; 11] = ["read", "write", "written and read by the Rust", "sizes", "predicates", "slots", "references", "same", "duplicates", "words of its workspace", "join"];
 
 /// What pairs of compared records may have: see `Counts::names`.
 pub const NAMES: [&str; 7] = [
@@ -67,14 +68,64 @@ pub const BLOCKS: [&str; 7] = [
     "bytes of two fields",
 ];
 
+/// What is lent to a call of `join`.
+#[derive(Clone, Copy)]
+pub enum JoinLent {
+    Exact,
+    ByteShort,
+    NoRoom,
+    More,
+    Both,
+    NoWork,
+    ShortWork,
+    ToldWork,
+    FirstNotWhole,
+    SecondNotWhole,
+    NeitherWhole,
+    WholeTogether,
+    Uncounted,
+}
+
+pub const JOIN_LENT: [&str; 13] = [
+    "exact room",
+    "room one byte too short",
+    "no room",
+    "more room than needed",
+    "room for both blocks",
+    "no workspace",
+    "a workspace shorter than told",
+    "a workspace of the told length or more",
+    "the first block no whole number of records",
+    "the second block no whole number of records",
+    "neither a whole number of records",
+    "neither a whole number of records, but both laid end to end",
+    "bytes changed that do not count",
+];
+
+/// What two blocks of records may have: see `Counts::joins`.
+pub const JOINS: [&str; 12] = [
+    "no records in either",
+    "no records in the first alone",
+    "no records in the second alone",
+    "records of the first the same as an earlier one there",
+    "records of the second the same as an earlier one there and none of the first",
+    "records in common",
+    "such records though bytes differ",
+    "such records though owned bytes differ",
+    "records of both, none left out",
+    "records of the second, all left out",
+    "records in common beside others in both",
+    "bytes of two fields",
+];
+
 #[derive(Default)]
 pub struct Counts {
     /// By call: answers compared with the Rust's; answers that the Rust has not, compared with the walk's; answers compared with neither.
-    pub compared: [u64; 10],
-    pub walked: [u64; 10],
-    pub left_out: [u64; 10],
+    pub compared: [u64; 11],
+    pub walked: [u64; 11],
+    pub left_out: [u64; 11],
     /// By call and number of the answer, 0 for a result.
-    pub numbers: [[u64; 22]; 10],
+    pub numbers: [[u64; 22]; 11],
     /// Types read, by class and version of the outermost header, and by levels.
     pub classes: [u64; 12],
     pub versions: [u64; 16],
@@ -86,6 +137,9 @@ pub struct Counts {
     /// Calls of `duplicates`, by `LENT`, and the blocks given to it, by `BLOCKS`.
     pub lent: [u64; 10],
     pub blocks: [u64; 7],
+    /// Calls of `join`, by `JOIN_LENT`, and the blocks given to it, by `JOINS`.
+    pub join_lent: [u64; 13],
+    pub joins: [u64; 12],
 }
 
 impl Counts {
@@ -149,6 +203,36 @@ impl Counts {
         }
     }
 
+    pub fn join_lent(&mut self, what: JoinLent) {
+        self.join_lent[what as usize] += 1;
+    }
+
+    /// The records of two blocks, and the numbers of those that are kept, in both laid end to end.
+    pub fn joins(&mut self, a: &[Vec<Byte>], b: &[Vec<Byte>], kept: &[usize]) {
+        let of_first = kept.iter().filter(|k| **k < a.len()).count();
+        let of_second = kept.len() - of_first;
+        let same = |x: &[Byte], y: &[Byte]| x.iter().zip(y).all(|(x, y)| x.taken() == y.taken());
+        let common: Vec<(&[Byte], &[Byte])> = b.iter().flat_map(|y| a.iter().find(|x| same(x, y)).map(|x| (&x[..], &y[..]))).collect();
+        let though = |test: fn(&Byte, &Byte) -> bool| common.iter().any(|(x, y)| x.iter().zip(*y).any(|(x, y)| test(x, y)));
+        let met = [
+            a.is_empty() && b.is_empty(),
+            a.is_empty() && !b.is_empty(),
+            !a.is_empty() && b.is_empty(),
+            of_first < a.len(),
+            of_second + common.len() < b.len(),
+            !common.is_empty(),
+            though(|x, y| x.value != y.value),
+            though(|x, y| x.value != y.value && x.owners > 0),
+            !a.is_empty() && !b.is_empty() && kept.len() == a.len() + b.len(),
+            !b.is_empty() && of_second == 0,
+            !common.is_empty() && of_second > 0 && a.iter().any(|x| !b.iter().any(|y| same(x, y))),
+            a.iter().chain(b).flatten().any(|x| x.owners > 1),
+        ];
+        for (n, met) in self.joins.iter_mut().zip(met) {
+            *n += u64::from(met);
+        }
+    }
+
     pub fn print(&self) {
         for (i, name) in CALLS.iter().enumerate() {
             let met: Vec<String> = self.numbers[i].iter().enumerate().filter(|(_, n)| **n > 0).map(|(k, n)| format!("{k}: {n}")).collect();
@@ -168,6 +252,12 @@ impl Counts {
         for (what, n) in BLOCKS.iter().zip(self.blocks) {
             println!("blocks of duplicates, {what}: {n}");
         }
+        for (what, n) in JOIN_LENT.iter().zip(self.join_lent) {
+            println!("join, {what}: {n}");
+        }
+        for (what, n) in JOINS.iter().zip(self.joins) {
+            println!("blocks of join, {what}: {n}");
+        }
     }
 
     /// What was tried less often than it must be.
@@ -178,7 +268,7 @@ impl Counts {
                 lacking.push(format!("{what}: {n} of {least}"));
             }
         };
-        let wanted: [(Call, &[u32]); 10] = [
+        let wanted: [(Call, &[u32]); 11] = [
             (Call::Read, &[0, 2, 3, 4, 6, 7, 8, 9, 10, 11, 12]),
             (Call::Write, &[0, 1, 13, 14, 15, 21]),
             (Call::ReadBack, &[0]),
@@ -189,6 +279,7 @@ impl Counts {
             (Call::Same, &[0, 1, 12, 16, 17, 18]),
             (Call::Duplicates, &[0, 1, 12, 16, 17, 18, 21]),
             (Call::DuplicatesWords, &[0, 1, 12, 16, 17]),
+            (Call::Join, &[0, 1, 12, 16, 17, 18, 21]),
         ];
         for (call, numbers) in wanted {
             for n in numbers {
@@ -215,6 +306,12 @@ impl Counts {
         }
         for (what, n) in BLOCKS.iter().zip(self.blocks) {
             want(n, least, format!("blocks of duplicates, {what}"));
+        }
+        for (what, n) in JOIN_LENT.iter().zip(self.join_lent) {
+            want(n, least * 10, format!("join, {what}"));
+        }
+        for (what, n) in JOINS.iter().zip(self.joins) {
+            want(n, least, format!("blocks of join, {what}"));
         }
         lacking
     }

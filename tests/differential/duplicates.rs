@@ -1,29 +1,33 @@
 //! Blocks of records given to `duplicates`, and to a plain definition of it over the walk: each record beside all before it.
-use crate::compare::{changed, differs, hex, number};
+use crate::compare::{changed, differs, hex, lent, number};
 use crate::counts::{Call, Counts, Lent};
 use crate::datatype::Datatype;
-use crate::flat::Flat;
 use crate::generate::Random;
 use crate::walk;
 use datatype_message::{self as library, Refusal};
 use std::fmt::Debug;
 
 /// What every lent entry holds before a call; no answer has it.
-const FILL: u64 = 0x0707_0707_0707_0707;
+pub const FILL: u64 = 0x0707_0707_0707_0707;
 /// The largest type of which blocks are made.
-const LARGEST: u32 = 4096;
+pub const LARGEST: u32 = 4096;
 /// The most workspaces that are lent to one block, one of each length.
 const WORKSPACES: usize = 300;
 
 /// Numbers and sizes, by document 02's words.
 #[derive(Debug)]
-struct Groups {
-    numbers: Vec<u64>,
-    sizes: Vec<u64>,
+pub struct Groups {
+    pub numbers: Vec<u64>,
+    pub sizes: Vec<u64>,
 }
 
-fn groups(t: &Datatype, records: &[&[u8]]) -> Groups {
-    let taken: Vec<Vec<Option<u8>>> = records.iter().map(|r| walk::bytes(t, r).iter().map(walk::Byte::taken).collect()).collect();
+/// The bytes of each record as they are taken: equal for records that are the same.
+pub fn taken(t: &Datatype, records: &[Vec<u8>]) -> Vec<Vec<Option<u8>>> {
+    records.iter().map(|r| walk::bytes(t, r).iter().map(walk::Byte::taken).collect()).collect()
+}
+
+pub fn groups(t: &Datatype, records: &[Vec<u8>]) -> Groups {
+    let taken = taken(t, records);
     let earliest = |k: usize| (0..k).find(|j| taken[*j] == taken[k]).unwrap_or(k) as u64;
     let numbers: Vec<u64> = (0..records.len()).map(earliest).collect();
     let firsts = (0..records.len() as u64).filter(|k| numbers[*k as usize] == *k);
@@ -70,14 +74,14 @@ impl Lending<'_> {
 }
 
 /// A workspace with content that must not matter: one word throughout, numbers that could be a record's, or any.
-fn workspace(length: usize, records: usize, r: &mut Random) -> Vec<u64> {
+pub fn workspace(length: usize, records: usize, r: &mut Random) -> Vec<u64> {
     let how = r.below(5);
     let one = [0, u64::MAX, r.next()][r.below(3) as usize];
     (0..length).map(|_| if how < 3 { one } else if how == 3 { r.below(records as u64 + 2) } else { r.next() }).collect()
 }
 
 /// Records of which about half are others over again, with changes that may or may not matter.
-fn records(t: &Datatype, count: usize, r: &mut Random) -> Vec<Vec<u8>> {
+pub fn records(t: &Datatype, count: usize, r: &mut Random) -> Vec<Vec<u8>> {
     let mut records: Vec<Vec<u8>> = Vec::new();
     for _ in 0..count {
         let next = match records.len() as u64 {
@@ -90,7 +94,7 @@ fn records(t: &Datatype, count: usize, r: &mut Random) -> Vec<Vec<u8>> {
 }
 
 /// The lengths from 0 to two more than told; of very many, those near the ends and some between.
-fn lengths(told: usize, r: &mut Random) -> Vec<usize> {
+pub fn lengths(told: usize, r: &mut Random) -> Vec<usize> {
     if told + 3 <= WORKSPACES {
         return (0..=told + 2).collect();
     }
@@ -101,13 +105,7 @@ fn lengths(told: usize, r: &mut Random) -> Vec<usize> {
 
 /// The type's refusal, with a block of any length; then a block of 0 to 12 records.
 pub fn block(t: &Datatype, r: &mut Random, counts: &mut Counts) {
-    let flat = Flat::of(t);
-    let (mut table, mut pool) = (flat.words(), flat.pool.clone());
-    if r.below(4) == 0 {
-        table.extend([0; 21]);
-        pool.extend([0; 5]);
-    }
-    let (table, pool) = (&table[..], &pool[..]);
+    let (table, pool) = &lent(t, r);
     let any: Vec<u8> = (0..1 + r.below(8)).map(|_| r.next() as u8).collect();
     let refused = walk::not_admitted(t, &[], &[]).filter(|(number, _)| *number != 18);
     if let Some(refusal) = refused {
@@ -138,8 +136,7 @@ pub fn block(t: &Datatype, r: &mut Random, counts: &mut Counts) {
 /// A block of whole records, with every kind of room and workspace.
 fn whole(t: &Datatype, table: &[u32], pool: &[u8], records: &[Vec<u8>], r: &mut Random, counts: &mut Counts) {
     let block = records.concat();
-    let slices: Vec<&[u8]> = records.iter().map(|x| &x[..]).collect();
-    let expected = groups(t, &slices);
+    let expected = groups(t, records);
     let (n, d) = (records.len(), expected.sizes.len());
     let told = words(t, table, pool, n, counts);
     let lending = Lending { t, table, pool, block: &block };
@@ -173,24 +170,30 @@ fn whole(t: &Datatype, table: &[u32], pool: &[u8], records: &[Vec<u8>], r: &mut 
         counts.lent(Lent::NotWhole);
     }
     uncounted(t, table, pool, records, &expected, told, r, counts);
-    counts.blocks(&slices.iter().map(|x| walk::bytes(t, x)).collect::<Vec<_>>(), &expected.numbers);
+    counts.blocks(&records.iter().map(|x| walk::bytes(t, x)).collect::<Vec<_>>(), &expected.numbers);
 }
 
-/// The block with bytes changed that do not count has the same groups.
-fn uncounted(t: &Datatype, table: &[u32], pool: &[u8], records: &[Vec<u8>], expected: &Groups, told: usize, r: &mut Random, counts: &mut Counts) {
-    let (n, d) = (records.len(), expected.sizes.len());
+/// Some of the records' bytes that do not count changed; None where all count.
+pub fn changed_uncounted(t: &Datatype, records: &[Vec<u8>], r: &mut Random) -> Option<Vec<Vec<u8>>> {
     let mut other = records.to_vec();
     let mut places = Vec::new();
     for (k, record) in records.iter().enumerate() {
         places.extend(walk::bytes(t, record).iter().enumerate().filter(|(_, b)| b.past == b.owners).map(|(i, _)| (k, i)));
     }
     if places.is_empty() {
-        return;
+        return None;
     }
     for _ in 0..1 + r.below(3) {
         let (k, i) = places[r.below(places.len() as u64) as usize];
         other[k][i] = other[k][i].wrapping_add(1 + r.below(255) as u8);
     }
+    Some(other)
+}
+
+/// The block with bytes changed that do not count has the same groups.
+fn uncounted(t: &Datatype, table: &[u32], pool: &[u8], records: &[Vec<u8>], expected: &Groups, told: usize, r: &mut Random, counts: &mut Counts) {
+    let (n, d) = (records.len(), expected.sizes.len());
+    let Some(other) = changed_uncounted(t, records, r) else { return };
     let block = other.concat();
     for length in [0, r.below(told as u64 + 1) as usize, told] {
         Lending { t, table, pool, block: &block }.call(n, d, workspace(length, n, r), Ok(expected), counts);
@@ -199,7 +202,7 @@ fn uncounted(t: &Datatype, table: &[u32], pool: &[u8], records: &[Vec<u8>], expe
 }
 
 /// The told length of a workspace: 3 words a record and 2 a run; the library may have one run more, which is empty.
-fn words(t: &Datatype, table: &[u32], pool: &[u8], n: usize, counts: &mut Counts) -> usize {
+pub fn words(t: &Datatype, table: &[u32], pool: &[u8], n: usize, counts: &mut Counts) -> usize {
     let told = library::duplicates_words(table, pool, n as u64);
     let least = 3 * n + 2 * walk::runs(t);
     match told {

@@ -2,6 +2,7 @@
 use crate::compare;
 use crate::counts::Counts;
 use crate::duplicates;
+use crate::join;
 use crate::datatype::{CharacterSet, CompoundMember, Datatype, DatatypeByteOrder, EnumMember, ReferenceType, StringPadding};
 
 pub struct Random(u64);
@@ -362,9 +363,11 @@ pub fn run(seed: u64, rounds: u64, counts: &mut Counts) {
         let t = datatype(r, levels);
         compare::on_type(&t, r, counts);
         duplicates::block(&t, r, counts);
+        join::blocks(&t, r, counts);
         let t = named(r, 3);
         compare::on_type(&t, r, counts);
         compare::names(&t, r, counts);
         duplicates::block(&t, r, counts);
+        join::blocks(&t, r, counts);
     }
 }

@@ -13,6 +13,7 @@ mod duplicates;
 mod error;
 mod flat;
 mod generate;
+mod join;
 mod message_type;
 mod walk;
 
