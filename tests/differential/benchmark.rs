@@ -1,6 +1,6 @@
-//! Times the library beside the Rust that it was ported from, `memcmp`, a plain Rust walk, and finding duplicates by the standard library's
-//! hash map and by sorting: one process, the two sides in turn, the least of many batches. The table and pool lent to the library are as long
-//! as the type needs, so reading clears nothing behind it; the Rust's times include freeing what it allocates. Each time of the library
+//! Times the library beside the Rust that it was ported from, `memcmp`, a plain Rust walk, and finding duplicates and joining by the standard
+//! library's hash map and by sorting: one process, the two sides in turn, the least of many batches. The table and pool lent to the library are
+//! as long as the type needs, so reading clears nothing behind it; the Rust's times include freeing what it allocates. Each time of the library
 //! includes the check of the table that every call starts with, but for reading.
 #![allow(dead_code, unused_imports)]
 mod bytes;
@@ -10,6 +10,7 @@ mod display;
 mod error;
 mod flat;
 mod grouping;
+mod joining;
 mod message_type;
 mod walk;
 
@@ -185,4 +186,5 @@ fn main() {
     let whole = times(|| drop(black_box(library::embedded_reference_slots(&many.0, &many.1, black_box(&mut slots)))), || drop(black_box(library::embedded_reference_slots(&few.0, &few.1, black_box(&mut again)))));
     beside("slots, slots", (whole.0, checks.0), (whole.1, checks.1));
     grouping::lines();
+    joining::lines();
 }

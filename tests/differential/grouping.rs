@@ -8,7 +8,9 @@ use datatype_message as library;
 use std::collections::HashMap;
 use std::hint::black_box;
 
-const BATCHES: usize = 15;
+pub const BATCHES: usize = 15;
+/// The first word of the workspace.
+pub const SEED: u64 = 0x2545_F491_4F6C_DD1D;
 
 type Groups = (Vec<u64>, Vec<u64>);
 
@@ -55,7 +57,7 @@ fn by_sorting(t: &Datatype, block: &[u8]) -> Groups {
     (numbers, counts.into_iter().filter(|n| *n > 0).collect())
 }
 
-fn next(state: &mut u64) -> u64 {
+pub fn next(state: &mut u64) -> u64 {
     *state ^= *state << 13;
     *state ^= *state >> 7;
     *state ^= *state << 17;
@@ -125,7 +127,7 @@ impl Lent {
     fn find(&mut self, words: usize) -> usize {
         let work = &mut self.work[..words];
         if let Some(seed) = work.first_mut() {
-            *seed = 0x2545_F491_4F6C_DD1D;
+            *seed = SEED;
         }
         library::duplicates(&self.table, &self.pool, black_box(&self.block), &mut self.numbers, &mut self.sizes, work).unwrap().1
     }
