@@ -1,16 +1,16 @@
 -- Laws of the answer, one for each way out.
-use Prim.Native.Nat.{ℕ, _/_, _%_, _<_, _≤_}
+use Prim.Native.Nat.{ℕ, _<_, _≤_}
 use mathlib.Core.Path.{_≡_, refl, sym, ap, _∙_}
 use mathlib.Core.Bool.{true, false}
 use mathlib.Core.List.{List}
 use native.Mathlib.Omega.{arith}
-use lib.ListN.{length, take, replicate}
+use lib.ListN.{length, take}
 use lib.Seq.{sets, take-at}
-use lib.Dec.{ltb, eqb}
-use borrow.Author.Tests.{lt-ltb, le-ltb, eq-eqb, ne-eqb}
+use lib.Dec.{ltb}
+use borrow.Author.Tests.{lt-ltb, le-ltb}
 use Rattle.refusal.specs.declared.Refusal.the-variants.{NoRoom}
 use Rattle.format.proofs.Lists.{sets-front}
-use Rattle.groups.specs.Groups.{numbersOf, firstsTo, sizesTo, firstsOf, distinctOf, sizesOf}
+use Rattle.groups.specs.Groups.{numbersOf, firstsTo, sizesTo, firstsOf, distinctOf}
 use Rattle.groups.specs.Chains.{namesIn, Tallied}
 use Rattle.groups.proofs.Firsts.{length-numbers}
 use Rattle.groups.proofs.Counts.{length-sizes}
@@ -18,7 +18,6 @@ use Rattle.groups.proofs.Building.{tallied-own}
 use Rattle.groups.proofs.Ways.{distinct-room}
 use Rattle.firsts.specs.Finding.{Known}
 use Rattle.duplicates.specs.Answers.{fittingAnswer, written, Listed}
-use Rattle.duplicates.specs.declared.outcome.Duplicates.{Duplicates}
 use Rattle.duplicates.specs.declared.outcome.Duplicates.the-variants.{Found, Refused}
 
 -- ---- the records listed

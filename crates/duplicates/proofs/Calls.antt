@@ -3,36 +3,35 @@ use Prim.Native.Nat.{ℕ, _+_, _-_, _*_, _/_, _%_, _<_, _≤_, min}
 use mathlib.Core.Path.{_≡_, refl, sym, ap, _∙_}
 use mathlib.Core.Logic.{⊎-elim}
 use mathlib.Core.Bool.{true, false}
-use mathlib.Core.List.{List, [], _∷_, _++_, append-nil}
+use mathlib.Core.List.{List, [], _++_, append-nil}
 use native.Mathlib.Omega.{arith}
 use native.Mathlib.Nat.{zero-mod, div-le-self}
-use lib.ListN.{length, getD, drop, replicate, drop-of-length-le}
+use lib.ListN.{length, drop, replicate}
 use lib.Dec.{ltb, leb, eqb}
-use borrow.Author.Tests.{lt-ltb, le-ltb, le-leb, lt-leb, ltb-true, ltb-false, eq-eqb, ne-eqb}
+use borrow.Author.Tests.{le-leb, lt-leb, ltb-true, ltb-false, eq-eqb, ne-eqb}
 use Rattle.refusal.specs.declared.Refusal.{Refusal}
 use Rattle.refusal.specs.declared.Refusal.the-variants.{WrongLength, NoRoom}
-use Rattle.format.specs.Bytes.{zeros}
-use Rattle.format.specs.Datatype.{Datatype, typeSize}
+use Rattle.format.specs.Datatype.{typeSize}
 use Rattle.format.specs.Image.{fieldsOf}
 use Rattle.format.specs.Outcome.{Outcome, gives, refuses, whenGiven, unless, needed, outputAfter, outcomeNumber, outcomeValues}
-use Rattle.format.specs.Ownership.{admitting, admission}
-use Rattle.format.specs.Table.{typeOf}
+use Rattle.format.specs.Ownership.{admission}
 use Rattle.format.proofs.Admission.{admission-refused}
 use Rattle.format.proofs.Booleans.{true-or-false}
 use Rattle.format.proofs.Ownership.{admitting-given}
 use Rattle.compare.specs.Agreeing.{Admits, admissionOf}
 use Rattle.compare.specs.declared.Admission.{Admission}
-use Rattle.compare.specs.declared.Admission.the-variants.{Size, Refused as AdmissionRefused}
+use Rattle.compare.specs.declared.Admission.the-variants.{Refused as AdmissionRefused}
 use Rattle.compare.proofs.Comparing.{refused-admission}
-use Rattle.groups.specs.Groups.{numbersOf, firstsTo, sizesTo, firstsOf, distinctOf, sizesOf}
+use Rattle.groups.specs.Groups.{numbersOf, firstsOf, distinctOf, sizesOf}
 use Rattle.groups.specs.Duplicates.{Groups, keysOf, fieldsIn, groupsOf, fitting, duplicatingRecords, duplicating}
 use Rattle.groups.proofs.Firsts.{length-numbers}
 use Rattle.groups.proofs.Keys.{length-keys}
 use Rattle.groups.proofs.Counts.{length-sizes, firsts-le}
 use Rattle.duplicates.specs.Answers.{duplicatesNumber, duplicatesValues, groupsValues, answerOf, numbersGiven, sizesGiven, fittingAnswer, written, Listed, Answered, DuplicatesAre}
-use Rattle.firsts.specs.Records.{Whole, keysIn, Comparable}
+use Rattle.firsts.specs.Records.{keysIn, Comparable}
 use Rattle.duplicates.specs.declared.outcome.Duplicates.{Duplicates}
 use Rattle.duplicates.specs.declared.outcome.Duplicates.the-variants.{Found, Refused}
+use Rattle.firsts.proofs.Compiling.{all-cleared}
 use Rattle.firsts.proofs.KeyLaws.{admits-some, fields-in}
 
 -- ---- a refusal leaves both lists as they are
@@ -179,16 +178,13 @@ told (refuses x) r e = (ap duplicatesNumber e, ap duplicatesValues e)
 
 pub all-told : (o : Outcome Groups) (r : Duplicates) (m m′ s s′ w w′ w″ : List ℕ) → Answered o r m m′ s s′ → length w′ ≡ length w
     → w″ ≡ replicate (length w′) 0 ++ drop (length w′) w′ → DuplicatesAre o r m m′ s s′ w w″
-unfolding zeros
 all-told o r m m′ s s′ w w′ w″ a l z =
     let t = told o r (a .answer) in
-    let o : length w′ ≤ length w′ = omega arith in
-    let d : drop (length w′) w′ ≡ [] = drop-of-length-le w′ o in
     record {
       answer = a .answer;
       number = t .0;
       values = t .1;
       numbers-are = a .numbers-are;
       sizes-are = a .sizes-are;
-      work-is = z ∙ rw (d, append-nil, l);
+      work-is = all-cleared w w′ w″ l z;
     }

@@ -1,7 +1,7 @@
 -- `duplicates_words`: one law for each way out.
-use Prim.Native.Nat.{ℕ, _+_, _-_, _*_, _/_, _<_, _≤_, min}
-use mathlib.Core.Path.{_≡_, refl, sym, ap, _∙_}
-use mathlib.Core.List.{List, [], _∷_}
+use Prim.Native.Nat.{ℕ, _+_, _-_, _*_, _/_, _<_, _≤_}
+use mathlib.Core.Path.{_≡_, sym, ap, _∙_}
+use mathlib.Core.List.{List}
 use native.Mathlib.Omega.{arith}
 use lib.ListN.{length}
 use Rattle.refusal.specs.declared.Refusal.{Refusal}
@@ -10,7 +10,7 @@ use Rattle.format.specs.Outcome.{Outcome, gives, refuses, whenGiven, needed, ou
 use Rattle.format.specs.Ownership.{admission}
 use Rattle.format.proofs.Admission.{admission-refused}
 use Rattle.format.proofs.Ownership.{admitting-given}
-use Rattle.compare.specs.Agreeing.{Admits, admissionOf}
+use Rattle.compare.specs.Agreeing.{admissionOf}
 use Rattle.compare.specs.declared.Admission.{Admission}
 use Rattle.compare.specs.declared.Admission.the-variants.{Size, Refused as AdmissionRefused}
 use Rattle.compare.proofs.Comparing.{refused-admission, admitted-size}

@@ -1,23 +1,22 @@
 -- Records on chains, by the runs at the workspace's end.
 use Prim.Native.Nat.{ℕ, zero, _+_, _-_, _/_, _%_, _<_, _≤_}
-use mathlib.Core.Path.{_≡_, refl, sym, ap, _∙_}
+use mathlib.Core.Path.{_≡_, sym, ap, _∙_}
 use mathlib.Core.Bool.{Bool, true, false, false≢true}
 use mathlib.Core.List.{List, _++_}
 use native.Mathlib.Omega.{arith}
-use lib.ListN.{length, getD, drop, set, replicate, length-append, length-replicate, length-drop}
+use lib.ListN.{length, getD, drop, set, replicate, length-append, length-replicate}
 use lib.Seq.{drop-set-lt, drop-append-seam}
 use Rattle.format.specs.Image.{imageFrom}
 use Rattle.format.specs.Table.{sameWords}
 use Rattle.format.proofs.Rows.{sameWords-true}
 use Rattle.groups.specs.Groups.{keyAt, firstsTo}
-use Rattle.groups.specs.Chains.{bucketOf, Built, Sought, namesIn, Tallied}
-use Rattle.groups.specs.Duplicates.{recordAt, keysOf}
+use Rattle.groups.specs.Chains.{Built, Sought, namesIn, Tallied}
 use Rattle.groups.specs.Runs.{runsIn, Inside}
 use Rattle.groups.proofs.Heads.{Seeking, find-begins, find-fails, find-inside, find-place, find-falls, find-hit, find-on}
 use Rattle.groups.proofs.Ways.{bucket-is, bucket-below, place-first, place-later, built-clear, tally-begins, distinct-is, tallied-is}
 use Rattle.groups.proofs.Building.{built-repeat}
 use Rattle.groups.proofs.Keys.{length-keys}
-use Rattle.keys.specs.Hash.{Small, hashOf}
+use Rattle.keys.specs.Hash.{hashOf}
 use Rattle.keys.specs.declared.Multipliers.{Multipliers}
 use Rattle.firsts.specs.Records.{IsRecord}
 use Rattle.firsts.specs.Chaining.{keysBy, ByRuns, InBucket, Seeks, SpotIs, Repeats, Placed, Compiled, Counted}
@@ -115,9 +114,6 @@ module _ (m : Multipliers) (a b : List ℕ) (size n buckets k : ℕ) (w : List �
 -- ---- a record placed
 
 module _ (words : List ℕ) (m : Multipliers) (a b : List ℕ) (size n buckets k : ℕ) (w : List ℕ) (g : Placed words m a b size n buckets k w) where
-  pub placed-number : k < n → k < length (keysBy words a b size)
-  placed-number l = omega (arith, g .count)
-
   pub placed-room : buckets + n + n ≤ length w
   placed-room = g .built .room
 
@@ -163,12 +159,6 @@ module _ (m : Multipliers) (a b : List ℕ) (size n buckets k : ℕ) (w : List �
     repeats-told q = record { later = λ y. omega arith; equal = λ y. sameWords-true _ _ (sym (rw e at q) ∙ y) }
 
   module _ {c : Bool} (r : Repeats (keysBy (drop (buckets + n + n) w) a b size) k c) (y : c ≡ true) where
-    pub repeat-room : buckets + n + k < length w
-    repeat-room = omega (arith, g .built .room)
-
-    pub repeat-later : 0 < k
-    repeat-later = r .later y
-
     pub placed-repeat : Placed (drop (buckets + n + n) w) m a b size n buckets (k + 1) (set w (buckets + n + k) (getD w (buckets + n + k - 1) 0))
     placed-repeat =
         more (drop (buckets + n + n) w) m a b size n buckets k w g l (set w (buckets + n + k) (getD w (buckets + n + k - 1) 0))

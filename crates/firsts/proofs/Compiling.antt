@@ -1,10 +1,11 @@
 -- A type's runs in a workspace, and the records by them.
-use Prim.Native.Nat.{ℕ, zero, suc, _+_, _-_, _*_, _/_, _<_, _≤_, min}
+use Prim.Native.Nat.{ℕ, zero, suc, _+_, _-_, _*_, _/_, _<_, _≤_}
 use mathlib.Core.Path.{_≡_, refl, sym, ap, _∙_}
-use mathlib.Core.List.{List, [], _∷_, _++_}
+use mathlib.Core.List.{List, [], _∷_, _++_, append-nil}
 use native.Mathlib.Omega.{arith}
-use lib.ListN.{length, getD, drop}
-use Rattle.format.specs.Image.{Field, imageFrom}
+use lib.ListN.{length, getD, drop, replicate, drop-of-length-le}
+use Rattle.format.specs.Bytes.{zeros}
+use Rattle.format.specs.Image.{Field}
 use Rattle.groups.specs.Chains.{namesIn, Named}
 use Rattle.groups.specs.Groups.{listed, firstOf, numbersOf, distinctOf}
 use Rattle.groups.specs.Duplicates.{recordAt, keyOf, keysOf, fieldsIn}
@@ -13,10 +14,9 @@ use Rattle.groups.proofs.Firsts.{number-at}
 use Rattle.groups.proofs.Runs.{runs-image, runs-in-words, runs-inside, fields-inside}
 use Rattle.keys.specs.Hash.{Small}
 use Rattle.keys.specs.declared.Multipliers.{Multipliers}
-use Rattle.runs.specs.Listing.{StoredIn, RunsListed}
-use Rattle.compare.specs.Agreeing.{Admits}
+use Rattle.runs.specs.Listing.{RunsListed}
 use Rattle.firsts.specs.Finding.{Heads, Known, FirstsAre}
-use Rattle.firsts.specs.Chaining.{keysBy, ByRuns, Compiled, Counted}
+use Rattle.firsts.specs.Chaining.{keysBy, Compiled, Counted}
 use Rattle.firsts.specs.Records.{keysIn, Comparable}
 use Rattle.firsts.proofs.KeyLaws.{fields-in}
 
@@ -104,3 +104,11 @@ module _ (ns : List ℕ) (n buckets : ℕ) (w : List ℕ) (g : Known ns n bucket
 
   pub tallied-first : (k r : ℕ) → Named (namesIn n buckets w) k r → r ≡ getD ns k 0
   tallied-first k r e = let v = g .tallied (omega arith) in e .name ∙ ap (λ (l : List ℕ). getD l k 0) (v .names)
+
+-- a workspace zeroed up to its end
+pub all-cleared : (w w′ w″ : List ℕ) → length w′ ≡ length w → w″ ≡ replicate (length w′) 0 ++ drop (length w′) w′ → w″ ≡ zeros (length w)
+unfolding zeros
+all-cleared w w′ w″ l z =
+    let m : length w′ ≤ length w′ = omega arith in
+    let d : drop (length w′) w′ ≡ [] = drop-of-length-le w′ m in
+    z ∙ rw (d, append-nil, l)

@@ -1,11 +1,11 @@
 -- The records of two blocks as they are compared, behind the check of their type.
 use Prim.Native.Nat.{ℕ, _/_, _<_}
-use mathlib.Core.Path.{_≡_, refl, sym, ap, _∙_}
+use mathlib.Core.Path.{_≡_, sym, _∙_}
 use mathlib.Core.Bool.{Bool}
 use mathlib.Core.List.{List, _++_}
 use native.Mathlib.Omega.{arith}
 use lib.ListN.{length}
-use Rattle.format.specs.Datatype.{Datatype, typeSize}
+use Rattle.format.specs.Datatype.{typeSize}
 use Rattle.format.specs.Image.{Field, fieldsOf, image, imageFrom, agree}
 use Rattle.format.specs.Outcome.{gives, whenGiven}
 use Rattle.format.specs.Ownership.{admission, comparing}
@@ -16,7 +16,7 @@ use Rattle.compare.specs.Agreeing.{Admits}
 use Rattle.groups.specs.Groups.{keyAt}
 use Rattle.groups.specs.Duplicates.{keysOf, fieldsGiven, fieldsIn}
 use Rattle.groups.proofs.Keys.{length-keys, key-at}
-use Rattle.firsts.specs.Records.{IsRecord, keysIn, Whole, Comparable}
+use Rattle.firsts.specs.Records.{IsRecord, keysIn, Comparable}
 
 -- ---- by any fields
 

@@ -6,7 +6,7 @@ use keys::Multipliers;
 use keys::hash_by_runs;
 use keys::same_by_runs;
 ghost use mathlib.Core.Path.{_≡_};
-ghost use Prim.Native.Nat.{_+_, _*_, _-_, _≤_, _<_};
+ghost use Prim.Native.Nat.{_+_, _-_, _≤_, _<_};
 ghost use lib.ListN.{length, drop};
 ghost use Rattle.format.specs.Table.{sameWords};
 ghost use Rattle.groups.specs.Groups.{keyAt};

@@ -1,15 +1,15 @@
 -- Laws of the workspace: records placed on chains, and entries counted.
-use Prim.Native.Nat.{ℕ, zero, suc, _+_, _-_, _<_, _≤_}
-use mathlib.Core.Path.{_≡_, refl, sym, ap, _∙_}
+use Prim.Native.Nat.{ℕ, _+_, _-_, _<_, _≤_}
+use mathlib.Core.Path.{_≡_, sym, ap, _∙_}
 use mathlib.Core.Logic.{⊎-elim}
-use mathlib.Core.List.{List, [], _∷_}
+use mathlib.Core.List.{List}
 use native.Mathlib.Omega.{arith}
 use lib.ListN.{length, getD, take, drop, set, length-set, length-drop}
 use lib.Seq.{getD-set-same, getD-set-other, getD-take, getD-drop, drop-set-lt, length-take-le, take-all, ext-getD}
 use mir.Syntax.{w64}
 use mir.Val.{Fits}
 use Rattle.groups.specs.Groups.{keyAt, firstOf, numbersOf, count}
-use Rattle.groups.specs.Chains.{bucketOf, headOf, Chained, Built, namesIn, Named, Tallied}
+use Rattle.groups.specs.Chains.{bucketOf, headOf, Built, namesIn, Named, Tallied}
 use Rattle.groups.proofs.Cases.{same-or-not, below-or-same}
 use Rattle.groups.proofs.Firsts.{first-below, first-of-equal, length-numbers, number-at}
 use Rattle.groups.proofs.Counts.{count-take-hit, count-take-miss, count-later, count-le}

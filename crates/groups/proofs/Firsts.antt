@@ -2,18 +2,15 @@
 use Prim.Native.Nat.{ℕ, zero, suc, _+_, _<_, _≤_}
 use mathlib.Core.Path.{_≡_, refl, sym, ap, _∙_}
 use mathlib.Core.Logic.{_↔_, ⊎-elim}
-use mathlib.Core.Bool.{Bool, true, false, cond, _&&_}
-use mathlib.Core.List.{List, [], _∷_, _++_}
+use mathlib.Core.Bool.{Bool, true, false}
+use mathlib.Core.List.{List, [], _∷_}
 use native.Mathlib.Omega.{arith}
-use native.Mathlib.Numerals.{add-one}
 use lib.ListN.{length, getD, length-append, List·getD-append}
 use lib.Seq.{getD-at}
-use lib.Dec.{eqb}
-use borrow.Author.Tests.{eqb-true, eq-eqb}
 use Rattle.format.specs.Table.{sameWords}
 use Rattle.format.proofs.Rows.{sameWords-refl, sameWords-true}
 use Rattle.groups.specs.Groups.{keyAt, placeOf, firstOf, listed, numbersTo, numbersOf}
-use Rattle.format.proofs.Booleans.{true-or-false, and-both}
+use Rattle.format.proofs.Booleans.{true-or-false}
 use Rattle.groups.proofs.Cases.{not-both, below-or-same}
 
 -- ---- the least number of a key

@@ -1,13 +1,12 @@
 -- Laws of stores one behind another, from the front of a list on.
-use Prim.Native.Nat.{ℕ, zero, suc, _+_, _<_, _≤_}
+use Prim.Native.Nat.{ℕ, zero, _+_, _<_, _≤_}
 use mathlib.Core.Logic.{⊎-elim}
 use mathlib.Core.Path.{_≡_, refl, sym, ap, _∙_}
 use mathlib.Core.List.{List, [], _∷_, _++_}
-use native.Mathlib.Nat.{add-zero, zero-add}
 use native.Mathlib.Numerals.{add-one}
 use native.Mathlib.Omega.{arith}
 use lib.ListN.{length, getD, take, drop, set, replicate, getD-replicate, List·getD-eq-default, length-replicate}
-use lib.Seq.{sets, sets-eq, take-suc, take-all, length-take-le}
+use lib.Seq.{sets, take-suc, take-all, length-take-le}
 use Rattle.format.proofs.Lists.{sets-append}
 use Rattle.groups.specs.Groups.{count, firstsTo, sizesTo, sizeAt, Grown}
 use Rattle.groups.proofs.Cases.{less-or-not}

@@ -1,5 +1,5 @@
 -- Laws in the form in which the loops of the code need them.
-use Prim.Native.Nat.{ℕ, zero, suc, _+_, _-_, _%_, _<_, _≤_}
+use Prim.Native.Nat.{ℕ, zero, _+_, _-_, _%_, _<_, _≤_}
 use mathlib.Core.Path.{_≡_, refl, sym, ap, _∙_}
 use mathlib.Core.List.{List, _++_}
 use native.Mathlib.Nat.{mod-lt}
@@ -12,7 +12,7 @@ use Rattle.groups.specs.Groups.{keyAt, firstOf, numbersOf, count, firsts
 use Rattle.groups.specs.Chains.{bucketOf, Built, Sought, namesIn, Named, Tallied}
 use Rattle.groups.proofs.Firsts.{length-numbers, number-at}
 use Rattle.groups.proofs.Counts.{firsts-le, count-take-hit, count-take-miss, length-hit, length-miss}
-use Rattle.groups.proofs.Building.{built-none, built-first, built-later, name-at, length-names, tallied-none, tallied-own, tallied-for, tallied-all}
+use Rattle.groups.proofs.Building.{built-none, built-first, built-later, name-at, tallied-none, tallied-own, tallied-for, tallied-all}
 use Rattle.groups.proofs.Lists.{copy-more, copy-all, group-room, group-here, group-not, zero-at}
 
 -- ---- entries counted
@@ -115,9 +115,6 @@ module _ (hash : List ℕ → ℕ) (keys : List (List ℕ)) (n buckets k : ℕ) 
   place-later z = built-later hash keys n buckets k w built l bucket e i p (found .some z) (found .below)
 
 -- ---- loops that have come to their end
-
-pub built-all : (hash : List ℕ → ℕ) (keys : List (List ℕ)) (n buckets k : ℕ) (w : List ℕ) → k ≡ n → Built hash keys n buckets k w → Built hash keys n buckets n w
-built-all hash keys n buckets k w e b = rw e at b
 
 pub counted-all : (x : ℕ) (ns : List ℕ) (n k c : ℕ) → k ≡ n → c ≡ count x (take k ns) → c ≡ count x (take n ns)
 counted-all x ns n k c e g = rw e at g

@@ -1,6 +1,6 @@
 -- N3: for each record of a block the earliest record that is the same, and the sizes of the groups.
 use Prim.Native.Nat.{ℕ, _*_, _/_, _%_}
-use mathlib.Core.List.{List, [], _∷_}
+use mathlib.Core.List.{List, []}
 use lib.ListN.{length, take, drop}
 use lib.Dec.{leb, eqb}
 use Rattle.refusal.specs.declared.Refusal.the-variants.{WrongLength, NoRoom}

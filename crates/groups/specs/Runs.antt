@@ -1,6 +1,5 @@
 -- A type compiled: its fields as runs of bytes, neighbours that count whole made one.
 use Prim.Native.Nat.{ℕ, _+_, _*_, _/_, _%_, _≤_}
-use mathlib.Core.Path.{_≡_}
 use mathlib.Core.Bool.{Bool, false, cond, not, _&&_}
 use mathlib.Core.List.{List, [], _∷_}
 use lib.Dec.{eqb}

@@ -1,16 +1,15 @@
 -- `join`: one law for each way out.
 use Prim.Native.Nat.{ℕ, _+_, _*_, _/_, _%_, _<_, _≤_, min}
 use mathlib.Core.Path.{_≡_, refl, sym, ap, _∙_}
-use mathlib.Core.List.{List, [], _++_, append-nil}
+use mathlib.Core.List.{List, _++_}
 use native.Mathlib.Nat.{div-le-self}
 use native.Mathlib.Omega.{arith}
-use lib.ListN.{length, drop, replicate, drop-of-length-le}
+use lib.ListN.{length, drop, replicate}
 use lib.Seq.{sets}
 use mir.Val.{Fits}
 use mir.Syntax.{w64}
 use Rattle.refusal.specs.declared.Refusal.{Refusal}
 use Rattle.refusal.specs.declared.Refusal.the-variants.{WrongLength, NoRoom}
-use Rattle.format.specs.Bytes.{zeros}
 use Rattle.format.specs.Outcome.{Outcome, gives, refuses, whenGiven, needed, outputAfter, outcomeNumber, outcomeValues}
 use Rattle.format.specs.Ownership.{admission}
 use Rattle.format.proofs.Lists.{sets-front}
@@ -22,9 +21,9 @@ use Rattle.groups.specs.Groups.{firstsOf, distinctOf}
 use Rattle.groups.specs.Duplicates.{fieldsIn}
 use Rattle.groups.specs.Join.{recordsAt, Joint, jointOf, fittingJoint, joining}
 use Rattle.groups.proofs.JoinOutcomes.{length-joint, joint-le, joint-short, joint-given, joining-refused, joining-first-length, joining-second-length, joining-whole}
-use Rattle.groups.proofs.Keys.{length-keys}
 use Rattle.groups.proofs.Records.{records-of-both}
-use Rattle.firsts.specs.Records.{Whole, keysIn, Comparable}
+use Rattle.firsts.specs.Records.{keysIn, Comparable}
+use Rattle.firsts.proofs.Compiling.{all-cleared}
 use Rattle.firsts.proofs.KeyLaws.{admits-some, admits-admission, length-in}
 use Rattle.join.specs.Answers.{joiningNumber, joiningValues, jointValues, joiningOf, bytesGiven, JoinAnswered, JoiningIs}
 use Rattle.join.specs.declared.outcome.Joining.{Joining}
@@ -47,9 +46,6 @@ joined-by o j bytes records out out′ h l r f q = rw h (record { answer = rw (l
 -- ---- whole records
 
 module _ (table pool a b : List ℕ) (size d : ℕ) (e : d ≡ distinctOf (keysIn table pool a b size)) where
-  joint : Joint
-  joint = jointOf (fieldsIn table pool) a b size
-
   bytes-are : d * size ≡ length (jointOf (fieldsIn table pool) a b size .bytes)
   unfolding keysIn
   bytes-are = rw e (sym (length-joint (fieldsIn table pool) a b size))
@@ -117,9 +113,6 @@ told (refuses x) r e = (ap joiningNumber e, ap joiningValues e)
 
 pub all-told : (o : Outcome Joint) (r : Joining) (out out′ w w′ w″ : List ℕ) → JoinAnswered o r out out′ → length w′ ≡ length w
     → w″ ≡ replicate (length w′) 0 ++ drop (length w′) w′ → JoiningIs o r out out′ w w″
-unfolding zeros
 all-told o r out out′ w w′ w″ a l z =
     let t = told o r (a .answer) in
-    let m : length w′ ≤ length w′ = omega arith in
-    let d : drop (length w′) w′ ≡ [] = drop-of-length-le w′ m in
-    record { answer = a .answer; number = t .0; values = t .1; out-is = a .out-is; work-is = z ∙ rw (d, append-nil, l) }
+    record { answer = a .answer; number = t .0; values = t .1; out-is = a .out-is; work-is = all-cleared w w′ w″ l z }

@@ -2,7 +2,7 @@ use Prim.Native.Nat.{_-_, _≤_}
 use mathlib.Core.Path.{_≡_, refl}
 use mathlib.Core.Logic.{⊎-elim}
 use native.Mathlib.Omega.{arith}
-use lib.ListN.{length, take}
+use lib.ListN.{take}
 use Rattle.groups.specs.Groups.{count}
 use Rattle.groups.proofs.Ways.{counted-hit, counted-miss, counted-all}
 use Rattle.duplicates.proofs.lists.count_entries.Statement.{statement}
