@@ -7,23 +7,20 @@ use mathlib.Core.List.{List, [], _++_, append-nil}
 use native.Mathlib.Omega.{arith}
 use native.Mathlib.Nat.{zero-mod, div-le-self}
 use lib.ListN.{length, drop, replicate}
-use lib.Dec.{ltb, leb, eqb}
-use borrow.Author.Tests.{le-leb, lt-leb, ltb-true, ltb-false, eq-eqb, ne-eqb}
+use lib.Dec.{ltb}
+use borrow.Author.Tests.{ltb-true, ltb-false}
 use Rattle.refusal.specs.declared.Refusal.{Refusal}
 use Rattle.refusal.specs.declared.Refusal.the-variants.{WrongLength, NoRoom}
-use Rattle.format.specs.Datatype.{typeSize}
-use Rattle.format.specs.Image.{fieldsOf}
-use Rattle.format.specs.Outcome.{Outcome, gives, refuses, whenGiven, unless, needed, outputAfter, outcomeNumber, outcomeValues}
+use Rattle.format.specs.Outcome.{Outcome, gives, refuses, whenGiven, needed, outputAfter, outcomeNumber, outcomeValues}
 use Rattle.format.specs.Ownership.{admission}
-use Rattle.format.proofs.Admission.{admission-refused}
 use Rattle.format.proofs.Booleans.{true-or-false}
-use Rattle.format.proofs.Ownership.{admitting-given}
 use Rattle.compare.specs.Agreeing.{Admits, admissionOf}
 use Rattle.compare.specs.declared.Admission.{Admission}
 use Rattle.compare.specs.declared.Admission.the-variants.{Refused as AdmissionRefused}
 use Rattle.compare.proofs.Comparing.{refused-admission}
 use Rattle.groups.specs.Groups.{numbersOf, firstsOf, distinctOf, sizesOf}
-use Rattle.groups.specs.Duplicates.{Groups, keysOf, fieldsIn, groupsOf, fitting, duplicatingRecords, duplicating}
+use Rattle.groups.specs.Duplicates.{Groups, keysOf, fieldsIn, groupsOf, duplicating}
+use Rattle.groups.proofs.Outcomes.{duplicating-refused, duplicating-length, duplicating-numbers, duplicating-sizes, duplicating-given}
 use Rattle.groups.proofs.Firsts.{length-numbers}
 use Rattle.groups.proofs.Keys.{length-keys}
 use Rattle.groups.proofs.Counts.{length-sizes, firsts-le}
@@ -32,7 +29,7 @@ use Rattle.firsts.specs.Records.{keysIn, Comparable}
 use Rattle.duplicates.specs.declared.outcome.Duplicates.{Duplicates}
 use Rattle.duplicates.specs.declared.outcome.Duplicates.the-variants.{Found, Refused}
 use Rattle.firsts.proofs.Compiling.{all-cleared}
-use Rattle.firsts.proofs.KeyLaws.{admits-some, fields-in}
+use Rattle.firsts.proofs.KeyLaws.{admits-some, admits-admission}
 
 -- ---- a refusal leaves both lists as they are
 
@@ -43,8 +40,7 @@ record-refused o e m s h = rw h (record { answer = refl; numbers-are = refl; siz
 pub answer-refused : (table pool block m s : List ℕ) {x : Admission} → x ≡ admissionOf (admission table pool) → (e : Refusal) → x ≡ AdmissionRefused e
     → Answered (duplicating table pool block (length m) (length s)) (Refused e) m m s s
 answer-refused table pool block m s h e q =
-    record-refused (duplicating table pool block (length m) (length s)) e m s
-    (unfold duplicating duplicatingRecords in admission-refused table pool (λ t. unless (eqb (length block % typeSize t) 0) WrongLength (fitting (length m) (length s) (keysOf (fieldsOf t) block (typeSize t)))) e (refused-admission table pool h e q))
+    record-refused (duplicating table pool block (length m) (length s)) e m s (duplicating-refused table pool e (refused-admission table pool h e q) block (length m) (length s))
 
 -- ---- what is written, by the answer
 
@@ -70,9 +66,9 @@ module _ (table pool block : List ℕ) (size : ℕ) (g : Admits table pool size)
   abbrev keys : List (List ℕ)
   keys = keysIn table pool block [] size
 
-  keys-type : keysOf (fieldsOf (g .type)) block (typeSize (g .type)) ≡ keys
+  keys-are : keysOf (fieldsIn table pool) block size ≡ keys
   unfolding keysIn
-  keys-type = rw (append-nil block, fields-in table pool size g, g .size-is)
+  keys-are = rw (append-nil block)
 
   pub keys-count : (n : ℕ) → n ≡ length block / size → n ≡ length keys
   unfolding keysIn
@@ -81,49 +77,33 @@ module _ (table pool block : List ℕ) (size : ℕ) (g : Admits table pool size)
   pub keys-comparable : length block % size ≡ 0 → Comparable table pool block [] size
   keys-comparable h = record { admits = g; whole = record { some = admits-some table pool size g; first = h; second = zero-mod size } }
 
-  module _ (room places : ℕ) where
-    given : duplicating table pool block room places ≡ unless (eqb (length block % size) 0) WrongLength (fitting room places keys)
-    unfolding duplicating duplicatingRecords whenGiven
-    given = rw (g .is, ← keys-type, g .size-is) (admitting-given (g .type) _ (g .admitted .sized) (g .admitted .inside) (g .admitted .plain))
-
   module _ (m s : List ℕ) where
     pub sized-length : (length block % size ≡ 0 → ⊥) → Answered (duplicating table pool block (length m) (length s)) (Refused WrongLength) m m s s
-    unfolding unless
-    sized-length d = record-refused _ WrongLength m s (given (length m) (length s) ∙ rw (ne-eqb (length block % size) 0 d))
+    sized-length d = record-refused _ WrongLength m s (duplicating-length table pool block (length m) (length s) size (admits-admission table pool size g) d)
 
     module _ (h : length block % size ≡ 0) (n : ℕ) (e : n ≡ length block / size) (low : length block * 1 < 9223372036854775808) where
       low-number : n < 9223372036854775808
       low-number = omega (arith, div-le-self (length block) size)
 
-      whole : duplicating table pool block (length m) (length s) ≡ fitting (length m) (length s) keys
-      unfolding unless
-      whole = given (length m) (length s) ∙ rw (eq-eqb (length block % size) 0 h)
-
       pub sized-room : length m < n → Answered (duplicating table pool block (length m) (length s)) (Refused (NoRoom n)) m m s s
-      unfolding fitting unless needed
+      unfolding needed
       sized-room l =
-          let k : length keys ≡ n = sym (keys-count n e) in
-          let c : min n 18446744073709551615 ≡ n = omega (arith, low-number) in
-          record-refused _ (NoRoom n) m s (whole ∙ rw (k, lt-leb n (length m) l, c))
+          let c : min (length block / size) 18446744073709551615 ≡ n = omega (arith, low-number) in
+          record-refused _ (NoRoom n) m s (duplicating-numbers table pool block (length m) (length s) size (admits-admission table pool size g) h (omega arith) ∙ rw c)
 
       module _ (l : n ≤ length m) where
-        roomy : duplicating table pool block (length m) (length s) ≡ unless (leb (distinctOf keys) (length s)) (NoRoom (needed (distinctOf keys))) (gives (groupsOf keys))
-        unfolding fitting unless
-        roomy = whole ∙ (let k : length keys ≡ n = sym (keys-count n e) in rw (k, le-leb n (length m) l))
-
         few : distinctOf keys ≤ n
         unfolding distinctOf firstsOf
         few = omega (arith, firsts-le (numbersOf keys) (length keys), keys-count n e)
 
         full : distinctOf keys ≤ length s → duplicating table pool block (length m) (length s) ≡ gives (groupsOf keys)
-        unfolding unless
-        full q = roomy ∙ rw (le-leb (distinctOf keys) (length s) q)
+        full q = duplicating-given table pool block (length m) (length s) size (admits-admission table pool size g) h (omega arith) (rw keys-are q) ∙ rw keys-are
 
         short : length s < distinctOf keys → duplicating table pool block (length m) (length s) ≡ refuses (NoRoom (distinctOf keys))
-        unfolding unless needed
+        unfolding needed
         short q =
             let c : min (distinctOf keys) 18446744073709551615 ≡ distinctOf keys = omega (arith, few, low-number) in
-            roomy ∙ rw (lt-leb (distinctOf keys) (length s) q, c)
+            duplicating-sizes table pool block (length m) (length s) size (admits-admission table pool size g) h (omega arith) (rw keys-are q) ∙ rw (keys-are, c)
 
         module _ (r : Duplicates) (m′ s′ : List ℕ) (v : Listed (numbersOf keys) r m m′ s s′) where
           answer-is : r ≡ fittingAnswer (length keys) (distinctOf keys) (length s)

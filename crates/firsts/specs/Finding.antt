@@ -18,6 +18,7 @@ pub record Heads (rs : List Field) (n r : ℕ) (w : List ℕ) : Type 0 where
 pub record Known (ns : List ℕ) (n buckets : ℕ) (w : List ℕ) : Type 0 where
   pub tallied : 0 < buckets → Tallied ns n buckets n w
 
+-- what the search answers, and what it leaves
 pub record FirstsAre (keys : List (List ℕ)) (n : ℕ) (r : Firsts) (w : List ℕ) : Type 0 where
   pub distinct : r .distinct ≡ distinctOf keys
   pub known : Known (numbersOf keys) n (r .buckets) w

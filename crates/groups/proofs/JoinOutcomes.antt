@@ -2,9 +2,7 @@
 use Prim.Native.Nat.{ℕ, _+_, _*_, _/_, _%_, _<_, _≤_}
 use mathlib.Core.Path.{_≡_, refl, ap, _∙_}
 use mathlib.Core.Logic.{_⊎_, inl, inr, _↔_, ⊎-elim}
-use mathlib.Core.Bool.{false}
 use mathlib.Core.List.{List, _++_}
-use mathlib.Core.Option.{none}
 use native.Mathlib.Nat.{mul-le-mul-right, div-mul-le-self}
 use native.Mathlib.Omega.{arith}
 use lib.ListN.{length, length-append}
@@ -13,22 +11,19 @@ use borrow.Author.Tests.{eq-eqb, ne-eqb, le-leb, lt-leb}
 use Rattle.refusal.specs.Refusal.{numberOf}
 use Rattle.refusal.specs.declared.Refusal.{Refusal}
 use Rattle.refusal.specs.declared.Refusal.the-variants.{WrongLength, NoRoom}
-use Rattle.format.specs.Datatype.{Datatype, typeSize}
+use Rattle.format.specs.Datatype.{typeSize}
 use Rattle.format.specs.Image.{Field, fieldsOf}
-use Rattle.format.specs.Outcome.{Outcome, gives, refuses, whenGiven, unless, needed}
-use Rattle.format.specs.Ownership.{outside, heapHeld, admission}
-use Rattle.format.specs.Slots.{firstZero}
-use Rattle.format.specs.Table.{typeOf}
-use Rattle.format.proofs.Admission.{admission-refused, admission-given}
-use Rattle.format.proofs.Ownership.{admitting-given}
+use Rattle.format.specs.Outcome.{Outcome, gives, refuses, unless, needed}
+use Rattle.format.specs.Ownership.{admission}
+use Rattle.format.proofs.Admission.{admission-refused}
 use Rattle.groups.specs.Groups.{numbersOf, firstsOf, distinctOf}
-use Rattle.groups.specs.Duplicates.{keysOf, fieldsGiven, fieldsIn}
+use Rattle.groups.specs.Duplicates.{keysOf, fieldsIn}
 use Rattle.groups.specs.Join.{Joint, jointOf, fittingJoint, joiningRecords, joining}
 use Rattle.groups.proofs.Cases.{same-or-not, less-or-not}
 use Rattle.groups.proofs.Counts.{firsts-le}
 use Rattle.groups.proofs.Keys.{length-keys}
 use Rattle.groups.proofs.Records.{length-records-firsts}
-use Rattle.groups.proofs.Outcomes.{admission-number, not-given, not-equal}
+use Rattle.groups.proofs.Outcomes.{admission-passes, admission-number, not-given, not-equal}
 
 -- each record kept is whole
 module _ (fs : List Field) (a b : List ℕ) (size : ℕ) where
@@ -63,21 +58,14 @@ joining-refused table pool e h a b room =
     (λ t. unless (eqb (length a % typeSize t) 0) WrongLength (unless (eqb (length b % typeSize t) 0) WrongLength (fittingJoint room (jointOf (fieldsOf t) a b (typeSize t)))))
     e h
 
--- what waits behind the admission of a type
-behind : (table pool a b : List ℕ) (room size : ℕ) (t : Datatype) → typeOf table pool ≡ gives t → firstZero t ≡ none → outside t ≡ false → heapHeld t ≡ false
-    → size ≡ typeSize t
-    → joining table pool a b room
-    ≡ unless (eqb (length a % size) 0) WrongLength (unless (eqb (length b % size) 0) WrongLength (fittingJoint room (jointOf (fieldsIn table pool) a b size)))
-unfolding joining joiningRecords fieldsIn fieldsGiven whenGiven
-behind table pool a b room size t i z o p s = rw (i, s) (admitting-given t _ z o p)
-
 -- from here on the type is admitted and has the size `size`
 module _ (table pool a b : List ℕ) (room size : ℕ) (h : admission table pool ≡ gives size) where
   admitted : joining table pool a b room
       ≡ unless (eqb (length a % size) 0) WrongLength (unless (eqb (length b % size) 0) WrongLength (fittingJoint room (jointOf (fieldsIn table pool) a b size)))
+  unfolding joining joiningRecords
   admitted =
-      let w = admission-given table pool size h in
-      behind table pool a b room size (w .type) (w .is) (w .sized) (w .inside) (w .plain) (w .size-is)
+      admission-passes table pool size h
+      (λ fs n. unless (eqb (length a % n) 0) WrongLength (unless (eqb (length b % n) 0) WrongLength (fittingJoint room (jointOf fs a b n))))
 
   -- "first block before second"
   pub joining-first-length : (length a % size ≡ 0 → ⊥) → joining table pool a b room ≡ refuses WrongLength

@@ -410,3 +410,61 @@ module _ (table pool a b : List ℕ) (size : ℕ) (d : admission table pool ≡ 
         (s .2)
         (f (s .0) (s .1))),
   )
+
+-- the same of a record of the second block and all records before it: those that were kept of both blocks are enough
+pub record KeptDiffer (table pool a b : List ℕ) (size : ℕ) (ks ls : List ℕ) (k : ℕ) : Type 0 where
+  pub from-first : (i : ℕ) → i < length ks → comparing table pool (recordAt a size (getD ks i 0)) (recordAt b size k) ≡ gives false
+  pub from-second : (i : ℕ) → i < length ls → getD ls i 0 < k → DifferAt table pool b size (getD ls i 0) k
+
+module _ (table pool a b : List ℕ) (size : ℕ) (d : admission table pool ≡ gives size) (p : 0 < size) (w : length a % size ≡ 0) (ks ls : List ℕ)
+    (first : KeptExactly table pool [] a size ks) (second : KeptExactly table pool a b size ls) (k : ℕ) (h : k < length b / size) where
+  all-numbers : List ℕ
+  all-numbers = numbersOf (keysOf (fieldsIn table pool) (a ++ b) size)
+
+  both-in : NumbersExactly table pool (a ++ b) size (length a / size + length b / size) all-numbers
+  unfolding all-numbers
+  both-in = rw (records-of-both a b size w p) at (numbers-in table pool (a ++ b) size d)
+
+  module _ (e : KeptDiffer table pool a b size ks ls k) where
+    before-differ : (j : ℕ) → j < length a / size → comparing table pool (recordAt a size j) (recordAt b size k) ≡ gives false
+    before-differ = kept-enough table pool a b size d ks first k h .1 (e .from-first)
+
+    -- an earlier record of the second block, by its first: in the first block, or in the second
+    module _ (j : ℕ) (l : j < k) (f : ℕ) (i : getD all-numbers (length a / size + j) 0 ≡ f) where
+      by-first : f < length a / size → DifferAt table pool b size j k
+      unfolding DifferAt SameAt
+      by-first m =
+          let s = both-in .same (length a / size + j) (omega arith) in
+          let t : comparing table pool (recordAt a size f) (recordAt b size j) ≡ gives true =
+          rw (i, record-first a b size f m, record-second a b size w j) at s in
+          differs-alike table pool size d (recordAt a size f) (recordAt b size j) (recordAt b size k)
+          (record-long a size f m) (record-long b size j (omega arith)) (record-long b size k h) t (before-differ f m)
+
+      by-second : length a / size ≤ f → DifferAt table pool b size j k
+      unfolding DifferAt SameAt
+      by-second m =
+          let g = f - length a / size in
+          let o : length a / size + (f - length a / size) ≡ f = omega arith in
+          let n : f ≤ length a / size + j = omega (arith, both-in .not-later (length a / size + j) (omega arith)) in
+          let s = both-in .same (length a / size + j) (omega arith) in
+          let own : getD all-numbers f 0 ≡ f =
+          rw i at (both-in .equal-if (getD all-numbers (length a / size + j) 0) (length a / size + j) (omega arith) (omega arith) s) in
+          let alone = second-alone table pool a b size all-numbers w both-in g (omega arith) (rw o own) in
+          let c = second .all g (omega arith) alone in
+          let t : comparing table pool (recordAt b size g) (recordAt b size j) ≡ gives true =
+          rw (i, ← o, record-second a b size w g, record-second a b size w j) at s in
+          differs-alike table pool size d (recordAt b size g) (recordAt b size j) (recordAt b size k)
+          (record-long b size g (omega arith)) (record-long b size j (omega arith)) (record-long b size k h) t
+          (rw (c .is) at (e .from-second (c .place) (c .inside) (omega (arith, c .is))))
+
+    earlier-differ : (j : ℕ) → j < k → DifferAt table pool b size j k
+    earlier-differ j l =
+        let f = getD all-numbers (length a / size + j) 0 in
+        ⊎-elim (by-first j l f refl) (by-second j l f refl) (less-or-not f (length a / size))
+
+  pub kept-enough-of-both : NoTwin table pool a b size k ↔ KeptDiffer table pool a b size ks ls k
+  kept-enough-of-both = (
+    (λ (t : NoTwin table pool a b size k).
+        record { from-first = λ i l. t .among-before (getD ks i 0) (first .inside i l); from-second = λ i l m. t .earlier (getD ls i 0) m }),
+    (λ (e : KeptDiffer table pool a b size ks ls k). record { among-before = before-differ e; earlier = earlier-differ e }),
+  )

@@ -14,7 +14,7 @@ use Rattle.refusal.specs.Refusal.{numberOf}
 use Rattle.refusal.specs.declared.Refusal.{Refusal}
 use Rattle.refusal.specs.declared.Refusal.the-variants.{BadTable, ZeroSize, OutsideRecord, HeapHeld, WrongLength, NoRoom}
 use Rattle.format.specs.Datatype.{Datatype, typeSize}
-use Rattle.format.specs.Image.{fieldsOf, agree}
+use Rattle.format.specs.Image.{Field, fieldsOf, agree}
 use Rattle.format.specs.Outcome.{Outcome, gives, refuses, whenGiven, unless, needed}
 use Rattle.format.specs.Ownership.{outside, heapHeld, admitting, admission, comparingRecords, comparing}
 use Rattle.format.specs.Slots.{firstZero, unlessZero}
@@ -55,19 +55,23 @@ module _ (table pool : List ℕ) (e : Refusal) (h : admission table pool ≡ ref
   comparing-refused-alike a b =
       admission-refused table pool (λ t. unless (eqb (length a) (typeSize t) && eqb (length b) (typeSize t)) WrongLength (gives (agree t a b))) e h
 
--- what waits behind the admission of a type
-behind : (table pool block : List ℕ) (room places size : ℕ) (t : Datatype) → typeOf table pool ≡ gives t → firstZero t ≡ none → outside t ≡ false → heapHeld t ≡ false
-    → size ≡ typeSize t
-    → duplicating table pool block room places ≡ unless (eqb (length block % size) 0) WrongLength (fitting room places (keysOf (fieldsIn table pool) block size))
-unfolding duplicating duplicatingRecords fieldsIn fieldsGiven whenGiven
-behind table pool block room places size t i z o p s = rw (i, s) (admitting-given t _ z o p)
+-- what waits behind the admission of a type is met with its fields and size
+passes : {A : Type 0} (table pool : List ℕ) (size : ℕ) (t : Datatype) → typeOf table pool ≡ gives t → firstZero t ≡ none → outside t ≡ false → heapHeld t ≡ false → size ≡ typeSize t
+    → (f : List Field → ℕ → Outcome A) → whenGiven (typeOf table pool) (λ u. admitting u (f (fieldsOf u) (typeSize u))) ≡ f (fieldsIn table pool) size
+unfolding fieldsIn fieldsGiven whenGiven
+passes table pool size t i z o p s f = rw (i, s) (admitting-given t (f (fieldsOf t) (typeSize t)) z o p)
+
+pub admission-passes : {A : Type 0} (table pool : List ℕ) (size : ℕ) → admission table pool ≡ gives size → (f : List Field → ℕ → Outcome A)
+    → whenGiven (typeOf table pool) (λ u. admitting u (f (fieldsOf u) (typeSize u))) ≡ f (fieldsIn table pool) size
+admission-passes table pool size h f =
+    let a = admission-given table pool size h in
+    passes table pool size (a .type) (a .is) (a .sized) (a .inside) (a .plain) (a .size-is) f
 
 -- from here on the type is admitted and has the size `size`
 module _ (table pool block : List ℕ) (room places size : ℕ) (h : admission table pool ≡ gives size) where
   admitted : duplicating table pool block room places ≡ unless (eqb (length block % size) 0) WrongLength (fitting room places (keysOf (fieldsIn table pool) block size))
-  admitted =
-      let a = admission-given table pool size h in
-      behind table pool block room places size (a .type) (a .is) (a .sized) (a .inside) (a .plain) (a .size-is)
+  unfolding duplicating duplicatingRecords
+  admitted = admission-passes table pool size h (λ fs n. unless (eqb (length block % n) 0) WrongLength (fitting room places (keysOf fs block n)))
 
   -- "A block that isn't a whole number of records is WrongLength"
   pub duplicating-length : (length block % size ≡ 0 → ⊥) → duplicating table pool block room places ≡ refuses WrongLength
