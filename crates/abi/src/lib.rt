@@ -1,5 +1,7 @@
 // The functions for C and Rust hosts. A slice is a pointer and a length. Each but `class_may_hold_object_address` returns 0 or the refusal's
 // number, and puts its result, or the refusal's values, into `first` and `second` (0 where there is none).
+#![tactic(auto)]
+
 ghost use Rattle.std.specs.Prelude.{◌≡◌, [], ◌∷◌, min, length, get_or};
 ghost use Rattle.refusal.specs.Refusal.{number_of, values_of};
 ghost use Rattle.format.specs.Bytes.{zeros};

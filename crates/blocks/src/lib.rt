@@ -1,5 +1,7 @@
 // A view of a record block: its bytes with the record size. The thin functions over the view are proved by hand; the work is in the
 // functions over a plain slice and numbers.
+#![tactic(auto)]
+
 ghost use Rattle.std.specs.Prelude.{◌≡◌};
 ghost use Rattle.format.specs.Ownership.{comparing};
 ghost use Rattle.format.specs.Slots.{record_count_of};

@@ -1,4 +1,6 @@
 // Runs document 01's cases of reading, the examples of its readings and one of each refusal, and writes what each gives.
+#![tactic(auto)]
+
 mod messages;
 
 fn main() {

@@ -1,4 +1,6 @@
 // Runs document 02's cases of records that are the same as an earlier one, and one of each refusal, and writes what each gives.
+#![tactic(auto)]
+
 mod calls;
 mod lengths;
 mod types;

@@ -1,4 +1,6 @@
 // Runs the listing that the program `fields` prints on worked types, and the line of each refusal.
+#![tactic(auto)]
+
 mod listings;
 mod refusals;
 

@@ -1,4 +1,6 @@
 // Runs document 02's cases of two blocks made one, and one of each refusal, and writes what each gives.
+#![tactic(auto)]
+
 mod blocks;
 mod calls;
 mod workspaces;

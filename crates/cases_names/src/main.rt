@@ -1,4 +1,6 @@
 // Runs document 02's cases of names with leftovers, and writes what each gives.
+#![tactic(auto)]
+
 mod stop_names;
 
 fn main() {

@@ -1,4 +1,6 @@
 // Runs document 01's cases of comparing, and one of each refusal, and writes what each gives.
+#![tactic(auto)]
+
 mod records;
 mod tables;
 

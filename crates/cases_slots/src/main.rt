@@ -1,4 +1,6 @@
 // Runs document 01's cases of sizes, slots and references, members' names, and one of each refusal, and writes what each gives.
+#![tactic(auto)]
+
 mod calls;
 mod types;
 

@@ -1,4 +1,6 @@
 // What the programs share: the answer to `--help`, and whether what they are given is an HDF5 file.
+#![tactic(auto)]
+
 ghost use Rattle.std.specs.Prelude.{◌≡◌};
 ghost use Rattle.command.specs.Starts.{starts_as, signature, help_word};
 ghost use Rattle.format.specs.Table.{same_words};

@@ -1,4 +1,6 @@
 // Whether two records are the same: they agree on each byte that a field owns, as it is taken.
+#![tactic(auto)]
+
 ghost use Rattle.std.specs.Prelude.{◌≡◌, true, false, not, ◌+◌, ◌*◌, ◌-◌, ◌≤◌, ◌<◌, length};
 ghost use Rattle.format.specs.Image.{no_nul_between};
 ghost use Rattle.format.specs.Outcome.{gives};

@@ -1,4 +1,6 @@
 // `duplicates`: which records of a block are the same as an earlier one.
+#![tactic(auto)]
+
 mod lists;
 pub mod outcome;
 

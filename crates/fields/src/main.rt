@@ -1,5 +1,7 @@
 // Reads a message on standard input and writes the fields of its type, one a line, or the refusal. Where standard input is no message at all,
 // a line on standard error says what it is. With an argument it writes its usage.
+#![tactic(auto)]
+
 ghost use Rattle.io.specs.Counts.{IsPrefixLen};
 
 use listing::{Listing, list_fields, list_refusal};

@@ -1,4 +1,6 @@
 // The first of each record of two blocks of one type: the earliest record that is the same.
+#![tactic(auto)]
+
 mod chains;
 pub mod counts;
 mod plain;

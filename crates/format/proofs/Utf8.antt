@@ -163,6 +163,7 @@ cond-sized false x y h k = k
 pub step-sized : (st : Utf8State) (b : ℕ) → Sized st → Sized (step st b).next
 unfolding step broken
 step-sized ready b h = begin-sized b _ (leads-sized b)
+step-sized (waiting w zero lo hi) b h = elim h [ ]
 step-sized (waiting w (suc n) lo hi) b (sized-waiting h k) =
     cond-sized
     (leb lo b && leb b hi)
@@ -309,6 +310,7 @@ cond_short false n x y h k = k
 step-short : (st : Utf8State) (b : ℕ) → Sized st → Short (length (carried st) + 1) (step st b)
 unfolding step carried
 step-short ready b h = begin-short b (up_to leads b)
+step-short (waiting w zero lo hi) b h = elim h [ ]
 step-short (waiting w (suc n) lo hi) b (sized-waiting h k) =
     cond_short
     (leb lo b && leb b hi)
@@ -321,6 +323,7 @@ step-short (waiting w (suc n) lo hi) b (sized-waiting h k) =
 mended-short : (st : Utf8State) (s : List ℕ) → Sized st → length (mended_from st s) ≤ 3 * (length (carried st) + length s)
 unfolding mended_from at_end
 mended-short ready [] h = omega arith
+mended-short (waiting w zero lo hi) [] h = elim h [ ]
 mended-short (waiting w (suc n) lo hi) [] (sized-waiting h k) = unfold carried replacement in omega arith
 mended-short st (b ∷ s) h =
     omega (

@@ -1,4 +1,5 @@
 // Types that the definitions of the format speak of. The definitions are in specs/, their theorems in proofs/.
+#![tactic(auto)]
 
 // The first eight bytes of a datatype message, the third flag byte left out: nothing reads it.
 #[derive(Drop)]

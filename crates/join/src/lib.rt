@@ -1,4 +1,6 @@
 // `join`: two blocks of one type made one.
+#![tactic(auto)]
+
 pub mod outcome;
 
 ghost use Rattle.std.specs.Prelude.{◌≡◌, ◌++◌, ◌+◌, ◌≤◌, ◌<◌, length, get_or, eqb};

@@ -1,4 +1,6 @@
 // Records compared and hashed by the runs of bytes that a type counts: two words a run, as `groups` decodes them.
+#![tactic(auto)]
+
 ghost use Rattle.std.specs.Prelude.{◌≡◌, [], ◌∷◌, ◌+◌, ◌*◌, ◌/◌, ◌%◌, ◌≤◌, ◌<◌, length, take, drop};
 ghost use Rattle.format.specs.Image.{image_from, compared_of};
 ghost use Rattle.format.specs.Table.{same_words};

@@ -1,4 +1,6 @@
 // What a message of the type in a table would be: whether it can be stored, whether an edition carries it, and how long it is.
+#![tactic(auto)]
+
 ghost use Rattle.std.specs.Prelude.{◌≡◌, true, ◌&&◌, ◌+◌, ◌*◌, ◌≤◌, ◌<◌, length, take, drop, get_or};
 ghost use Rattle.format.specs.Bytes.{dimensions_from};
 ghost use Rattle.format.specs.Message.{storable_variable};

@@ -1,4 +1,6 @@
 // Reads a name up to its NUL and stores it, made valid UTF-8, in one pass; tells whether a name is valid.
+#![tactic(auto)]
+
 ghost use Rattle.std.specs.Prelude.{◌≡◌, [], ◌∷◌, ◌++◌, ◌+◌, ◌-◌, ◌≤◌, ◌<◌, length, take, drop, ◌&&◌};
 ghost use Rattle.format.specs.Message.{no_nul};
 ghost use Rattle.format.specs.Utf8.{up_to, leads, begin, broken, going, step, carried, at_end, well_formed};

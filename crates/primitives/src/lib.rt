@@ -1,4 +1,6 @@
 // The small functions that reading, writing and the walks share, from the Rust's `datatype.rs`.
+#![tactic(auto)]
+
 ghost use Rattle.std.specs.Prelude.{◌≡◌, ◌+◌, ◌*◌, ◌-◌, ◌≤◌, ◌<◌, min, ◌++◌, length, take, drop};
 ghost use Rattle.std.proofs.lemmas.List.Edits.{sets};
 ghost use Rattle.format.specs.Bytes.{number_from, little_endian, padding_to8, zeros};

@@ -1,4 +1,6 @@
 // Reading a datatype message: `Datatype::parse` over a lent table and pool.
+#![tactic(auto)]
+
 ghost use Rattle.std.specs.Prelude.{◌+◌, ◌*◌, ◌<◌, ◌≤◌, length};
 ghost use Rattle.format.specs.Reading.{read_members_of, read_type_of};
 ghost use Rattle.reading.specs.Contract.{run, Ready, AfterType, AfterMembers};

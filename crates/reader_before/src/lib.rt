@@ -1,4 +1,6 @@
 // What is read of a type before its properties or a nested message: the header, codes and versions, an array's dimensions.
+#![tactic(auto)]
+
 ghost use Rattle.std.specs.Prelude.{◌≡◌, ◌+◌, ◌<◌, ◌≤◌};
 ghost use Rattle.format.specs.Reading.{class_kind};
 ghost use Rattle.format.specs.Table.{isVariableLength, isArray};

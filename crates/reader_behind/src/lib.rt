@@ -1,5 +1,7 @@
 // A compound member up to its type, and what stands behind a nested message: an enumeration's names and values, rows over a base, the
 // size check.
+#![tactic(auto)]
+
 ghost use Rattle.std.specs.Prelude.{◌≡◌, List, [], ◌∷◌, ℕ, ◌+◌, ◌*◌, ◌<◌, ◌≤◌, min, length, take, drop};
 ghost use Rattle.std.proofs.lemmas.List.Edits.{sets};
 ghost use Rattle.format.specs.Bytes.{dimensions_from};

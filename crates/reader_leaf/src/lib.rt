@@ -1,4 +1,6 @@
 // The types with no type inside: classes 0 to 5 and 7. Each checks its codes, seeks its properties whole, and stores its row.
+#![tactic(auto)]
+
 ghost use Rattle.std.specs.Prelude.{◌≡◌, true, ℕ, ◌+◌, ◌<◌, ◌≤◌, length};
 ghost use Rattle.format.specs.Reading.{class_kind, sized};
 ghost use Rattle.format.specs.Table.{is_leaf, isFixedPoint, isFloatingPoint, isTime, is_string_of, isBitField, isOpaque, isReference};

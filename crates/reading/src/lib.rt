@@ -1,4 +1,6 @@
 // The types that the reader's functions hand to each other. Their contracts are in specs/, the laws that prove them in proofs/.
+#![tactic(auto)]
+
 use format::Header;
 use refusal::Refusal;
 

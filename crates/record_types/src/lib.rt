@@ -1,4 +1,6 @@
 // For the programs that run cases of blocks of records: messages of the types that the records are of, and a type read behind the label of a case.
+#![tactic(auto)]
+
 use reading::Reading;
 use show::{refusal_line, text};
 

@@ -1,4 +1,6 @@
 // The refusals of document 01, with their numbers and values.
+#![tactic(auto)]
+
 ghost use Rattle.std.specs.Prelude.{◌≡◌};
 ghost use Rattle.refusal.specs.Refusal.{number_of, values_from};
 

@@ -1,4 +1,6 @@
 // Runs the samples of the two files that its arguments name, and writes for each whether the library answers as the file says.
+#![tactic(auto)]
+
 mod differences;
 mod entries;
 mod files;

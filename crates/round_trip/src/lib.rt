@@ -1,4 +1,6 @@
 // Demand 3 over the code: what `write` puts out, `read` gives back.
+#![tactic(auto)]
+
 ghost use Rattle.std.specs.Prelude.{◌≡◌};
 ghost use Rattle.round_trip.specs.Back.{Back};
 

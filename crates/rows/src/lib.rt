@@ -1,4 +1,6 @@
 // The rows of a lent table, one at a time: which columns a row of a kind uses, its codes, and its piece of the pool.
+#![tactic(auto)]
+
 ghost use Rattle.std.specs.Prelude.{◌≡◌, ◌+◌, ◌*◌, ◌/◌, ◌-◌, ◌≤◌, ◌<◌, length, take, drop, ◌&&◌, leb};
 ghost use Rattle.format.specs.Bytes.{all_zero};
 ghost use Rattle.rows.specs.Columns.{clear_columns_of, leaf_columns_of, group_columns_of, variable_length_columns_of, piece_columns_of};

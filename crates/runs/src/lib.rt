@@ -1,4 +1,6 @@
 // The runs of a type: its fields in walking order, neighbours that count whole made one, listed by one walk over the rows into a workspace.
+#![tactic(auto)]
+
 ghost use Rattle.std.specs.Prelude.{◌≡◌, not, ◌&&◌, ◌+◌, ◌*◌, ◌-◌, ◌≤◌, ◌<◌, length};
 ghost use Rattle.compare.specs.Agreeing.{field_at, Admits, is_field_of, is_string_of};
 ghost use Rattle.groups.specs.Duplicates.{fields_in_of};

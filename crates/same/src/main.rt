@@ -1,6 +1,8 @@
 // Says whether two records of a block are the same. Its arguments: a file with the datatype message, a file with the records, and the
 // numbers of two records, from 0, in decimal. It writes one line: `same`, `differs`, `refused` with number and values, or `error:` and what
 // is wrong with an argument. With `--help` it writes its usage.
+#![tactic(auto)]
+
 mod answers;
 mod buffers;
 mod files;

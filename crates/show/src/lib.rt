@@ -1,4 +1,6 @@
 // Lines on standard output for the programs: text, numbers, a refusal, and what a message reads as.
+#![tactic(auto)]
+
 ghost use Rattle.std.specs.Prelude.{length, ◌≤◌};
 
 use reading::Reading;

@@ -1,4 +1,6 @@
 // For the programs that run cases of comparing: two records of a type that is read first, at limit 15, into 64 rows and 256 pool bytes.
+#![tactic(auto)]
+
 use compare::Comparison;
 use reading::Reading;
 use show::{refusal_line, text};

@@ -1,4 +1,6 @@
 // For the programs that run cases: whether lent output, which is all 7 before a call, is as it was from a place on, or 0 up to it, and what a list holds.
+#![tactic(auto)]
+
 use show::{number, text};
 
 fn lent_line(untouched: bool, from: usize) {

@@ -1,4 +1,6 @@
 // `embedded_reference_slots`: where the object references of a record lie.
+#![tactic(auto)]
+
 ghost use Rattle.std.specs.Prelude.{◌≡◌, ◌+◌, ◌-◌, ◌*◌, ◌<◌, ◌≤◌, min, max, length};
 ghost use Rattle.format.specs.Slots.{last_end, moved_end_of};
 ghost use Rattle.rows.specs.Entries.{RowSays};

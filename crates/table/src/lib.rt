@@ -1,5 +1,7 @@
 // The check of a lent table, the sizes and address predicates of its type, the names of its members, and the path that a walk over it
 // carries.
+#![tactic(auto)]
+
 ghost use Rattle.std.specs.Prelude.{◌≡◌, true, ◌&&◌, ◌||◌, ℕ, ◌+◌, ◌*◌, ◌-◌, ◌≤◌, ◌<◌, min, eqb, ltb, length, take, drop};
 ghost use Rattle.format.specs.Bytes.{dimensions_from};
 ghost use Rattle.format.specs.Datatype.{product};

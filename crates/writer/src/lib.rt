@@ -1,4 +1,6 @@
 // Writing the message of the type in a table: `serialize`, in editions 1 to 3.
+#![tactic(auto)]
+
 ghost use Rattle.std.specs.Prelude.{◌≡◌, ◌+◌, ◌*◌, ◌-◌, ◌≤◌, ◌<◌, length};
 ghost use Rattle.format.specs.Table.{type_at, members_at};
 ghost use Rattle.rows.specs.Entries.{from_entry};

@@ -1,4 +1,6 @@
 // The pieces of a message, each stored at a place of `out`: numbers, names, headers, a leaf, the members of an enumeration.
+#![tactic(auto)]
+
 ghost use Rattle.std.specs.Prelude.{◌≡◌, true, ◌++◌, ℕ, ◌+◌, ◌*◌, ◌-◌, ◌/◌, ◌%◌, ◌≤◌, ◌<◌, length, take, drop};
 ghost use Rattle.format.specs.Bytes.{zeros, little_endian};
 ghost use Rattle.format.specs.Message.{header, name_bytes, offset_width, skipped_bytes_of, reserved_bytes_of, permutation_bytes_of, variable_flags, variable_charset, storable_variable};
