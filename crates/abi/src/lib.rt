@@ -40,7 +40,7 @@ use table::{Held, Sized, Using, element_size, extent, name_part, type_size};
 use writer::{Writing, write};
 
 // The answer of a call: 0 or the refusal's number, and two values, 0 for each that is not there.
-#[derive(Drop)]
+#[derive(Clone, Copy)]
 struct Answer {
     number: u32,
     first: u64,

@@ -14,7 +14,7 @@ use compare::Comparison;
 use references::{References, at_least_one};
 
 // A block of records, and the size of one, where 0 counts as 1.
-#[derive(Drop)]
+#[derive(Clone, Copy)]
 pub struct Block<'a> {
     pub bytes: &'a [u8],
     pub record_size: u64,

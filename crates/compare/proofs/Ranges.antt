@@ -2,7 +2,7 @@
 use Prim.Native.Nat.{ℕ, zero, suc, ◌+◌, ◌-◌, ◌*◌, ◌<◌, ◌≤◌}
 use mathlib.Core.Path.{◌≡◌, refl, sym, ap, ◌∙◌}
 use mathlib.Core.Logic.{⊎_elim}
-use mathlib.Core.Bool.{Bool, true, false, not, ◌&&◌, ◌||◌, false≢true, and_assoc, and_true}
+use mathlib.Core.Bool.{Bool, true, false, not, ◌&&◌, ◌||◌, false≢true, and_assoc, and-true}
 use mathlib.Core.List.{List, [], ◌∷◌}
 use native.Mathlib.Omega.{arith}
 use native.Mathlib.Numerals.{add-one}
@@ -35,7 +35,7 @@ module _ (a b : List ℕ) where
 
   one-is : (at : ℕ) → eqb (get_or a at 0) (get_or b at 0) ≡ equal_range_of a b at 1
   unfolding equal_range_of
-  one-is at = sym (and_true (eqb (get_or a at 0) (get_or b at 0)))
+  one-is at = sym (and-true (eqb (get_or a at 0) (get_or b at 0)))
 
   range_next : (at i : ℕ) → equal_range_of a b at (i + 1) ≡ (equal_range_of a b at i && eqb (get_or a (at + i) 0) (get_or b (at + i) 0))
   range_next at i = rw (one-is (at + i)) (range_split at i 1)

@@ -15,7 +15,7 @@ use rows::{Entry, Member, row_entry, row_member};
 use table::{Checked, Path, Survey, array_total, check, enter, next_row, size_at};
 
 // What a walk over a type's fields finds: two bytes of a field differ, or none do, with the next row.
-#[derive(Drop)]
+#[derive(Clone, Copy)]
 pub enum Agreed {
     Apart,
     Together(usize),
@@ -23,7 +23,7 @@ pub enum Agreed {
 }
 
 // An array's base: its size, what all its entries take, and their number.
-#[derive(Drop)]
+#[derive(Clone, Copy)]
 pub struct Base {
     pub stride: usize,
     pub bytes: usize,
@@ -31,21 +31,21 @@ pub struct Base {
 }
 
 // What is found of an array's base; Lost where there is none, or one of size 0.
-#[derive(Drop)]
+#[derive(Clone, Copy)]
 pub enum Based {
     At(Base),
     Lost,
 }
 
 // Whether a type is admitted to comparison: its size, or why not.
-#[derive(Drop)]
+#[derive(Clone, Copy)]
 pub enum Admission {
     Size(u32),
     Refused(Refusal),
 }
 
 // The answer of `same`.
-#[derive(Drop)]
+#[derive(Clone, Copy)]
 pub enum Comparison {
     Same,
     Differs,

@@ -11,7 +11,7 @@ use crate::records::record_of;
 use keys::{Multipliers, hash_by_runs, same_by_runs};
 
 // Where a record goes: its bucket, and one more than its first, or 0 where it is the first.
-#[derive(Drop)]
+#[derive(Clone, Copy)]
 pub struct Spot {
     pub bucket: usize,
     pub first: u64,

@@ -21,7 +21,7 @@ use plain::{count_firsts, first_of};
 use runs::list_runs;
 
 // How many records are distinct, and how many heads stand in the workspace before the links and firsts; 0 where it was too short for them.
-#[derive(Drop)]
+#[derive(Clone, Copy)]
 pub struct Firsts {
     pub buckets: usize,
     pub distinct: usize,

@@ -2,7 +2,7 @@
 #![tactic(auto)]
 
 // The first eight bytes of a datatype message, the third flag byte left out: nothing reads it.
-#[derive(Drop)]
+#[derive(Clone, Copy)]
 pub struct Header {
     pub class: u8,
     pub version: u8,

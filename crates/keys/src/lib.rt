@@ -12,7 +12,7 @@ ghost use Rattle.keys.specs.Runs.{run_at, SameIn, Word, Steps, Hashed, UpTo};
 use compare::{equal_range, equal_string};
 
 // Two multipliers of a hash.
-#[derive(Drop)]
+#[derive(Clone, Copy)]
 pub struct Multipliers {
     pub first: u64,
     pub second: u64,

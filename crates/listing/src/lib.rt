@@ -14,21 +14,21 @@ use rows::{Entry, Member, entry_at, member_at};
 use table::{Checked, Surveyed, check, survey_type};
 
 // The answer of `list_fields` and `list_refusal`: the length of the text, or why it is refused.
-#[derive(Drop)]
+#[derive(Clone, Copy)]
 pub enum Listing {
     Listed(usize),
     Refused(Refusal),
 }
 
 // What a line calls a type: a member's name, by its place in the pool and its length, or nothing.
-#[derive(Drop)]
+#[derive(Clone, Copy)]
 enum Name {
     Nameless,
     Named(usize, usize),
 }
 
 // The types inside a type: none, so many members, or a base whose pool bytes begin at a place.
-#[derive(Drop)]
+#[derive(Clone, Copy)]
 enum Inside {
     Nothing,
     Members(u32),
@@ -36,7 +36,7 @@ enum Inside {
 }
 
 // The next row and pool place behind a type, and its size.
-#[derive(Drop)]
+#[derive(Clone, Copy)]
 struct Extent {
     row: usize,
     place: usize,

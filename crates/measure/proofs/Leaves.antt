@@ -1,7 +1,7 @@
 -- A leaf's row: the tests that the code makes are those of `storable`, and its length is that of the message.
 use Prim.Native.Nat.{ℕ, zero, suc, ◌+◌, ◌<◌, ◌≤◌}
 use mathlib.Core.Path.{◌≡◌, refl, sym, ◌∙◌}
-use mathlib.Core.Bool.{Bool, true, false, ◌&&◌, and_true, and_assoc}
+use mathlib.Core.Bool.{Bool, true, false, ◌&&◌, and-true, and_assoc}
 use mathlib.Core.List.{List}
 use native.Mathlib.Omega.{arith}
 use lib.ListN.{length, take, drop}
@@ -143,22 +143,22 @@ module _ (e : ℕ) (table pool : List ℕ) (r p : ℕ) where
   is-kind (is_leaf isFixedPoint) =
       is-pick _ _ (λ h s w.
       let g = (codes (row_is isFixedPoint) (ltb (word_at table r 5) 3) (ltb (word_at table r 6) 2) h).1 in
-      rw (lt-ltb (word_at table r 1) 4294967296 s, g) (simp and_true))
+      rw (lt-ltb (word_at table r 1) 4294967296 s, g) (simp and-true))
   is-kind (is_leaf isFloatingPoint) =
       is-pick _ _ (λ h s w.
       let g = (and_both (row_is isFloatingPoint) (ltb (word_at table r 5) 3) h).1 in
-      rw (g, lt-ltb (word_at table r 1) 4294967296 s, lt-ltb (word_at table r 13) 4294967296 w) (simp (and_true, and_assoc)))
-  is-kind (is_leaf isTime) = is-pick _ _ (λ h s w. rw (lt-ltb (word_at table r 1) 4294967296 s) (simp and_true))
+      rw (g, lt-ltb (word_at table r 1) 4294967296 s, lt-ltb (word_at table r 13) 4294967296 w) (simp (and-true, and_assoc)))
+  is-kind (is_leaf isTime) = is-pick _ _ (λ h s w. rw (lt-ltb (word_at table r 1) 4294967296 s) (simp and-true))
   is-kind (is_leaf is_string_of) =
       is-pick _ _ (λ h s w.
       let g = codes (row_is is_string_of) (ltb (word_at table r 5) 3) (ltb (word_at table r 6) 2) h in
       rw (lt-ltb (word_at table r 1) 4294967296 s, g.0, g.1))
-  is-kind (is_leaf isBitField) = is-pick _ _ (λ h s w. rw (lt-ltb (word_at table r 1) 4294967296 s) (simp and_true))
+  is-kind (is_leaf isBitField) = is-pick _ _ (λ h s w. rw (lt-ltb (word_at table r 1) 4294967296 s) (simp and-true))
   is-kind (is_leaf isOpaque) =
       is-pick _ _ (λ h s w.
       let g : length (take (word_at table r 3) (drop p pool)) ≡ word_at table r 3 = length_part pool p (word_at table r 3) (leb-true (p + word_at table r 3) (length pool) (and_both (leb (p + word_at table r 3) (length pool)) (row_is isOpaque && true) h).0) in
       let f : 8 + (word_at table r 3 + padding_to8 (word_at table r 3)) ≡ 8 + word_at table r 3 + padding_to8 (word_at table r 3) = omega arith in
-      rw (lt-ltb (word_at table r 1) 4294967296 s, g, f) (simp and_true))
+      rw (lt-ltb (word_at table r 1) 4294967296 s, g, f) (simp and-true))
   is-kind isCompound = is-pick _ _ (λ h. tt)
   is-kind (is_leaf isReference) =
       is-pick _ _ (λ h s w.

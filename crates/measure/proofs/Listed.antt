@@ -1,7 +1,7 @@
 -- The members of an enumeration: names, then values behind all names.
 use Prim.Native.Nat.{ℕ, ◌+◌, ◌-◌, ◌<◌, ◌≤◌}
 use mathlib.Core.Path.{◌≡◌, refl, sym, ap, ◌∙◌}
-use mathlib.Core.Bool.{Bool, true, cond, ◌&&◌, and_true, and_assoc}
+use mathlib.Core.Bool.{Bool, true, cond, ◌&&◌, and-true, and_assoc}
 use mathlib.Core.List.{List, [], ◌∷◌}
 use native.Mathlib.Omega.{arith}
 use native.Mathlib.Decide.{dec_le}
@@ -46,7 +46,7 @@ module _ (pool : List ℕ) where
   unfolding storable_enum members_from values_long names_storable all
   storable-from n p [] h = refl
   storable-from n p (x ∷ ns) h =
-      rw (length_part pool p x.1 (omega arith), storable-from n (p + x.1) ns (omega arith)) (simp (and_true, and_assoc))
+      rw (length_part pool p x.1 (omega arith), storable-from n (p + x.1) ns (omega arith)) (simp (and-true, and_assoc))
 
   names-from : (e p : ℕ) (ns : Names) → enum_name_length e (members_from pool p ns) ≡ names_long e ns
   unfolding enum_name_length members_from names_long
@@ -185,4 +185,4 @@ module _ (table pool : List ℕ) (e n : ℕ) where
     listed-ended f g i =
         let a : v + 0 ≡ v = omega arith in
         let b : 0 + v ≡ v = omega arith in
-        sym (ended ∙ rw (a, b, le-leb (p + v) (length pool) (omega arith), and_true s, i.0))
+        sym (ended ∙ rw (a, b, le-leb (p + v) (length pool) (omega arith), and-true s, i.0))

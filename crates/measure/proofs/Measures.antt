@@ -1,7 +1,7 @@
 -- The walk over a type's rows, one law for each way out of it.
 use Prim.Native.Nat.{ℕ, zero, suc, ◌+◌, ◌-◌, ◌*◌, ◌<◌, ◌≤◌}
 use mathlib.Core.Path.{◌≡◌, refl, sym, ap, ◌∙◌}
-use mathlib.Core.Bool.{Bool, true, false, cond, ◌&&◌, and_true, and_assoc}
+use mathlib.Core.Bool.{Bool, true, false, cond, ◌&&◌, and-true, and_assoc}
 use mathlib.Core.List.{List, [], ◌∷◌}
 use native.Mathlib.Omega.{arith}
 use native.Mathlib.Numerals.{add-one}
@@ -121,7 +121,7 @@ compound-at : (e n k : ℕ) (m : Measure) (x : Found Members) → n < 4294967296
 unfolding measure_in measure_of and_then Counted compound_measure_of type_size_of storable carried message_length all
 compound-at e n k m (found ms r p) s h f =
     let g : m ≡ record { row = r; place = p; size = n; storable = storable_members n ms; carried = carried_members e ms; length = most_length (members_length e n ms) } = cc in
-    rw (g, h, lt-ltb n 4294967296 s, most-two, and_true)
+    rw (g, h, lt-ltb n 4294967296 s, most-two, and-true)
 compound-at e n k m bad s h f = let z : ◌≡◌ {A = ℕ} 0 1 = cc in absurd (omega arith)
 
 compound-lost : (e n : ℕ) (x : Found Members) → Lost ≡ measure_in e n x → Lost ≡ measure_of e (and_then x (λ ms r p. found (compound n ms) r p))
@@ -139,7 +139,7 @@ module _ (e : ℕ) (table pool : List ℕ) (n k : ℕ) (b : Measure) where
   unfolding measure_enum measure_of and_then Lists enumeration_measure_of type_size_of storable carried message_length all
   behind-at t r p m s i (found ms r' p') h f =
       let g : m ≡ record { row = r'; place = p'; size = type_size_of t; storable = storable_enum (type_size_of t) ms; carried = true; length = most_length (enum_name_length e ms + length (enum_values ms)) } = cc in
-      rw (g, i.is, h, lt-ltb n 4294967296 s, most-three, and_true)
+      rw (g, i.is, h, lt-ltb n 4294967296 s, most-three, and-true)
   behind-at t r p m s i bad h f = let z : ◌≡◌ {A = ℕ} 0 1 = cc in absurd (omega arith)
 
   behind-lost : (t : Datatype) (y : Found (List EnumMember)) → Lost ≡ measure_enum e (type_size_of t) y → Lost ≡ measure_of e (and_then y (λ ms r p. found (enumeration n t ms) r p))
@@ -169,14 +169,14 @@ module _ (e : ℕ) (table pool : List ℕ) (n k : ℕ) (b : Measure) where
 
 variable_at : (e i a c : ℕ) (b : Measure) (x : Found Datatype) → Told e x b → At (variable_measure_of i a c b) ≡ measure_of e (and_then x (λ t r p. found (variable_length i a c t) r p))
 unfolding Told and_then measure_of variable_measure_of type_size_of storable carried message_length all
-variable_at e i a c b (found t r p) h = rw (h.is, most-two, and_true)
+variable_at e i a c b (found t r p) h = rw (h.is, most-two, and-true)
 variable_at e i a c b bad h = absurd h
 
 array_at : (e k : ℕ) (ds : List ℕ) (b : Measure) → length ds ≡ k → all_below 4294967296 ds ≡ true → (x : Found Datatype) → Told e x b → At (array_measure_of e k ds b) ≡ measure_of e (and_then x (λ t r p. found (array ds t) r p))
 unfolding Told and_then measure_of array_measure_of array_head_of type_size_of storable carried message_length all
 array_at e k ds b g s (found t r p) h =
     let q : 8 + (1 + reserved_bytes_of e + (4 * k + permutation_bytes_of e k)) + message_length e t ≡ 8 + (1 + reserved_bytes_of e + (4 * k + permutation_bytes_of e k) + message_length e t) = omega arith in
-    rw (h.is, cap_again, g, s, most-two, and_true, q)
+    rw (h.is, cap_again, g, s, most-two, and-true, q)
 array_at e k ds b g s bad h = absurd h
 
 -- ---- a type
@@ -291,7 +291,7 @@ unfolding most_length
 most-member l h b w k a c q = omega arith
 
 join : (s a b f t m : Bool) → ((s && ((a && b) && (f && t))) && m) ≡ (s && (a && (b && (f && (t && (m && true))))))
-join s a b f t m = simp (and_true, and_assoc)
+join s a b f t m = simp (and-true, and_assoc)
 
 module _ (e : ℕ) (s : Measure) (name : List ℕ) (o h : ℕ) (v : Bool) (hv : v ≡ (no_nul name && well_formed name)) (hh : h ≡ name_length_of e name + offset_width e s.size + skipped_bytes_of e) where
   gathered-member : (m : Measure) (t : Datatype) (r p : ℕ) → Says e m t r p → (x : Found Members)
@@ -356,4 +356,4 @@ unfolding gathered members_at storable carried message_length
 members_end e table pool levels left s short inv h =
     let k : left ≡ 0 = omega arith in
     let l : s.length + 0 ≡ s.length = omega arith in
-    sym (inv ∙ rw (k, and_true, and_true, l, ← most-same s.length short))
+    sym (inv ∙ rw (k, and-true, and-true, l, ← most-same s.length short))

@@ -16,7 +16,7 @@ use table::{capped, scaled};
 
 // The next row and pool place, the size, whether the type can be stored and the edition carries it, and the message's length, which stops at
 // 4,294,967,296.
-#[derive(Drop)]
+#[derive(Clone, Copy)]
 pub struct Measure {
     pub row: usize,
     pub place: usize,
@@ -27,14 +27,14 @@ pub struct Measure {
 }
 
 // What measuring finds: a type, or none.
-#[derive(Drop)]
+#[derive(Clone, Copy)]
 pub enum Measured {
     At(Measure),
     Lost,
 }
 
 // Whether the names and values of an enumeration can be stored, and the length of the names, which stops at 4,294,967,296.
-#[derive(Drop)]
+#[derive(Clone, Copy)]
 pub struct EnumNames {
     pub storable: bool,
     pub length: u64,

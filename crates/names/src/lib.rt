@@ -8,7 +8,7 @@ ghost use Rattle.names.specs.Pass.{state_of, lead_of, carry_on_of, Fits, Sized, 
 ghost use Rattle.names.specs.Names.{Stored, Reads};
 
 // A name's bytes before its NUL and, made valid, in the pool.
-#[derive(Drop)]
+#[derive(Clone, Copy)]
 pub enum Name {
     Whole(usize, usize),
     Missing,
@@ -16,7 +16,7 @@ pub enum Name {
 }
 
 // What a byte may begin: the bytes that are to follow, and from where to where the next one lies.
-#[derive(Drop)]
+#[derive(Clone, Copy)]
 enum Start {
     Single,
     Ill,
@@ -24,7 +24,7 @@ enum Start {
 }
 
 // The bytes of a character that is not whole yet, how many are to come, and from where to where the next one lies.
-#[derive(Drop)]
+#[derive(Clone, Copy)]
 struct Carry {
     count: u8,
     first: u8,
@@ -36,7 +36,7 @@ struct Carry {
 }
 
 // What a byte gives out, and what is carried on.
-#[derive(Drop)]
+#[derive(Clone, Copy)]
 struct Stepped {
     out: [u8; 6],
     len: usize,

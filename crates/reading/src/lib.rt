@@ -5,7 +5,7 @@ use format::Header;
 use refusal::Refusal;
 
 // The highest version allowed, and how many rows and pool bytes there are.
-#[derive(Drop)]
+#[derive(Clone, Copy)]
 pub struct Limits {
     pub version: u32,
     pub rows: usize,
@@ -13,7 +13,7 @@ pub struct Limits {
 }
 
 // How far reading has come: bytes of the message, rows and pool bytes used, and the size of the type just read.
-#[derive(Drop)]
+#[derive(Clone, Copy)]
 pub struct State {
     pub at: usize,
     pub rows: usize,
@@ -22,14 +22,14 @@ pub struct State {
 }
 
 // How a part of reading ends: how far it has come, or the refusal.
-#[derive(Drop)]
+#[derive(Clone, Copy)]
 pub enum Step {
     Done(State),
     Refused(Refusal),
 }
 
 // A header, once a row is free for its type.
-#[derive(Drop)]
+#[derive(Clone, Copy)]
 pub enum Headed {
     Head(Header),
     Refused(Refusal),
@@ -37,7 +37,7 @@ pub enum Headed {
 
 // The type inside a class 8, 9 or 10 type: where its message begins, the place in the pool behind the dimensions, where the dimensions
 // begin and how many there are.
-#[derive(Drop)]
+#[derive(Clone, Copy)]
 pub struct Base {
     pub from: usize,
     pub place: usize,
@@ -46,7 +46,7 @@ pub struct Base {
 }
 
 // What a header begins: a type with no type inside, a compound in the layout of a version, or a type over a base.
-#[derive(Drop)]
+#[derive(Clone, Copy)]
 pub enum Opened {
     Leaf(Header),
     Compound(Header, u8),
@@ -55,7 +55,7 @@ pub enum Opened {
 }
 
 // The answer of `read`: the length of the message, or why it is refused.
-#[derive(Drop)]
+#[derive(Clone, Copy)]
 pub enum Reading {
     Read(usize),
     Refused(Refusal),

@@ -10,7 +10,7 @@ ghost use Rattle.references.specs.References.{ReferencesAre};
 use refusal::Refusal;
 
 // The answer: how many references, or why none.
-#[derive(Drop)]
+#[derive(Clone, Copy)]
 pub enum References {
     Found(u64),
     Refused(Refusal),

@@ -5,7 +5,7 @@ ghost use Rattle.std.specs.Prelude.{◌≡◌};
 ghost use Rattle.refusal.specs.Refusal.{number_of, values_from};
 
 // Why a call gives no result. The comment names the Rust's `FormatError` that the case stands for, where there is one.
-#[derive(Drop)]
+#[derive(Clone, Copy)]
 pub enum Refusal {
     // 1. The rows and pool do not set out exactly one type.
     BadTable,
@@ -52,7 +52,7 @@ pub enum Refusal {
 }
 
 // The values of a refusal: how many there are, and 0 for each that is not there.
-#[derive(Drop)]
+#[derive(Clone, Copy)]
 pub struct RefusalValues {
     pub count: u32,
     pub first: u64,

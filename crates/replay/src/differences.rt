@@ -10,7 +10,7 @@ use table::{Held, Sized};
 use writer::Writing;
 
 // Whether an entry is as expected; if not, the first thing in which it differs.
-#[derive(Drop)]
+#[derive(Clone, Copy)]
 pub enum Outcome {
     AsExpected,
     CutOff,

@@ -16,7 +16,7 @@
 ghost use Rattle.std.specs.Prelude.{◌≤◌, ◌<◌, length};
 
 // The bytes of the file from a place up to another. They are not whole where more were wanted, here or before, than there are.
-#[derive(Drop)]
+#[derive(Clone, Copy)]
 pub struct Piece {
     pub from: usize,
     pub to: usize,
@@ -24,7 +24,7 @@ pub struct Piece {
 }
 
 // An entry's message, what reading it gives, and the last piece of this.
-#[derive(Drop)]
+#[derive(Clone, Copy)]
 pub struct Answer {
     pub message: Piece,
     pub number: usize,
@@ -34,7 +34,7 @@ pub struct Answer {
 }
 
 // What an entry says of the type itself. Its size and the two predicates are the 6 bytes of `facts`.
-#[derive(Drop)]
+#[derive(Clone, Copy)]
 pub struct Sample {
     pub words: Piece,
     pub pool: Piece,
@@ -42,7 +42,7 @@ pub struct Sample {
 }
 
 // What an entry says of writing the type and of listing its slots.
-#[derive(Drop)]
+#[derive(Clone, Copy)]
 pub struct Results {
     pub written: usize,
     pub message: Piece,

@@ -10,7 +10,7 @@ use refusal::Refusal;
 use writer::{Writing, write};
 
 // The answer: the length of the message that was written and read back, or the first refusal.
-#[derive(Drop)]
+#[derive(Clone, Copy)]
 pub enum RoundTrip {
     Length(usize),
     Refused(Refusal),

@@ -1,7 +1,7 @@
 -- For each kind of row, the test of its columns that the code makes is the test of `entry_at`; and what each way out of the code answers.
 use Prim.Native.Nat.{ℕ, zero, suc, ◌+◌, ◌-◌, ◌*◌, ◌/◌, ◌<◌, ◌≤◌}
 use mathlib.Core.Path.{◌≡◌, refl, sym, ap, ◌∙◌}
-use mathlib.Core.Bool.{Bool, true, ◌&&◌, and_assoc, and_true}
+use mathlib.Core.Bool.{Bool, true, ◌&&◌, and_assoc, and-true}
 use mathlib.Core.List.{List}
 use native.Mathlib.Omega.{arith}
 use native.Mathlib.Nat.{mul-one, mul-le-mul_left}
@@ -39,55 +39,55 @@ module _ (table pool : List ℕ) (r p : ℕ) (h : r < length table / 16) where
 
   pub fixed_point-entry : get_or table (r * 16) 0 ≡ 1 → entry_at table pool r p ≡ pick (leaf_columns_of table r 6 9 3 && ltb (word_at table r 6) 2) (Leaf 0 (word_at table r 1) 0 (word_at table r 5))
   unfolding leaf-entry row leaf_columns_of all_zero same_words
-  fixed_point-entry e = entry-kind table pool r p e ∙ simp (row_is-words table r fits, e, same_word, clear 2 5 (omega arith), clear 6 6 (omega arith), clear 9 16 (omega arith), and_assoc, and_true)
+  fixed_point-entry e = entry-kind table pool r p e ∙ simp (row_is-words table r fits, e, same_word, clear 2 5 (omega arith), clear 6 6 (omega arith), clear 9 16 (omega arith), and_assoc, and-true)
 
   pub floating_point-entry : get_or table (r * 16) 0 ≡ 2 → entry_at table pool r p ≡ pick (leaf_columns_of table r 7 14 3) (Leaf 1 (word_at table r 1) 0 (word_at table r 5))
   unfolding leaf-entry row leaf_columns_of all_zero same_words
-  floating_point-entry e = entry-kind table pool r p e ∙ simp (row_is-words table r fits, e, same_word, clear 2 5 (omega arith), clear 6 7 (omega arith), clear 14 16 (omega arith), and_assoc, and_true)
+  floating_point-entry e = entry-kind table pool r p e ∙ simp (row_is-words table r fits, e, same_word, clear 2 5 (omega arith), clear 6 7 (omega arith), clear 14 16 (omega arith), and_assoc, and-true)
 
   pub time-entry : get_or table (r * 16) 0 ≡ 3 → entry_at table pool r p ≡ pick (leaf_columns_of table r 8 9 3) (Leaf 2 (word_at table r 1) 0 (word_at table r 5))
   unfolding leaf-entry row leaf_columns_of all_zero same_words
-  time-entry e = entry-kind table pool r p e ∙ simp (row_is-words table r fits, e, same_word, clear 2 5 (omega arith), clear 6 8 (omega arith), clear 9 16 (omega arith), and_assoc, and_true)
+  time-entry e = entry-kind table pool r p e ∙ simp (row_is-words table r fits, e, same_word, clear 2 5 (omega arith), clear 6 8 (omega arith), clear 9 16 (omega arith), and_assoc, and-true)
 
   pub string-entry : get_or table (r * 16) 0 ≡ 4 → entry_at table pool r p ≡ pick (leaf_columns_of table r 6 7 3 && ltb (word_at table r 6) 2) (Leaf 3 (word_at table r 1) 0 (word_at table r 5))
   unfolding leaf-entry row leaf_columns_of all_zero same_words
-  string-entry e = entry-kind table pool r p e ∙ simp (row_is-words table r fits, e, same_word, clear 2 5 (omega arith), clear 6 6 (omega arith), clear 7 16 (omega arith), and_assoc, and_true)
+  string-entry e = entry-kind table pool r p e ∙ simp (row_is-words table r fits, e, same_word, clear 2 5 (omega arith), clear 6 6 (omega arith), clear 7 16 (omega arith), and_assoc, and-true)
 
   pub bit_field-entry : get_or table (r * 16) 0 ≡ 5 → entry_at table pool r p ≡ pick (leaf_columns_of table r 7 9 3) (Leaf 4 (word_at table r 1) 0 (word_at table r 5))
   unfolding leaf-entry row leaf_columns_of all_zero same_words
-  bit_field-entry e = entry-kind table pool r p e ∙ simp (row_is-words table r fits, e, same_word, clear 2 5 (omega arith), clear 6 7 (omega arith), clear 9 16 (omega arith), and_assoc, and_true)
+  bit_field-entry e = entry-kind table pool r p e ∙ simp (row_is-words table r fits, e, same_word, clear 2 5 (omega arith), clear 6 7 (omega arith), clear 9 16 (omega arith), and_assoc, and-true)
 
   pub opaque-entry : get_or table (r * 16) 0 ≡ 6 → entry_at table pool r p ≡ pick (piece_columns_of table pool r p 4 1) (Leaf 5 (word_at table r 1) (word_at table r 3) (word_at table r 5))
   unfolding kind_of row piece_columns_of all_zero same_words
-  opaque-entry e = entry-kind table pool r p e ∙ opaque_picked table pool r p ∙ simp (row_is-words table r fits, e, same_word, clear 4 16 (omega arith), and_assoc, and_true, mul-one)
+  opaque-entry e = entry-kind table pool r p e ∙ opaque_picked table pool r p ∙ simp (row_is-words table r fits, e, same_word, clear 4 16 (omega arith), and_assoc, and-true, mul-one)
 
   pub compound-entry : get_or table (r * 16) 0 ≡ 7 → entry_at table pool r p ≡ pick (group_columns_of table r) (Compound (word_at table r 1) (word_at table r 4))
   unfolding entry_of compound_row row kind_of group_columns_of all_zero same_words
-  compound-entry e = entry-kind table pool r p e ∙ simp (row_is-words table r fits, e, same_word, clear 2 4 (omega arith), clear 5 16 (omega arith), and_assoc, and_true)
+  compound-entry e = entry-kind table pool r p e ∙ simp (row_is-words table r fits, e, same_word, clear 2 4 (omega arith), clear 5 16 (omega arith), and_assoc, and-true)
 
   pub reference-entry : get_or table (r * 16) 0 ≡ 8 → entry_at table pool r p ≡ pick (leaf_columns_of table r 6 6 2) (Leaf 7 (word_at table r 1) 0 (word_at table r 5))
   unfolding leaf-entry row leaf_columns_of all_zero same_words
-  reference-entry e = entry-kind table pool r p e ∙ simp (row_is-words table r fits, e, same_word, clear 2 5 (omega arith), clear 6 6 (omega arith), clear 6 16 (omega arith), and_assoc, and_true)
+  reference-entry e = entry-kind table pool r p e ∙ simp (row_is-words table r fits, e, same_word, clear 2 5 (omega arith), clear 6 6 (omega arith), clear 6 16 (omega arith), and_assoc, and-true)
 
   pub enumeration-entry : get_or table (r * 16) 0 ≡ 9 → entry_at table pool r p ≡ pick (group_columns_of table r) (Enumeration (word_at table r 1) (word_at table r 4))
   unfolding entry_of enumeration_row row kind_of group_columns_of all_zero same_words
-  enumeration-entry e = entry-kind table pool r p e ∙ simp (row_is-words table r fits, e, same_word, clear 2 4 (omega arith), clear 5 16 (omega arith), and_assoc, and_true)
+  enumeration-entry e = entry-kind table pool r p e ∙ simp (row_is-words table r fits, e, same_word, clear 2 4 (omega arith), clear 5 16 (omega arith), and_assoc, and-true)
 
   pub variable_length-entry : get_or table (r * 16) 0 ≡ 10 → entry_at table pool r p ≡ pick (variable_length_columns_of table r) (VariableLength (word_at table r 5) (word_at table r 6) (word_at table r 7))
   unfolding entry_of variable_length_row row kind_of variable_length_columns_of all_zero same_words
-  variable_length-entry e = entry-kind table pool r p e ∙ simp (row_is-words table r fits, e, same_word, clear 1 5 (omega arith), clear 8 16 (omega arith), and_assoc, and_true)
+  variable_length-entry e = entry-kind table pool r p e ∙ simp (row_is-words table r fits, e, same_word, clear 1 5 (omega arith), clear 8 16 (omega arith), and_assoc, and-true)
 
   pub array-entry : get_or table (r * 16) 0 ≡ 11 → entry_at table pool r p ≡ pick (eqb (word_at table r 1) 0 && piece_columns_of table pool r p 4 4) (Array (word_at table r 3))
   unfolding entry_of array_row row kind_of piece_columns_of all_zero same_words
-  array-entry e = entry-kind table pool r p e ∙ simp (row_is-words table r fits, e, same_word, clear 4 16 (omega arith), and_assoc, and_true)
+  array-entry e = entry-kind table pool r p e ∙ simp (row_is-words table r fits, e, same_word, clear 4 16 (omega arith), and_assoc, and-true)
 
   pub member-entry : member_at_of table pool r p ≡ pick_member (eqb (get_or table (r * 16) 0) 12 && piece_columns_of table pool r p 4 1) (Named (word_at table r 1) (word_at table r 3))
   unfolding member_at_of member_row row piece_columns_of all_zero same_words
-  member-entry = simp (row_is-words table r fits, same_word, clear 4 16 (omega arith), and_assoc, and_true, mul-one)
+  member-entry = simp (row_is-words table r fits, same_word, clear 4 16 (omega arith), and_assoc, and-true, mul-one)
 
   pub enum_member_entry : enum_member_at_of table pool r p ≡ pick_member ((eqb (get_or table (r * 16) 0) 13 && eqb (word_at table r 1) 0) && piece_columns_of table pool r p 5 1) (Named (word_at table r 3) (word_at table r 4))
   unfolding enum_member_at_of enum_member_row row piece_columns_of all_zero same_words
-  enum_member_entry = simp (row_is-words table r fits, same_word, clear 5 16 (omega arith), and_assoc, and_true, mul-one)
+  enum_member_entry = simp (row_is-words table r fits, same_word, clear 5 16 (omega arith), and_assoc, and-true, mul-one)
 
 -- no kind of a type
 abbrev pub NoKind : ℕ → Type 0

@@ -1,7 +1,7 @@
 -- Runs of zeros, from one place of a list up to another.
 use Prim.Native.Nat.{ℕ, zero, suc, ◌+◌, ◌-◌, ◌<◌, ◌≤◌}
 use mathlib.Core.Path.{◌≡◌, refl, sym, ap, ◌∙◌}
-use mathlib.Core.Bool.{Bool, true, false, ◌&&◌, and_assoc, and_true}
+use mathlib.Core.Bool.{Bool, true, false, ◌&&◌, and_assoc, and-true}
 use mathlib.Core.List.{List, [], ◌∷◌, ◌++◌}
 use native.Mathlib.Omega.{arith}
 use lib.ListN.{length, take, drop, get_or}
@@ -27,7 +27,7 @@ module _ (l : List ℕ) (i : ℕ) where
   -- one element more
   pub zero-next : (n : ℕ) → i + n < length l → zero_at l i (n + 1) ≡ (zero_at l i n && eqb (get_or l (i + n) 0) 0)
   unfolding all_zero
-  zero-next n h = zero_split n 1 ∙ rw (drop-cons l (i + n) 0 h, and_true)
+  zero-next n h = zero_split n 1 ∙ rw (drop-cons l (i + n) 0 h, and-true)
 
 -- a test of the elements from `from` up to `to` that has come to i: what is left to test decides
 module _ (l : List ℕ) (from to i : ℕ) (inv : zero_at l i (to - i) ≡ zero_at l from (to - from)) where
@@ -45,7 +45,7 @@ module _ (l : List ℕ) (from to i : ℕ) (inv : zero_at l i (to - i) ≡ zero_a
 
   one-is : i < length l → eqb (get_or l i 0) 0 ≡ zero_at l i 1
   unfolding all_zero
-  one-is h = rw (drop-cons l i 0 h, and_true)
+  one-is h = rw (drop-cons l i 0 h, and-true)
 
   pub zero_more : get_or l i 0 ≡ 0 → i < to → to ≤ length l → zero_at l (i + 1) (to - (i + 1)) ≡ zero_at l from (to - from)
   zero_more e h k = zero-past 1 (one-is (omega arith)) (eq-eqb (get_or l i 0) 0 e) (omega arith)

@@ -8,7 +8,7 @@ ghost use Rattle.rows.specs.Entries.{pick, pick_member, entry_at, member_at_of, 
 
 // A type's row. Leaf: class, size, length of the tag, and column 5 (order, padding or reference kind). Compound and Enumeration: size and
 // number of members. VariableLength: is a string, padding, charset. Array: rank.
-#[derive(Drop)]
+#[derive(Clone, Copy)]
 pub enum Entry {
     Leaf(u32, u32, u32, u32),
     Compound(u32, u32),
@@ -19,7 +19,7 @@ pub enum Entry {
 }
 
 // A member's row. Of a compound: offset and length of the name; of an enumeration: length of the name and of the value.
-#[derive(Drop)]
+#[derive(Clone, Copy)]
 pub enum Member {
     Named(u32, u32),
     Unnamed,

@@ -1,7 +1,7 @@
 -- One field added to the runs that a state and a workspace hold, and a run stored: one law for each way out.
 use Prim.Native.Nat.{ℕ, suc, ◌+◌, ◌-◌, ◌*◌, ◌/◌, ◌<◌, ◌≤◌}
 use mathlib.Core.Path.{◌≡◌, refl, sym, ◌∙◌}
-use mathlib.Core.Bool.{Bool, true, false, not, ◌&&◌, and_true}
+use mathlib.Core.Bool.{Bool, true, false, not, ◌&&◌, and-true}
 use mathlib.Core.List.{List, [], ◌∷◌}
 use native.Mathlib.Omega.{arith}
 use native.Mathlib.Numerals.{add-one}
@@ -182,4 +182,4 @@ whole-string e h t = go (is_field_of e) (sym h ∙ t)
     go false q = refl
 
 pub whole-field : (e : Entry) {c f : Bool} → c ≡ is_string_of e → c ≡ false → f ≡ is_field_of e → f ≡ (is_field_of e && not (is_string_of e))
-whole-field e h n g = rw (← h, n, and_true) g
+whole-field e h n g = rw (← h, n, and-true) g

@@ -15,7 +15,7 @@ use table::{Path, array_total, enter, next_row, size_at};
 
 // The runs so far: the row behind what is listed, how many runs are closed, and the open one. Closed runs stand in the workspace from its end
 // on, if there is room: the latest first.
-#[derive(Drop)]
+#[derive(Clone, Copy)]
 pub struct Runs {
     pub row: usize,
     pub closed: usize,

@@ -8,7 +8,7 @@ use refusal::Refusal;
 use table::Sized;
 
 // What the program answers.
-#[derive(Drop)]
+#[derive(Clone, Copy)]
 pub enum Answer {
     Same,
     Differs,

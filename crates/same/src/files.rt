@@ -5,7 +5,7 @@ ghost use Rattle.same.specs.Files.{ReadInto};
 use show::{number, text};
 
 // What came of reading a file whole.
-#[derive(Drop)]
+#[derive(Clone, Copy)]
 pub enum Whole {
     Bytes(usize),
     NotThere,

@@ -5,7 +5,7 @@ ghost use Rattle.same.specs.Numbers.{decimal_of};
 use show::text;
 
 // An argument as a number.
-#[derive(Drop)]
+#[derive(Clone, Copy)]
 pub enum Parsed {
     Number(u64),
     NoNumber,

@@ -20,7 +20,7 @@ use table::{
 
 // What a first walk finds, before anything is listed: the row behind the type, whether the type holds a reference that is no slot's, the number
 // of slots and the greatest slot + 8; the last two stop at 1,073,741,824 and 4,294,967,296, past all that a type of 32-bit size can have.
-#[derive(Drop)]
+#[derive(Clone, Copy)]
 pub struct Tally {
     pub row: usize,
     pub unmapped: bool,
@@ -29,14 +29,14 @@ pub struct Tally {
 }
 
 // What the listing goes on with: the row behind the type, and where the next slot would go.
-#[derive(Drop)]
+#[derive(Clone, Copy)]
 pub struct Put {
     pub row: usize,
     pub next: usize,
 }
 
 // The answer: how many slots, or why none.
-#[derive(Drop)]
+#[derive(Clone, Copy)]
 pub enum Slots {
     Found(u64),
     Refused(Refusal),

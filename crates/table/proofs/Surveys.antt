@@ -1,7 +1,7 @@
 -- The walk over a type's rows, one law for each way out of it.
 use Prim.Native.Nat.{ℕ, zero, suc, ◌+◌, ◌-◌, ◌*◌, ◌<◌, ◌≤◌, min}
 use mathlib.Core.Path.{◌≡◌, refl, sym, ap, ◌∙◌}
-use mathlib.Core.Bool.{Bool, true, false, cond, ◌&&◌, ◌||◌, or-false, or_assoc, and_true}
+use mathlib.Core.Bool.{Bool, true, false, cond, ◌&&◌, ◌||◌, or-false, or_assoc, and-true}
 use mathlib.Core.List.{List}
 use mathlib.Core.Option.{Option, none, some}
 use native.Mathlib.Omega.{arith}
@@ -87,7 +87,7 @@ module _ (table pool : List ℕ) (r p : ℕ) where
   unfolding LeafTold survey_of type_size_of first_zero outside heap_held holds_object_address holds_file_address
   leaf-told {n = n} {x = x} q e =
       let h = leaf_law table pool r p q e in
-      (omega (arith, h.class, leaf_class-low h.of), rw (h.is, h.class, zero-class, h.refers_by, h.refers_by, and_true))
+      (omega (arith, h.class, leaf_class-low h.of), rw (h.is, h.class, zero-class, h.refers_by, h.refers_by, and-true))
 
   pub leaf-class : {k n l x : ℕ} {e : Entry} → e ≡ entry_at table pool r p → e ≡ Leaf k n l x → k ≤ 7
   unfolding LeafTold

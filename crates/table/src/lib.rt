@@ -22,7 +22,7 @@ use rows::{
 
 // What a walk over a type finds: the next row and pool place, the size, 1 + the class of the first row of size 0 or 0 where there is none,
 // whether something reaches outside (refusal 16), whether it holds what refusal 17 names, and the two address predicates.
-#[derive(Drop)]
+#[derive(Clone, Copy)]
 pub struct Survey {
     pub row: usize,
     pub place: usize,
@@ -35,56 +35,56 @@ pub struct Survey {
 }
 
 // What the walk finds: a type, or that no type stands at the row.
-#[derive(Drop)]
+#[derive(Clone, Copy)]
 pub enum Surveyed {
     Sound(Survey),
     Unsound,
 }
 
 // The next row and pool place.
-#[derive(Drop)]
+#[derive(Clone, Copy)]
 pub struct Spot {
     pub row: usize,
     pub place: usize,
 }
 
 // Where something ends, or Lost where the rows do not set it out.
-#[derive(Drop)]
+#[derive(Clone, Copy)]
 pub enum Found {
     At(Spot),
     Lost,
 }
 
 // The answer of the check.
-#[derive(Drop)]
+#[derive(Clone, Copy)]
 pub enum Checked {
     Good(Survey),
     Bad,
 }
 
 // The answer of `type_size` and `element_size`.
-#[derive(Drop)]
+#[derive(Clone, Copy)]
 pub enum Sized {
     Size(u32),
     Refused(Refusal),
 }
 
 // The answer of `extent`: how many rows and pool bytes.
-#[derive(Drop)]
+#[derive(Clone, Copy)]
 pub enum Using {
     Used(usize, usize),
     Refused(Refusal),
 }
 
 // A part of the pool.
-#[derive(Drop)]
+#[derive(Clone, Copy)]
 pub struct NamePart {
     pub place: usize,
     pub length: usize,
 }
 
 // The answer of the two predicates over a type.
-#[derive(Drop)]
+#[derive(Clone, Copy)]
 pub enum Held {
     Yes,
     No,
@@ -92,7 +92,7 @@ pub enum Held {
 }
 
 // The rows of the open levels, outermost first: its top is the row at hand.
-#[derive(Drop)]
+#[derive(Clone, Copy)]
 pub struct Path {
     pub rows: [usize; 32],
     pub depth: usize,

@@ -17,7 +17,7 @@ use writer_parts::{
 };
 
 // The answer of `write`: the length of the message, or why it is refused.
-#[derive(Drop)]
+#[derive(Clone, Copy)]
 pub enum Writing {
     Written(usize),
     Refused(Refusal),

@@ -16,14 +16,14 @@ use primitives::{
 use rows::{Member, known_enum_member_at};
 
 // The place behind what was stored, or Full where it does not fit.
-#[derive(Drop)]
+#[derive(Clone, Copy)]
 pub enum Placed {
     Behind(usize),
     Full,
 }
 
 // The next row and pool place, and the place behind what was stored.
-#[derive(Drop)]
+#[derive(Clone, Copy)]
 pub struct Written {
     pub row: usize,
     pub place: usize,
@@ -31,7 +31,7 @@ pub struct Written {
 }
 
 // How storing a type ends; Lost where there is none, it does not fit or it cannot be stored.
-#[derive(Drop)]
+#[derive(Clone, Copy)]
 pub enum Put {
     At(Written),
     Lost,

@@ -1,0 +1,5 @@
+use Rattle.rows.proofs.Known.{known-again}
+use Rattle.rows.proofs.known_entry_at.Goals as goal
+
+pub returns : goal.returns
+returns c = known-again _ _ _ _ c.row_entry-entry.ensures c.entry_if.ensures c.entry_fits.ensures

@@ -1,0 +1,10 @@
+use Rattle.rows.proofs.Columns.{short_enum_member}
+use Rattle.rows.proofs.Known.{known_enum_member, enum_unnamed_answered}
+use borrow.Author.Rules.{rules}
+use Rattle.rows.proofs.known_enum_member_at.Goals as goal
+
+pub returns-then-table-row : goal.returns-then-table-row
+returns-then-table-row c = enum_unnamed_answered _ _ _ _ _ (search short_enum_member)
+
+pub returns : goal.returns
+returns c = known_enum_member _ _ _ _ (search rules) c.member_if.ensures c.piece_fits.ensures
