@@ -39,4 +39,4 @@ pub returns-in-11 : goal.returns-in-11
 returns-in-11 c = says-array _ _ (search rules) c.in-11.is
 
 pub returns-in_default : goal.returns-in_default
-returns-in_default c = says_none _ _ (search rules) c.in_default.rest
+returns-in_default c = says_none _ _ (search rules) c.in_default.in_default-own.rest

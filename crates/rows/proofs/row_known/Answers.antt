@@ -50,4 +50,4 @@ unfolding is_known
 returns-in-11 c = known_is _ _ _ _ _ refl (array-entry _ _ _ _ (search rules) c.in-11.is) (c.both-in-11.ensures ∙ rw c.piece_columns-in-11.ensures)
 
 pub returns-in_default : goal.returns-in_default
-returns-in_default c = none-known _ _ _ _ c.in_default.rest
+returns-in_default c = none-known _ _ _ _ c.in_default.in_default-own.rest
