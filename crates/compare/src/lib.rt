@@ -295,7 +295,7 @@ fn array_base(table: &[u32], pool: &[u8], row: usize, rank: u32, levels: usize) 
 }
 
 // The fields of the type at the top of the path, of which `entry` is the row; its record begins at `at`.
-#[cycle(agree_array_agree_entries_agree_member_agree_members_agree_type)]
+#[cycle(agree)]
 fn agree_type(
     table: &[u32],
     pool: &[u8],
@@ -324,7 +324,7 @@ fn agree_type(
 
 // The fields of an array whose row is the top of the path, and whose record begins at `at`. The path is copied only
 // for a base that has fields below it.
-#[cycle(agree_array_agree_entries_agree_member_agree_members_agree_type)]
+#[cycle(agree)]
 fn agree_array(
     table: &[u32],
     pool: &[u8],
@@ -368,7 +368,7 @@ fn agree_array(
 }
 
 // The members of a compound whose record begins at `at`.
-#[cycle(agree_array_agree_entries_agree_member_agree_members_agree_type)]
+#[cycle(agree)]
 fn agree_members(
     table: &[u32],
     pool: &[u8],
@@ -415,7 +415,7 @@ fn agree_members(
 
 // The fields of a member's type at a row, whose record begins at `at`. A field is compared here; only a type with fields below it is entered,
 // since that copies the path.
-#[cycle(agree_array_agree_entries_agree_member_agree_members_agree_type)]
+#[cycle(agree)]
 fn agree_member(
     table: &[u32],
     pool: &[u8],
@@ -438,7 +438,7 @@ fn agree_member(
 }
 
 // So many entries of an array, a base size apart; the path's top is the base's row, and `entry` what it has.
-#[cycle(agree_array_agree_entries_agree_member_agree_members_agree_type)]
+#[cycle(agree)]
 fn agree_entries(
     table: &[u32],
     pool: &[u8],

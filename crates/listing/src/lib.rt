@@ -230,7 +230,7 @@ fn put_line(
 }
 
 // The lines of so many members of a compound.
-#[cycle(put_members_put_type)]
+#[cycle(put)]
 fn put_members(
     table: &[u32],
     pool: &[u8],
@@ -270,7 +270,7 @@ fn put_members(
 }
 
 // The lines of the type at a row, its pool bytes at a place, with so many levels left of 32: its own line and those of the types inside.
-#[cycle(put_members_put_type)]
+#[cycle(put)]
 fn put_type(
     table: &[u32],
     pool: &[u8],

@@ -369,7 +369,7 @@ fn measure_enum_members(
 }
 
 // The type at a row, its pool bytes at a place, with so many levels left.
-#[cycle(measure_enumeration_measure_inner_measure_members_measure_type)]
+#[cycle(measure)]
 pub fn measure_type(
     table: &[u32],
     pool: &[u8],
@@ -444,7 +444,7 @@ pub fn measure_type(
 }
 
 // An enumeration's row, with so many levels left below it.
-#[cycle(measure_enumeration_measure_inner_measure_members_measure_type)]
+#[cycle(measure)]
 fn measure_enumeration(
     table: &[u32],
     pool: &[u8],
@@ -476,7 +476,7 @@ fn measure_enumeration(
 }
 
 // As `measure_type`, of a member: a leaf is measured here, and `measure_type` reads any other row again.
-#[cycle(measure_enumeration_measure_inner_measure_members_measure_type)]
+#[cycle(measure)]
 fn measure_inner(
     table: &[u32],
     pool: &[u8],
@@ -500,7 +500,7 @@ fn measure_inner(
 }
 
 // The members of a compound of a size.
-#[cycle(measure_enumeration_measure_inner_measure_members_measure_type)]
+#[cycle(measure)]
 fn measure_members(
     table: &[u32],
     pool: &[u8],

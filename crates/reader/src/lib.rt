@@ -37,7 +37,7 @@ fn end_compound(table: &mut [u32], used: usize, header: Header, count: u32, inne
 }
 
 // The members of a compound, from behind its header on.
-#[cycle(read_members_read_type)]
+#[cycle(read)]
 fn read_members(
     data: &[u8],
     table: &mut [u32],
@@ -96,7 +96,7 @@ fn read_members(
 }
 
 // A message, with so many levels left.
-#[cycle(read_members_read_type)]
+#[cycle(read)]
 fn read_type(
     data: &[u8],
     table: &mut [u32],

@@ -127,7 +127,7 @@ fn is_whole(entry: Entry) -> bool
 }
 
 // The fields of the type at the top of the path, of which `entry` is the row; its record begins at `at`.
-#[cycle(list_array_list_entries_list_member_list_members_list_type)]
+#[cycle(list)]
 fn list_type(
     table: &[u32],
     pool: &[u8],
@@ -175,7 +175,7 @@ fn list_type(
 
 // The fields of an array whose row is the top of the path, and whose record begins at `at`: one field where its base is one that counts whole,
 // else entry by entry.
-#[cycle(list_array_list_entries_list_member_list_members_list_type)]
+#[cycle(list)]
 fn list_array(
     table: &[u32],
     pool: &[u8],
@@ -223,7 +223,7 @@ fn list_array(
 }
 
 // The members of a compound whose record begins at `at`, until `most` runs are closed.
-#[cycle(list_array_list_entries_list_member_list_members_list_type)]
+#[cycle(list)]
 fn list_members(
     table: &[u32],
     pool: &[u8],
@@ -276,7 +276,7 @@ fn list_members(
 }
 
 // The fields of a member's type at a row, whose record begins at `at`.
-#[cycle(list_array_list_entries_list_member_list_members_list_type)]
+#[cycle(list)]
 fn list_member(
     table: &[u32],
     pool: &[u8],
@@ -306,7 +306,7 @@ fn list_member(
 }
 
 // So many entries of an array, a base size apart, until `most` runs are closed; the path's top is the base's row, and `entry` what it has.
-#[cycle(list_array_list_entries_list_member_list_members_list_type)]
+#[cycle(list)]
 fn list_entries(
     table: &[u32],
     pool: &[u8],

@@ -181,7 +181,7 @@ fn entry_count(table: &[u32], pool: &[u8], row: usize, rank: u32) -> u64
 
 // Counts the type at the top of the path. No row is tested again, and an enumeration's members are passed by their number: the cost is a step
 // for each other row, and the steps of `size_at` for each array.
-#[cycle(tally_inner_tally_members_tally_type)]
+#[cycle(tally)]
 fn tally_type(table: &[u32], pool: &[u8], path: Path) -> Tally
     requires { (0 < path.depth) × (path.depth ≤ 32) }
     ensures { TallyAt (33 - path.depth) table.now pool.now (top_of path) result }
@@ -213,7 +213,7 @@ fn tally_type(table: &[u32], pool: &[u8], path: Path) -> Tally
 
 // The same of a type at a row one level below the path; where no level is left, none is found there. A leaf is counted here, since a path costs
 // more than it; any other row is read again.
-#[cycle(tally_inner_tally_members_tally_type)]
+#[cycle(tally)]
 fn tally_inner(table: &[u32], pool: &[u8], path: Path, row: usize) -> Tally
     requires { path.depth ≤ 32 }
     ensures { TallyAt (32 - path.depth) table.now pool.now row result }
@@ -229,7 +229,7 @@ fn tally_inner(table: &[u32], pool: &[u8], path: Path, row: usize) -> Tally
 }
 
 // The same of so many members of the compound at the top of the path, from a row on.
-#[cycle(tally_inner_tally_members_tally_type)]
+#[cycle(tally)]
 fn tally_members(table: &[u32], pool: &[u8], path: Path, row: usize, count: u32) -> Tally
     requires { path.depth ≤ 32 }
     ensures { TallyIn (32 - path.depth) table.now pool.now row count result }
@@ -336,7 +336,7 @@ fn repeat_slots(out: &mut [u64], at: usize, next: usize, stride: u32, count: u64
 
 // Lists the slots of the type at the top of the path, which begins at `base` in the record: from `at` on. Each row is looked at once, and an
 // enumeration's members are passed by their number.
-#[cycle(put_array_put_inner_put_members_put_type)]
+#[cycle(put)]
 fn put_type(table: &[u32], pool: &[u8], path: Path, base: u64, out: &mut [u64], at: usize) -> Put
     requires { Standing path base }
     ensures { PutAt (33 - path.depth) table.now pool.now (top_of path) base out.old at result out.new }
@@ -357,7 +357,7 @@ fn put_type(table: &[u32], pool: &[u8], path: Path, base: u64, out: &mut [u64], 
 }
 
 // The same of an array whose row is the top of the path: the first entry is listed, the others are moved from it.
-#[cycle(put_array_put_inner_put_members_put_type)]
+#[cycle(put)]
 fn put_array(
     table: &[u32],
     pool: &[u8],
@@ -383,7 +383,7 @@ fn put_array(
 }
 
 // The same of so many members of the compound at the top of the path, from a row on.
-#[cycle(put_array_put_inner_put_members_put_type)]
+#[cycle(put)]
 fn put_members(
     table: &[u32],
     pool: &[u8],
@@ -415,7 +415,7 @@ fn put_members(
 
 // The same of a type at a row one level below the path, which begins at `base` in the record. One that begins past all 32-bit places lists
 // nothing; where no level is left, none is found there. A leaf is listed here, as above.
-#[cycle(put_array_put_inner_put_members_put_type)]
+#[cycle(put)]
 fn put_inner(
     table: &[u32],
     pool: &[u8],

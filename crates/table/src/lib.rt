@@ -230,7 +230,7 @@ pub fn behind_enum_members(table: &[u32], row: usize, count: u32) -> usize
 
 // The row behind the type at a row that is known, with so many levels left. No row is tested, and an enumeration's members are passed by their
 // number: the cost is a step for each other row.
-#[cycle(next_member_row_next_row)]
+#[cycle(passing)]
 pub fn next_row(table: &[u32], row: usize, levels: usize) -> usize
     ensures { PassesType levels table.now row result }
 {
@@ -252,7 +252,7 @@ pub fn next_row(table: &[u32], row: usize, levels: usize) -> usize
 }
 
 // The row behind so many members of a compound.
-#[cycle(next_member_row_next_row)]
+#[cycle(passing)]
 fn next_member_row(table: &[u32], row: usize, count: u32, levels: usize) -> usize
     ensures { PassesMembers levels table.now row count result }
 {
@@ -375,7 +375,7 @@ fn array_survey(pool: &[u8], place: usize, rank: u32, base: Survey) -> Survey
 }
 
 // The type at a row, its pool bytes at a place, with so many levels left. Costs one pass over its rows.
-#[cycle(survey_inner_survey_members_survey_type)]
+#[cycle(survey)]
 pub fn survey_type(table: &[u32], pool: &[u8], row: usize, place: usize, levels: usize) -> Surveyed
     ensures { result ≡ survey_of (type_at levels table.now pool.now row place) }
 {
@@ -434,7 +434,7 @@ pub fn survey_type(table: &[u32], pool: &[u8], row: usize, place: usize, levels:
 }
 
 // The same, of a member: a leaf is surveyed without a call of `survey_type`, which reads any other row again.
-#[cycle(survey_inner_survey_members_survey_type)]
+#[cycle(survey)]
 fn survey_inner(table: &[u32], pool: &[u8], row: usize, place: usize, levels: usize) -> Surveyed
     ensures { result ≡ survey_of (type_at levels table.now pool.now row place) }
 {
@@ -451,7 +451,7 @@ fn survey_inner(table: &[u32], pool: &[u8], row: usize, place: usize, levels: us
 }
 
 // The members of a compound of a size.
-#[cycle(survey_inner_survey_members_survey_type)]
+#[cycle(survey)]
 fn survey_members(
     table: &[u32],
     pool: &[u8],

@@ -35,7 +35,7 @@ fn size_at(table: &[u32], pool: &[u8], row: usize, place: usize, levels: usize) 
 }
 
 // The members of a compound of a size, into `out` at a place. Here and in `put_type` a row is not tested again: measuring tested it.
-#[cycle(put_enumeration_put_inner_put_members_put_type)]
+#[cycle(put)]
 fn put_members(
     table: &[u32],
     pool: &[u8],
@@ -94,7 +94,7 @@ fn put_members(
 }
 
 // As `put_type`, of a member: a leaf is put here, and `put_type` reads any other row again.
-#[cycle(put_enumeration_put_inner_put_members_put_type)]
+#[cycle(put)]
 fn put_inner(
     table: &[u32],
     pool: &[u8],
@@ -122,7 +122,7 @@ fn put_inner(
 
 // The type at a row, its pool bytes at a place, with so many levels left, into `out` at a place. Lost where there is none, it does not fit
 // or it cannot be stored.
-#[cycle(put_enumeration_put_inner_put_members_put_type)]
+#[cycle(put)]
 fn put_type(
     table: &[u32],
     pool: &[u8],
@@ -191,7 +191,7 @@ fn put_type(
 }
 
 // An enumeration's row, with so many levels left below it: header, base, names and values.
-#[cycle(put_enumeration_put_inner_put_members_put_type)]
+#[cycle(put)]
 fn put_enumeration(
     table: &[u32],
     pool: &[u8],

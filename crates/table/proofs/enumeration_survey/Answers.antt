@@ -1,0 +1,6 @@
+use Rattle.table.specs.Survey.{enumeration_survey_of}
+use Rattle.table.proofs.enumeration_survey.Goals as goal
+
+pub returns : goal.returns
+unfolding enumeration_survey_of
+returns c = rw (c.first_of.ensures, c.zero_note.ensures)

@@ -1,0 +1,13 @@
+use Prim.Native.Nat.{◌-◌}
+use Rattle.writer_parts.proofs.Leaves.{ColumnsLeft}
+use Rattle.writer_parts.proofs.put_columns.Reads as reads
+use Rattle.writer_parts.proofs.put_columns.Lts as lts
+use Rattle.writer_parts.proofs.column_width.Reads as column-width-reads
+use Rattle.writer_parts.proofs.put_number.Reads as put-number-reads
+use Rattle.writer_parts.proofs.put_columns.Given as goal
+
+abbrev pub invariant-loop-c : goal.invariant-loop-c
+invariant-loop-c l = ColumnsLeft l.table l.row l.from l.to l.at l.initial.out l.c l.a l.out
+
+abbrev pub decreases-loop-c : goal.decreases-loop-c
+decreases-loop-c l = l.to - l.c

@@ -1,0 +1,14 @@
+use Rattle.writer_parts.proofs.Placing.{number-full, number-stored, number-of_width}
+use Rattle.writer_parts.proofs.put_number.Goals as goal
+
+pub returns-then-room-width : goal.returns-then-room-width
+returns-then-room-width c = search number-full
+
+pub returns-in-1 : goal.returns-in-1
+returns-in-1 c = search number-of_width
+
+pub returns-in-2 : goal.returns-in-2
+returns-in-2 c = search number-of_width
+
+pub returns-in_default : goal.returns-in_default
+returns-in_default c = search number-stored

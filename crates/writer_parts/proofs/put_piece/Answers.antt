@@ -1,0 +1,18 @@
+use Rattle.writer_parts.proofs.Placing.{piece-none, piece-outside, piece-full, piece-stored}
+use Rattle.writer_parts.proofs.put_piece.Reads as reads
+use Rattle.writer_parts.proofs.put_piece.Lts as lts
+use Rattle.primitives.proofs.copy_bytes.Reads as copy-bytes-reads
+use Rattle.writer_parts.proofs.room.Reads as room-reads
+use Rattle.writer_parts.proofs.put_piece.Goals as goal
+
+pub returns-then-n-eq0 : goal.returns-then-n-eq0
+returns-then-n-eq0 c = search piece-none
+
+pub returns-then-room-n : goal.returns-then-room-n
+returns-then-room-n c = search piece-outside
+
+pub returns-then-room-n-2 : goal.returns-then-room-n-2
+returns-then-room-n-2 c = search piece-full
+
+pub returns : goal.returns
+returns c = search piece-stored
