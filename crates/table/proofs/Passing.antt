@@ -86,8 +86,10 @@ module _ (table : List ℕ) (row levels : ℕ) where
     pub passes-compound : {n k : ℕ} {x : ℕ} → e ≡ Compound n k → PassesMembers (levels - 1) table (row + 1) k x → PassesType levels table row x
     passes-compound {n = n} {x = x} h v = passes x h (λ pool p. unfold from_entry in passes_then _ (compound n) x (rw (add-one row) at (v.passes pool p)))
 
-    pub passes-enumeration : {n k : ℕ} {y x : ℕ} → e ≡ Enumeration n k → PassesType (levels - 1) table (row + 1) y → PassesNames table y k x → PassesType levels table row x
-    passes-enumeration {n = n} {k = k} {y = y} {x = x} h v w = passes x h (λ pool p. unfold from_entry in go pool (type_at (levels - 1) table pool (suc row) p) (rw (add-one row) at (v.passes pool p)))
+    enumeration_passes : (n k y x : ℕ) → PassesType (levels - 1) table (row + 1) y → PassesNames table y k x
+        → (pool : List ℕ) (p : ℕ) → PassesTo (from_entry (type_at (levels - 1) table pool) table pool row p (Enumeration n k)) x
+    unfolding from_entry
+    enumeration_passes n k y x v w pool₀ p₀ = go pool₀ (type_at (levels - 1) table pool₀ (suc row) p₀) (rw (add-one row) at (v.passes pool₀ p₀))
       where
         values : (pool : List ℕ) (t : Datatype) (z : Found (List (List ℕ × ℕ))) → PassesTo z x
             → PassesTo (and_then z (λ ns r₂ p₂. and_then (enum_values_at pool ns r₂ p₂) (λ ms r₃ p₃. found (enumeration n t ms) r₃ p₃))) x
@@ -98,6 +100,9 @@ module _ (table : List ℕ) (row levels : ℕ) where
             → PassesTo (and_then z (λ t r₁ p₁. and_then (enum_names_at table pool k r₁ p₁) (λ ns r₂ p₂. and_then (enum_values_at pool ns r₂ p₂) (λ ms r₃ p₃. found (enumeration n t ms) r₃ p₃)))) x
         go pool (found t r p) g = unfold PassesTo and_then in values pool t (enum_names_at table pool k r p) (rw g at (w.passes pool p))
         go pool bad g = unfold and_then PassesTo in tt
+
+    pub passes-enumeration : {n k : ℕ} {y x : ℕ} → e ≡ Enumeration n k → PassesType (levels - 1) table (row + 1) y → PassesNames table y k x → PassesType levels table row x
+    passes-enumeration {n = n} {k = k} {y = y} {x = x} h v w = passes x h (enumeration_passes n k y x v w)
 
     pub passes-variable_length : {i a c : ℕ} {x : ℕ} → e ≡ VariableLength i a c → PassesType (levels - 1) table (row + 1) x → PassesType levels table row x
     passes-variable_length {i = i} {a = a} {c = c} {x = x} h v = passes x h (λ pool p. unfold from_entry in passes_then _ (variable_length i a c) x (rw (add-one row) at (v.passes pool p)))
@@ -167,15 +172,20 @@ module _ (table pool : List ℕ) (row levels : ℕ) where
     pub sized-leaf : {c n l y : ℕ} → e ≡ Leaf c n l y → SizedAt levels table pool row n
     sized-leaf {n = n} h = by_size n h (λ p q. unfold from_entry SizedTo type_size_of in (rw (leaf_law table pool row p q refl).is))
 
-    pub sized-compound : {n k : ℕ} → e ≡ Compound n k → SizedAt levels table pool row n
-    sized-compound {n = n} {k = k} h = by_size n h (λ p q. unfold from_entry in go _)
+    compound_sized : (n k p : ℕ) → SizedTo (from_entry (type_at (levels - 1) table pool) table pool row p (Compound n k)) n
+    unfolding from_entry
+    compound_sized n k p₀ = go _
       where
         go : (y : Found Members) → SizedTo (and_then y (λ ms r' p'. found (compound n ms) r' p')) n
         go (found ms r p) = unfold and_then SizedTo type_size_of in refl
         go bad = unfold and_then SizedTo in tt
 
-    pub sized-enumeration : {n k : ℕ} → e ≡ Enumeration n k → SizedAt levels table pool row n
-    sized-enumeration {n = n} {k = k} h = by_size n h (λ p q. unfold from_entry in go _)
+    pub sized-compound : {n k : ℕ} → e ≡ Compound n k → SizedAt levels table pool row n
+    sized-compound {n = n} {k = k} h = by_size n h (λ p q. compound_sized n k p)
+
+    enumeration_sized : (n k p : ℕ) → SizedTo (from_entry (type_at (levels - 1) table pool) table pool row p (Enumeration n k)) n
+    unfolding from_entry
+    enumeration_sized n k p₀ = go _
       where
         values : (t : Datatype) (y : Found (List EnumMember)) → SizedTo (and_then y (λ ms r₃ p₃. found (enumeration n t ms) r₃ p₃)) n
         values t (found ms r p) = unfold and_then SizedTo type_size_of in refl
@@ -190,12 +200,19 @@ module _ (table pool : List ℕ) (row levels : ℕ) where
         go (found t r p) = unfold and_then in names t (enum_names_at table pool k r p)
         go bad = unfold and_then SizedTo in tt
 
-    pub sized-variable_length : {i a c : ℕ} → e ≡ VariableLength i a c → SizedAt levels table pool row 16
-    sized-variable_length {i = i} {a = a} {c = c} h = by_size 16 h (λ p q. unfold from_entry in go _)
+    pub sized-enumeration : {n k : ℕ} → e ≡ Enumeration n k → SizedAt levels table pool row n
+    sized-enumeration {n = n} {k = k} h = by_size n h (λ p q. enumeration_sized n k p)
+
+    variable_sized : (i a c p : ℕ) → SizedTo (from_entry (type_at (levels - 1) table pool) table pool row p (VariableLength i a c)) 16
+    unfolding from_entry
+    variable_sized i a c p₀ = go _
       where
         go : (y : Found Datatype) → SizedTo (and_then y (λ t r' p'. found (variable_length i a c t) r' p')) 16
         go (found t r p) = unfold and_then SizedTo type_size_of in refl
         go bad = unfold and_then SizedTo in tt
+
+    pub sized-variable_length : {i a c : ℕ} → e ≡ VariableLength i a c → SizedAt levels table pool row 16
+    sized-variable_length {i = i} {a = a} {c = c} h = by_size 16 h (λ p q. variable_sized i a c p)
 
     pub sized-array : {k base total x : ℕ} → e ≡ Array k → SizedAt (levels - 1) table pool (row + 1) base → TotalAt table pool row k base total → x ≡ min total 4294967295 → SizedAt levels table pool row x
     sized-array {k = k} {base = base} {total = total} {x = x} h v w u = by_size x h (λ p q. unfold from_entry in go (dimensions_from k (take (k * 4) (drop p pool))) (w.total p q) _ (rw (add-one row) at (v.sized (p + k * 4))))

@@ -2,7 +2,7 @@ use Rattle.table.proofs.Checking.{check_unsound, check_bad, check_good, survey_f
 use Rattle.table.proofs.check.Goals as goal
 
 pub ends_at-requires : goal.ends_at-requires
-ends_at-requires c = survey_fits _ _ _ c.survey_type-got.ensures c.in-Sound.is (λ i. (c.shared_slice_known-2-1.ensures i).fits)
+ends_at-requires c = survey_fits _ _ _ c.survey_type-got.ensures c.in-Sound.is (λ i. (c.type_inv.pool i).fits)
 
 pub returns-then-ends_at : goal.returns-then-ends_at
 returns-then-ends_at c = search check_good

@@ -1,6 +1,5 @@
 use Rattle.format.proofs.Bytes.{byte_below}
 use lib.Dec.{lit<}
-use borrow.Author.Rules.{Fits-under}
 use Rattle.table.proofs.Naming.{name-bad, name-behind, name-first, name-first-bytes, name-first-inside, name-none, name-some, name-word, name-word-bytes, name-word-inside}
 use Rattle.table.proofs.name_part.Goals as goal
 
@@ -28,9 +27,6 @@ offset_bounds-table-at-in-Good c = search (name-word-bytes, byte_below, lit<)
 pub bounds-table-at-in-Good : goal.bounds-table-at-in-Good
 bounds-table-at-in-Good c = search (name-word-inside, byte_below, lit<)
 
-pub overflow_cast-place : goal.overflow_cast-place
-overflow_cast-place c = Fits-under _ _ _ (c.shared_slice_known-in-Good-2-1.ensures _).fits tt
-
 pub overflow_add-length : goal.overflow_add-length
 overflow_add-length c = search (name-word, byte_below, lit<)
 
@@ -39,9 +35,6 @@ offset_bounds-table-at-in-Good-2 c = search (name-word-bytes, byte_below, lit<)
 
 pub bounds-table-at-in-Good-2 : goal.bounds-table-at-in-Good-2
 bounds-table-at-in-Good-2 c = search (name-word-inside, byte_below, lit<)
-
-pub overflow_cast-length : goal.overflow_cast-length
-overflow_cast-length c = Fits-under _ _ _ (c.shared_slice_known-in-Good-3-1.ensures _).fits tt
 
 pub returns-in-Bad : goal.returns-in-Bad
 returns-in-Bad c = search name-bad
