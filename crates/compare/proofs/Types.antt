@@ -150,7 +150,8 @@ module _ (table pool : List ℕ) (depth row : ℕ) (a b : List ℕ) (at : ℕ) {
   type_unknown x h = by_row x h (λ p q. unfold from_entry Agrees in tt)
 
   pub type-variable_length : (x : Agreed) {i v c : ℕ} → e ≡ VariableLength i v c → AgreesAt (33 - depth) table pool row a b at x
-  type-variable_length x {i = i} {v = v} {c = c} h = by_row x h (λ p q. unfold from_entry in go (type_at (32 - depth) table pool (suc row) p))
+  unfolding from_entry
+  type-variable_length x {i = i} {v = v} {c = c} h = by_row x h (λ p q. go (type_at (32 - depth) table pool (suc row) p))
     where
       go : (y : Found Datatype) → Agrees (and_then y (λ t r' p'. found (variable_length i v c t) r' p')) a b at x
       go (found t r' p') = unfold and_then Agrees heap_held in λ d l. absurd (false≢true (sym d.plain))
@@ -162,6 +163,7 @@ module _ (table pool : List ℕ) (depth row : ℕ) (a b : List ℕ) (at : ℕ) {
 
   -- an enumeration ends where its field's answer says
   pub type-enumeration : (x : Agreed) {n k : ℕ} → e ≡ Enumeration n k → AgreesEnumeration (33 - depth) table row n a b at x → AgreesAt (33 - depth) table pool row a b at x
+  unfolding from_entry
   type-enumeration x {n = n} {k = k} h v =
       let j : 33 - depth ≡ suc (32 - depth) = omega arith in
       record { agrees = λ p. rw j (claim_of-type table pool row p (λ (y : Found Datatype). PassesTo y v.next → Agrees y a b at x) (λ g. unfold Agrees in tt) (32 - depth) e (says.is pool p) (λ q. rw h (of-base p)) (rw j at (v.passes.passes pool p))) }
@@ -184,13 +186,14 @@ module _ (table pool : List ℕ) (depth row : ℕ) (a b : List ℕ) (at : ℕ) {
 
       of-base : (p : ℕ) → PassesTo (from_entry (type_at (32 - depth) table pool) table pool row p (Enumeration n k)) v.next
           → Agrees (from_entry (type_at (32 - depth) table pool) table pool row p (Enumeration n k)) a b at x
-      of-base p g = unfold from_entry in of_types (type_at (32 - depth) table pool (suc row) p) (unfold from_entry in g)
+      of-base p g = of_types (type_at (32 - depth) table pool (suc row) p) g
 
   pub type-array : (x : Agreed) {k : ℕ} → e ≡ Array k → AgreesArray (32 - depth) table pool row k a b at x → AgreesAt (33 - depth) table pool row a b at x
   type-array x h v = by_row x h (λ p q. v.agrees p q)
 
   pub type-compound : (x : Agreed) {n k : ℕ} → e ≡ Compound n k → AgreesMembers (32 - depth) table pool k (row + 1) a b at x → AgreesAt (33 - depth) table pool row a b at x
-  type-compound x {n = n} {k = k} h v = by_row x h (λ p q. unfold from_entry in go (members_at (type_at (32 - depth) table pool) table pool k (suc row) p) (rw (add-one row) at (v.agrees p)))
+  unfolding from_entry
+  type-compound x {n = n} {k = k} h v = by_row x h (λ p q. go (members_at (type_at (32 - depth) table pool) table pool k (suc row) p) (rw (add-one row) at (v.agrees p)))
     where
       go : (y : Found Members) → AgreesIn y a b at x → Agrees (and_then y (λ ms r' p'. found (compound n ms) r' p')) a b at x
       go (found ms r p) w =

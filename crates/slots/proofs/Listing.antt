@@ -172,10 +172,11 @@ module _ (table pool : List ℕ) (depth row base : ℕ) (out : List ℕ) (at : �
       }
 
   pub type-compound : (x : Put) (out' : List ℕ) {n k : ℕ} → e ≡ Compound n k → PutInside (32 - depth) table pool (row + 1) k base out at x out' → PutAt (33 - depth) table pool row base out at x out'
+  unfolding from_entry
   type-compound x out' {n = n} i v =
       record {
         passes = passes-compound table row (33 - depth) deep s i (rw (below depth) v.passes);
-        lists = lists_by x.next out' i (λ p q. unfold from_entry in go _ (rw (add-one row) at (v.lists p)));
+        lists = lists_by x.next out' i (λ p q. go _ (rw (add-one row) at (v.lists p)));
       }
     where
       go : (y : Found Members) → PutIn y base out at x.next out' → PutAs (and_then y (λ ms r' p'. found (compound n ms) r' p')) base out at x.next out'

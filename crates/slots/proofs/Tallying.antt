@@ -151,10 +151,11 @@ module _ (table pool : List ℕ) (depth row : ℕ) {e : Entry} (shallow : depth 
       })
 
   pub type-compound : {n k : ℕ} {x : Tally} → e ≡ Compound n k → TallyIn (32 - depth) table pool (row + 1) k x → TallyAt (33 - depth) table pool row x
+  unfolding from_entry
   type-compound {n = n} {x = x} i v =
       record {
         passes = passes-compound table row (33 - depth) deep s i (rw (below depth) v.passes);
-        counts = counts_by x i (λ p q. unfold from_entry in go _ (rw (add-one row) at (v.counts p)));
+        counts = counts_by x i (λ p q. go _ (rw (add-one row) at (v.counts p)));
       }
     where
       go : (y : Found Members) → CountedIn y x → CountedAs (and_then y (λ ms r' p'. found (compound n ms) r' p')) x

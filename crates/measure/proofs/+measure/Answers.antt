@@ -99,6 +99,3 @@ measure_type-returns-in-Lost-got-2 t c = search type-array-lost
 
 pub measure_type-returns-in-At-got-2 : goal.measure_type-returns-in-At-got-2
 measure_type-returns-in-At-got-2 t c = search type-array
-
-pub measure_inner-returns-in_default : goal.measure_inner-returns-in_default
-measure_inner-returns-in_default t c = search rules)

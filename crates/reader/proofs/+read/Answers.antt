@@ -20,6 +20,9 @@ read_members-returns-in-Refused t c = search members-stopped
 pub read_members-slice_bounds-read_type-count : goal.read_members-slice_bounds-read_type-count
 read_members-slice_bounds-read_type-count t c = search (rules, entered-within)
 
+pub read_members-slice_bounds-read_type-start : goal.read_members-slice_bounds-read_type-start
+read_members-slice_bounds-read_type-start t c = search (rules, entered-within)
+
 pub read_members-read_type-got-requires : goal.read_members-read_type-got-requires
 read_members-read_type-got-requires t c = let e : read-members-lts.After-enter-member (read-members-calls t) (read-members-at t) read-members.Post read-members-Inv-loop read-members-μ-loop = search in
     let s : read-members-lts.After-entered2 (read-members-calls t) (read-members-at t) read-members.Post read-members-Inv-loop read-members-μ-loop = search in
@@ -74,6 +77,9 @@ read_type-end_compound-requires t c = search compound-filled
 
 pub read_type-slice_bounds-read_type-count : goal.read_type-slice_bounds-read_type-count
 read_type-slice_bounds-read_type-count t c = search (rules, based-within)
+
+pub read_type-slice_bounds-read_type-start : goal.read_type-slice_bounds-read_type-start
+read_type-slice_bounds-read_type-start t c = search (rules, based-within)
 
 pub read_type-overflow_add-used-in-Based : goal.read_type-overflow_add-used-in-Based
 read_type-overflow_add-used-in-Based t c = search (rules, based-free)

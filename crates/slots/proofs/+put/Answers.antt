@@ -1,0 +1,72 @@
+use Rattle.std.proofs.Common.{rules}
+use Rattle.rows.proofs.Known.{says-leaf-next, says-compound-next, names-next}
+use Rattle.slots.proofs.Rows.{array-row, array-next}
+use Rattle.slots.proofs.Listing.{type_unknown, type-enumeration, type-variable_length, type-leaf, type-compound, row_is, type-array, inner_far, inner-none, inner-leaf, inner_type}
+use Rattle.slots.proofs.ListingInside.{members-start, members_unnamed, members-next, members_end}
+use Rattle.slots.proofs.+put.Goals as goal
+
+pub put_array-overflow_add-row : goal.put_array-overflow_add-row
+put_array-overflow_add-row t c = search (array-next, rules)
+
+pub put_array-overflow_add-row-2 : goal.put_array-overflow_add-row-2
+put_array-overflow_add-row-2 t c = search (array-next, rules)
+
+pub put_array-entry_count-count-requires : goal.put_array-entry_count-count-requires
+put_array-entry_count-count-requires t c = search (array-row, rules)
+
+pub put_array-returns : goal.put_array-returns
+put_array-returns t c = search type-array
+
+pub put_inner-returns-then-base-ge4294967296 : goal.put_inner-returns-then-base-ge4294967296
+put_inner-returns-then-base-ge4294967296 t c = search inner_far
+
+pub put_inner-returns-then-depth-eq32 : goal.put_inner-returns-then-depth-eq32
+put_inner-returns-then-depth-eq32 t c = search inner-none
+
+pub put_inner-overflow_add-row : goal.put_inner-overflow_add-row
+put_inner-overflow_add-row t c = search (says-leaf-next, rules)
+
+pub put_inner-returns-in-Leaf : goal.put_inner-returns-in-Leaf
+put_inner-returns-in-Leaf t c = search inner-leaf
+
+pub put_inner-returns-in_default : goal.put_inner-returns-in_default
+put_inner-returns-in_default t c = search inner_type
+
+pub put_members-loop-left-init : goal.put_members-loop-left-init
+put_members-loop-left-init t c = members-start _ _ _ _ _ _ _ _
+
+pub put_members-returns-in_default : goal.put_members-returns-in_default
+put_members-returns-in_default t c = search members_unnamed
+
+pub put_members-overflow_add-r : goal.put_members-overflow_add-r
+put_members-overflow_add-r t c = search (names-next, rules)
+
+pub put_members-loop-left-preserved : goal.put_members-loop-left-preserved
+put_members-loop-left-preserved t c = search members-next
+
+pub put_members-returns : goal.put_members-returns
+put_members-returns t c = search members_end
+
+pub put_type-overflow_add-row : goal.put_type-overflow_add-row
+put_type-overflow_add-row t c = search (says-leaf-next, rules)
+
+pub put_type-overflow_add-row-in-Compound : goal.put_type-overflow_add-row-in-Compound
+put_type-overflow_add-row-in-Compound t c = search (says-compound-next, rules)
+
+pub put_type-put_array-requires : goal.put_type-put_array-requires
+put_type-put_array-requires t c = search (row_is, rules)
+
+pub put_type-returns-in-Unknown : goal.put_type-returns-in-Unknown
+put_type-returns-in-Unknown t c = search type_unknown
+
+pub put_type-returns-in-Enumeration : goal.put_type-returns-in-Enumeration
+put_type-returns-in-Enumeration t c = search type-enumeration
+
+pub put_type-returns-in-VariableLength : goal.put_type-returns-in-VariableLength
+put_type-returns-in-VariableLength t c = search type-variable_length
+
+pub put_type-returns-in-Leaf : goal.put_type-returns-in-Leaf
+put_type-returns-in-Leaf t c = search type-leaf
+
+pub put_type-returns-in-Compound : goal.put_type-returns-in-Compound
+put_type-returns-in-Compound t c = search type-compound
