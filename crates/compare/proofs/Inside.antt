@@ -9,8 +9,6 @@ use native.Mathlib.Numerals.{add-one}
 use native.Mathlib.Nat.{suc-mul, mul-le-mul_right}
 use lib.ListN.{length, take, drop}
 use lib.Dec.{ltb}
-use types.Run.{OneOf}
-use denote.Enum.Declared.{tag_of}
 use borrow.Author.Tests.{ltb-false}
 use Rattle.format.specs.Datatype.{Datatype, Members, member, type_size_of}
 use Rattle.format.specs.Image.{move_fields, field_entries, fields_of, member_fields, FieldsAgree, FieldsDiffer}
@@ -28,7 +26,6 @@ use Rattle.rows.proofs.Known.{claim_of-members}
 use Rattle.compare.specs.Agreeing.{Admitted, AdmittedIn, Answers, Agrees, AgreesIn, AgreesEach, AgreesAt, AgreesMembers, AgreesEntries}
 use Rattle.compare.specs.declared.Agreed.{Agreed}
 use Rattle.compare.specs.declared.Agreed.TheVariants.{Apart, Together, Lost}
-use Rattle.compare.specs.contracts.Agreed.{the_type}
 use Rattle.compare.proofs.Ranges.{answers-together, answers-apart}
 
 -- ---- one member more
@@ -170,14 +167,13 @@ module _ (table pool : List ℕ) (depth left r count row : ℕ) (a b : List ℕ)
 
 -- ---- entries
 
--- an answer other than Together, by its variant's number
+-- an answer other than Together
 abbrev pub Stops : Agreed → Type 0
-Stops x = OneOf (0 ∷ 2 ∷ []) (tag_of the_type x)
+Stops x = (row : ℕ) → x ≡ Together row → ⊥
 
 stopped : (x : Agreed) → Stops x → (x ≡ Apart) ⊎ (x ≡ Lost)
 stopped Apart h = inl refl
-stopped (Together s) (inl h) = absurd (omega arith)
-stopped (Together s) (inr h) = absurd (omega arith)
+stopped (Together s) h = absurd (h s refl)
 stopped Lost h = inr refl
 
 -- the first k entries agree, and behind the last of them the next row is known

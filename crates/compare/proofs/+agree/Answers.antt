@@ -26,7 +26,7 @@ pub agree_entries-returns-then-a-start : goal.agree_entries-returns-then-a-start
 agree_entries-returns-then-a-start t c = search entries-past
 
 pub agree_entries-returns-in_default : goal.agree_entries-returns-in_default
-agree_entries-returns-in_default t c = search entries_stop
+agree_entries-returns-in_default t c = search (entries_stop, c.in_default.not-Together)
 
 pub agree_entries-loop-done-preserved : goal.agree_entries-loop-done-preserved
 agree_entries-loop-done-preserved t c = search entries_next

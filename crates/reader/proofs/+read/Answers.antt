@@ -24,9 +24,7 @@ pub read_members-slice_bounds-read_type-start : goal.read_members-slice_bounds-r
 read_members-slice_bounds-read_type-start t c = search (rules, entered-within)
 
 pub read_members-read_type-got-requires : goal.read_members-read_type-got-requires
-read_members-read_type-got-requires t c = let e : read-members-lts.After-enter-member (read-members-calls t) (read-members-at t) read-members.Post read-members-Inv-loop read-members-μ-loop = search in
-    let s : read-members-lts.After-entered2 (read-members-calls t) (read-members-at t) read-members.Post read-members-Inv-loop read-members-μ-loop = search in
-    (search rules, ready_any_version _ (entered-ready e.enter-member.ensures s.entered2.given.1) refl refl)
+read_members-read_type-got-requires t c = let h = c in (search rules, ready_any_version _ (entered-ready c.enter_member-entered.ensures c.in-Done.is) refl refl)
 
 pub read_members-shape_of-table-in-Refused-got : goal.read_members-shape_of-table-in-Refused-got
 read_members-shape_of-table-in-Refused-got t c = search table-turned
@@ -38,12 +36,7 @@ pub read_members-returns-in-Refused-got : goal.read_members-returns-in-Refused-g
 read_members-returns-in-Refused-got t c = search members-refused
 
 pub read_members-overflow_add-at : goal.read_members-overflow_add-at
-read_members-overflow_add-at t c = let k : read-members-lts.After-got2 (read-members-calls t) (read-members-at t) read-members.Post read-members-Inv-loop read-members-μ-loop = search in
-    let g : read-members-lts.After-read-type (read-members-calls t) (read-members-at t) read-members.Post read-members-Inv-loop read-members-μ-loop = search in
-    let s : read-members-lts.After-entered2 (read-members-calls t) (read-members-at t) read-members.Post read-members-Inv-loop read-members-μ-loop = search in
-    let e : read-members-lts.After-enter-member (read-members-calls t) (read-members-at t) read-members.Post read-members-Inv-loop read-members-μ-loop = search in
-    let l : read-members-lts.At-loop (read-members-calls t) (read-members-at t) read-members.Post read-members-Inv-loop read-members-μ-loop = search in
-    entered-behind l.loop.inv e.enter-member.ensures s.entered2.given.1 g.read-type.ensures k.got2.given.1
+read_members-overflow_add-at t c = entered-behind c.loop-i.invariant c.enter_member-entered.ensures c.in-Done.is c.read_type-got.ensures c.in-Done-got.is
 
 pub read_members-overflow_add-i : goal.read_members-overflow_add-i
 read_members-overflow_add-i t c = search entered-next
@@ -88,9 +81,7 @@ pub read_type-read_type-got-requires : goal.read_type-read_type-got-requires
 read_type-read_type-got-requires t c = (search rules, search based-ready)
 
 pub read_type-end_based-requires : goal.read_type-end_based-requires
-read_type-end_based-requires t c = let e : read-type-lts.After-read-type (read-type-calls t) (read-type-at t) read-type.Post = search in
-    let s : read-type-lts.After-got4 (read-type-calls t) (read-type-at t) read-type.Post = search in
-    (search based_opened, based_read e.read-type.ensures s.got4.given.1)
+read_type-end_based-requires t c = (search based_opened, based_read c.read_type-got.ensures c.in-Done-got.is)
 
 pub read_type-returns-in-Refused : goal.read_type-returns-in-Refused
 read_type-returns-in-Refused t c = search type-shuts

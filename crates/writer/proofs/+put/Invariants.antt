@@ -1,0 +1,22 @@
+use Prim.Native.Nat.{◌*◌, ◌+◌}
+use Rattle.format.specs.Table.{type_at}
+use Rattle.writer.proofs.Compounds.{MembersLeft}
+use Rattle.writer.proofs.+put.Given as goal
+
+abbrev pub decreases-put_enumeration : goal.decreases-put_enumeration
+decreases-put_enumeration l = l.levels * 3 + 1
+
+abbrev pub decreases-put_inner : goal.decreases-put_inner
+decreases-put_inner l = l.levels * 3 + 1
+
+abbrev pub decreases-put_members : goal.decreases-put_members
+decreases-put_members l = l.levels * 3 + 2
+
+abbrev pub decreases-put_type : goal.decreases-put_type
+decreases-put_type l = l.levels * 3
+
+abbrev pub invariant-put_members-loop-left : goal.invariant-put_members-loop-left
+invariant-put_members-loop-left l = MembersLeft (type_at l.levels l.table l.pool) l.table l.pool l.edition l.size l.count l.row l.place l.at l.initial.out l.left l.r l.p l.a l.out
+
+abbrev pub decreases-put_members-loop-left : goal.decreases-put_members-loop-left
+decreases-put_members-loop-left l = l.left
