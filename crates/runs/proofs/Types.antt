@@ -103,6 +103,7 @@ module _ (table pool : List ℕ) (most depth row limit at : ℕ) (s : Runs) (w :
   -- an enumeration ends where its members do
   pub type-enumeration : {n k next : ℕ} → e ≡ Enumeration n k → PassesType (33 - depth) table row next → ListsField n false limit at next s w s' w'
       → ListsAt most (33 - depth) table pool row limit at s w s' w'
+  unfolding from_entry
   type-enumeration {n = n} {k = k} {next = next} h b v =
       let j : 33 - depth ≡ suc (32 - depth) = omega arith in
       record { grows = v.grows; lists = λ z p. rw j (claim_of-type table pool row p (λ (y : Found Datatype). PassesTo y next → ListsAs y limit at s w s' w') (λ g. unfold ListsAs in tt) (32 - depth) e (says.is pool p) (λ q. rw h (of-base p)) (rw j at (b.passes pool p))) }
@@ -125,13 +126,14 @@ module _ (table pool : List ℕ) (most depth row limit at : ℕ) (s : Runs) (w :
 
       of-base : (p : ℕ) → PassesTo (from_entry (type_at (32 - depth) table pool) table pool row p (Enumeration n k)) next
           → ListsAs (from_entry (type_at (32 - depth) table pool) table pool row p (Enumeration n k)) limit at s w s' w'
-      of-base p g = unfold from_entry in of_types (type_at (32 - depth) table pool (suc row) p) (unfold from_entry in g)
+      of-base p g = of_types (type_at (32 - depth) table pool (suc row) p) g
 
   pub type-array : {k : ℕ} → e ≡ Array k → ListsArray most (32 - depth) table pool row k limit at s w s' w' → ListsAt most (33 - depth) table pool row limit at s w s' w'
   type-array h v = by_row h v.grows (λ z p q. v.lists z p q)
 
   pub type-compound : {n k : ℕ} → e ≡ Compound n k → ListsMembers most (32 - depth) table pool k (row + 1) limit at s w s' w' → ListsAt most (33 - depth) table pool row limit at s w s' w'
-  type-compound {n = n} {k = k} h v = by_row h v.grows (λ z p q. unfold from_entry in go (members_at (type_at (32 - depth) table pool) table pool k (suc row) p) (rw (add-one row) at (v.lists z p)))
+  unfolding from_entry
+  type-compound {n = n} {k = k} h v = by_row h v.grows (λ z p q. go (members_at (type_at (32 - depth) table pool) table pool k (suc row) p) (rw (add-one row) at (v.lists z p)))
     where
       go : (y : Found Members) → ListsIn y limit at s w s' w' → ListsAs (and_then y (λ ms r' p'. found (compound n ms) r' p')) limit at s w s' w'
       go (found ms r p) i =

@@ -1,0 +1,8 @@
+use Rattle.keys.proofs.Ranges.{blocks_stop, blocks_last}
+use Rattle.keys.proofs.same_bytes.Goals as goal
+
+pub returns-then-equal_range : goal.returns-then-equal_range
+returns-then-equal_range c = search blocks_last
+
+pub returns : goal.returns
+returns c = search blocks_stop

@@ -1,0 +1,14 @@
+use Rattle.keys.proofs.Strings.{string-begun, string-whole, string-nul, string-more}
+use Rattle.keys.proofs.string_size.Goals as goal
+
+pub loop-i-init : goal.loop-i-init
+loop-i-init c = search string-begun
+
+pub returns-then-x-at-eq0 : goal.returns-then-x-at-eq0
+returns-then-x-at-eq0 c = search string-nul
+
+pub loop-i-preserved : goal.loop-i-preserved
+loop-i-preserved c = search string-more
+
+pub returns : goal.returns
+returns c = search string-whole

@@ -1,0 +1,31 @@
+use Rattle.table.specs.Path.{top_of}
+use Rattle.runs.proofs.Inside.{Leads, Going}
+use Prim.Native.Nat.{◌+◌, ◌-◌, ◌*◌}
+use Rattle.runs.proofs.+list.Given as goal
+
+abbrev pub decreases-list_array : goal.decreases-list_array
+decreases-list_array l = (33 - l.path.depth) * 4
+
+abbrev pub decreases-list_entries : goal.decreases-list_entries
+decreases-list_entries l = (33 - l.path.depth) * 4 + 2
+
+abbrev pub decreases-list_member : goal.decreases-list_member
+decreases-list_member l = (33 - l.path.depth) * 4 - 1
+
+abbrev pub decreases-list_members : goal.decreases-list_members
+decreases-list_members l = (33 - l.path.depth) * 4
+
+abbrev pub decreases-list_type : goal.decreases-list_type
+decreases-list_type l = (33 - l.path.depth) * 4 + 1
+
+abbrev pub invariant-list_entries-loop-done : goal.invariant-list_entries-loop-done
+invariant-list_entries-loop-done l = Going l.most (33 - l.path.depth) l.table l.pool (top_of l.path) l.stride l.count l.done l.start l.limit l.at l.initial.state l.initial.work l.state l.work
+
+abbrev pub decreases-list_entries-loop-done : goal.decreases-list_entries-loop-done
+decreases-list_entries-loop-done l = l.count - l.done
+
+abbrev pub invariant-list_members-loop-left : goal.invariant-list_members-loop-left
+invariant-list_members-loop-left l = Leads l.most (32 - l.path.depth) l.table l.pool l.left l.r l.count l.row l.limit l.at l.initial.state l.initial.work l.state l.work
+
+abbrev pub decreases-list_members-loop-left : goal.decreases-list_members-loop-left
+decreases-list_members-loop-left l = l.left

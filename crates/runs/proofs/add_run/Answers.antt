@@ -1,0 +1,11 @@
+use Rattle.runs.proofs.Storing.{longer-from, add_longer, add_new}
+use Rattle.runs.proofs.add_run.Goals as goal
+
+pub overflow_sub-result : goal.overflow_sub-result
+overflow_sub-result c = search longer-from
+
+pub returns-then-joins_run : goal.returns-then-joins_run
+returns-then-joins_run c = search add_longer
+
+pub returns : goal.returns
+returns c = search add_new
