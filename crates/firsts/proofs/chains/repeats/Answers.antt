@@ -1,0 +1,15 @@
+use Rattle.firsts.proofs.Chaining.{looked_by, looked-number, placed-room, repeats-first, repeats-before, repeats-told}
+use borrow.Author.Rules.{rules}
+use Rattle.firsts.proofs.chains.repeats.Goals as goal
+
+pub returns-then-k-eq0 : goal.returns-then-k-eq0
+returns-then-k-eq0 c = search repeats-first
+
+pub words_from-runs-requires : goal.words_from-runs-requires
+words_from-runs-requires c = search (placed-room, rules)
+
+pub same_key-requires : goal.same_key-requires
+same_key-requires c = search (looked_by, looked-number, repeats-before)
+
+pub returns : goal.returns
+returns c = search repeats-told
