@@ -1,0 +1,17 @@
+use Rattle.duplicates.proofs.Answers.{plain-full, plain-found, stored-known, stored-room}
+use borrow.Author.Rules.{rules}
+use Rattle.duplicates.proofs.list_groups.Goals as goal
+
+pub returns-then-sizes-d : goal.returns-then-sizes-d
+returns-then-sizes-d c = search plain-full
+
+pub put_numbers-requires : goal.put_numbers-requires
+put_numbers-requires c = record { comparable = search rules; n_value = search rules; known = search rules; n_in_bounds = search rules }
+
+pub list_sizes-requires : goal.list_sizes-requires
+list_sizes-requires c = let e = c.put_numbers.ensures in
+    let p = c.requires in
+    record { n_in_bounds = search rules; known = stored-known _ c.args.n _ _ e p.n_value.0 p.n_value.1 c.args.buckets _ p.known; n_in_bounds_2 = stored-room _ c.args.n _ _ e p.n_value.0 p.n_value.1 c.args.d _ p.d_value (search rules) }
+
+pub returns : goal.returns
+returns c = search plain-found

@@ -1,0 +1,31 @@
+use Rattle.firsts.proofs.KeyLaws.{admits-some}
+use Rattle.join.proofs.Calls.{sized-first, sized-second, records-fit, both_comparable, both_count, both_answered}
+use borrow.Author.Rules.{rules}
+use Rattle.join.proofs.sized.Goals as goal
+
+pub nonzero_rem-a : goal.nonzero_rem-a
+nonzero_rem-a c = search (admits-some, rules)
+
+pub returns-then-a-size-ne0 : goal.returns-then-a-size-ne0
+returns-then-a-size-ne0 c = search sized-first
+
+pub nonzero_rem-b : goal.nonzero_rem-b
+nonzero_rem-b c = search (admits-some, rules)
+
+pub returns-then-b-size-ne0 : goal.returns-then-b-size-ne0
+returns-then-b-size-ne0 c = search sized-second
+
+pub nonzero_div-n : goal.nonzero_div-n
+nonzero_div-n c = search (admits-some, rules)
+
+pub nonzero_div-n-2 : goal.nonzero_div-n-2
+nonzero_div-n-2 c = search (admits-some, rules)
+
+pub overflow_add-n : goal.overflow_add-n
+overflow_add-n c = search records-fit
+
+pub joined-requires : goal.joined-requires
+joined-requires c = record { comparable = search both_comparable; n_value = search both_count }
+
+pub returns : goal.returns
+returns c = search both_answered
