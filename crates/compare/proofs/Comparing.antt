@@ -16,7 +16,7 @@ use Rattle.format.specs.Outcome.{Outcome, gives, refuses, when_given, unless, ou
 use Rattle.format.specs.Image.{fields_of, agree}
 use Rattle.format.specs.Ownership.{outside, heap_held, admitting, admission, comparing_records, comparing}
 use Rattle.format.specs.Slots.{first_zero}
-use Rattle.format.specs.Table.{found, type_at}
+use Rattle.format.specs.Table.{found}
 use Rattle.format.proofs.Admission.{admission-refused, admission-given}
 use Rattle.format.proofs.Ownership.{admitting-zero, admitting-outside, admitting_heap, admitting-given, comparing-length, comparing-records}
 use Rattle.format.proofs.Same.{owned-agree}

@@ -6,10 +6,9 @@ use mathlib.Core.List.{List, [], ◌∷◌}
 use native.Mathlib.Omega.{arith}
 use native.Mathlib.Numerals.{add-one}
 use native.Mathlib.Nat.{mul_comm, mul-zero, mul-div_cancel_left}
-use lib.ListN.{length, take, drop}
+use lib.ListN.{length}
 use lib.Dec.{ltb}
 use borrow.Author.Tests.{ltb-false}
-use Rattle.format.specs.Bytes.{dimensions_from}
 use Rattle.format.specs.Datatype.{Datatype, compound, enumeration, variable_length, array, Members, EnumMember, product, type_size_of, max_size}
 use Rattle.format.specs.Image.{owned_by, counted_in, move_fields, fields_of}
 use Rattle.format.specs.Ownership.{outside, heap_held}

@@ -12,7 +12,7 @@ use Rattle.format.specs.Bytes.{little_endian, zeros, padding_to8, pack_numbers, 
 use Rattle.format.specs.Bits.{fixed_flags_of, float_flags_of, nibbles}
 use Rattle.format.specs.Datatype.{float_numbers, float_layout, Leaf, fixed_point, floating_point, time, string, bit_field, opaque, reference, leaf_pool, Datatype, leaf, compound, enumeration, variable_length, array, Members, no_members, member, EnumMember, enum_names, enum_values, type_size_of, member_count_of, depth, member_depth, pool_bytes, member_pool, row_count, member_row_count}
 use Rattle.format.specs.Message.{header, reserved_bytes_of, permutation_bytes_of, bit_widths, float_widths, time_widths, array_bytes, enum_name_bytes, name_padding_of, offset_width, skipped_bytes_of, name_bytes, variable_flags, variable_charset, code_of, leaf_message, message, member_bytes, versions, member_versions}
-use Rattle.format.specs.Reading.{got, Reader, class_kind, layout_version, count_of, then, number, name, moved, inner, read_members_of, read_names_of, read_values_of, read_variable, read_array, leaf_properties, read_properties, sized, read_type_of}
+use Rattle.format.specs.Reading.{got, Reader, class_kind, layout_version, count_of, then, moved, inner, read_members_of, read_names_of, read_values_of, read_variable, read_array, leaf_properties, read_properties, sized, read_type_of}
 use Rattle.format.proofs.Bits.{order_back, signed_back, float_order_back, bit0_of, low_mod, nibbles-low, nibbles_high}
 use Rattle.format.proofs.Bytes.{length_packed, length-little_endian, length-zeros, length_dimensions, dimensions_back}
 use Rattle.format.proofs.Facts.{StorableLeaf, Storable, StorableMembers, StorableEnum, StorableVariable}

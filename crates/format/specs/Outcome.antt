@@ -1,5 +1,5 @@
 -- What a call gives or why it refuses, and the room that a result needs.
-use Rattle.std.specs.Prelude.{ℕ, min, Bool, cond, List, [], ◌∷◌, ◌++◌, length, drop}
+use Rattle.std.specs.Prelude.{ℕ, min, Bool, cond, List, ◌++◌, length, drop}
 use Rattle.refusal.specs.Refusal.{number_of, values_of}
 use Rattle.refusal.specs.declared.Refusal.{Refusal}
 

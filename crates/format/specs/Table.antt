@@ -1,5 +1,5 @@
 -- The table: 16 words a row, in reading order; the type that a lent table and pool set out, or BadTable.
-use Rattle.std.specs.Prelude.{ℕ, zero, suc, ◌+◌, ◌-◌, ◌*◌, ◌≤◌, ◌≡◌, Bool, true, false, cond, ◌&&◌, List, [], ◌∷◌, ◌++◌, length, take, drop, get_or, leb, ltb, eqb}
+use Rattle.std.specs.Prelude.{ℕ, zero, suc, ◌+◌, ◌*◌, ◌≤◌, ◌≡◌, Bool, true, false, cond, ◌&&◌, List, [], ◌∷◌, ◌++◌, length, take, drop, get_or, leb, ltb, eqb}
 use Rattle.refusal.specs.declared.Refusal.TheVariants.{BadTable}
 use Rattle.format.specs.Bytes.{padded, all_zero, dimension_bytes, dimensions_from}
 use Rattle.format.specs.Columns.{kind_column, size_column, member_offset_column, place_column, length_column, count_column, value_length_column, order_column, padding_column, reference_column, is_string_column, signed_column, charset_column, variable_padding_column, offset_column, variable_charset_column, precision_column, exponent_location_column, exponent_size_column, mantissa_location_column, mantissa_size_column, bias_column}

@@ -23,7 +23,7 @@ use Rattle.rows.specs.declared.Entry.TheVariants.{Leaf, Compound, Enumeration, V
 use Rattle.rows.specs.declared.Member.{Member}
 use Rattle.rows.specs.declared.Member.TheVariants.{Named, Unnamed}
 use Rattle.rows.proofs.Decode.{type_at_entry, members_at-entry, enum_names_at-entry}
-use Rattle.measure.specs.Measure.{most_length, measure_of, measure_in, measure_enum, enum_measure_of, leaf_storable_of, leaf_length_of, offset_fits_of, member_head_of, valid_at, array_head_of, leaf_measure_of, with_member_of, compound_measure_of, enumeration_measure_of, variable_measure_of, array_measure_of}
+use Rattle.measure.specs.Measure.{most_length, measure_of, measure_in, measure_enum, enum_measure_of, offset_fits_of, member_head_of, valid_at, array_head_of, leaf_measure_of, with_member_of, compound_measure_of, enumeration_measure_of, variable_measure_of, array_measure_of}
 use Rattle.measure.specs.declared.Measure.{Measure}
 use Rattle.measure.specs.declared.Measured.{Measured}
 use Rattle.measure.specs.declared.Measured.TheVariants.{At, Lost}

@@ -1,11 +1,11 @@
 -- Which kind of type a class number stands for, and what the kinds of leaf have in common.
 use mathlib.Core.Path.{◌≡◌, refl}
 use mathlib.Core.Bool.{true, false}
-use Prim.Native.Nat.{ℕ, zero, suc, ◌-◌, ◌<◌, ◌≤◌}
+use Prim.Native.Nat.{ℕ, zero, suc, ◌<◌, ◌≤◌}
 use native.Mathlib.Omega.{arith}
 use Rattle.format.specs.declared.Header.{Header}
 use Rattle.format.specs.Datatype.{Datatype}
-use Rattle.format.specs.Reading.{Reader, ◌>>=◌, ◌>>◌, class_kind, layout_version, read_properties}
+use Rattle.format.specs.Reading.{Reader, class_kind, layout_version, read_properties}
 use Rattle.format.specs.Table.{Kind, is_leaf, isCompound, isEnumeration, isVariableLength, isArray, isUnknown}
 use Rattle.reading.specs.Contract.{leaf_kind}
 

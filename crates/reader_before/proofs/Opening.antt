@@ -12,7 +12,7 @@ use Rattle.format.specs.Bits.{low_bits, high_bits}
 use Rattle.format.specs.Bytes.{dimensions_from}
 use Rattle.format.specs.Datatype.{Datatype}
 use Rattle.format.specs.Message.{reserved_bytes_of, permutation_bytes_of}
-use Rattle.format.specs.Reading.{refused, Reader, ◌>>=◌, ◌>>◌, refuse, class_kind, layout_version, read_properties, sized, read_type_of}
+use Rattle.format.specs.Reading.{refused, Reader, refuse, class_kind, layout_version, read_properties, sized, read_type_of}
 use Rattle.format.specs.Table.{isCompound, isVariableLength, isArray}
 use Rattle.reading.specs.declared.Limits.{Limits}
 use Rattle.reading.specs.declared.Base.{Base}

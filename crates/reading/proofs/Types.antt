@@ -10,7 +10,7 @@ use Rattle.refusal.specs.declared.Refusal.{Refusal}
 use Rattle.refusal.specs.declared.Refusal.TheVariants.{TooDeep, ZeroSize}
 use Rattle.format.specs.declared.Header.{Header}
 use Rattle.format.specs.Datatype.{Datatype, compound, Members, member_count_of, row_count, pool_bytes, type_size_of}
-use Rattle.format.specs.Reading.{Answer, refused, then, inner, count_of, read_members_of, read_type_of, sized, class_kind}
+use Rattle.format.specs.Reading.{Answer, refused, then, count_of, read_members_of, read_type_of, sized, class_kind}
 use Rattle.format.specs.Table.{compound_row, rows, member_rows}
 use Rattle.format.proofs.Rows.{length-compound_row, length-rows}
 use Rattle.format.proofs.Bytes.{length-dimensions_from}

@@ -1,6 +1,6 @@
 -- Rows that are not tested again: the row behind a type, its size, and the entries of an array. One law for each way out of the code.
 use Prim.Native.Nat.{ℕ, zero, suc, ◌+◌, ◌-◌, ◌*◌, ◌/◌, ◌<◌, ◌≤◌, min}
-use mathlib.Core.Path.{◌≡◌, refl, sym, ap, ◌∙◌}
+use mathlib.Core.Path.{◌≡◌, refl, sym, ◌∙◌}
 use mathlib.Core.Bool.{Bool, true, false, cond}
 use mathlib.Core.List.{List, [], ◌∷◌}
 use native.Mathlib.Omega.{arith}
@@ -8,11 +8,11 @@ use native.Mathlib.Numerals.{add-one}
 use lib.ListN.{length, get_or, take, drop}
 use lib.Dec.{leb}
 use Rattle.format.specs.Bytes.{dimensions_from}
-use Rattle.format.specs.Datatype.{Datatype, leaf, compound, enumeration, variable_length, array, Members, member, EnumMember, product, type_size_of}
-use Rattle.format.specs.Table.{Found, found, bad, Walk, and_then, word_at, type_at, members_at, enum_names_at, enum_values_at}
+use Rattle.format.specs.Datatype.{Datatype, compound, enumeration, variable_length, array, Members, member, EnumMember, product, type_size_of}
+use Rattle.format.specs.Table.{Found, found, bad, and_then, type_at, members_at, enum_names_at, enum_values_at}
 use Rattle.format.proofs.Scaling.{cap_again}
 use Rattle.format.proofs.TableSteps.{then-piece}
-use Rattle.rows.specs.Entries.{entry_at, member_at_of, enum_member_at_of, leaf_type, from_entry, from_member, from_enum_member, RowSays, RowNames}
+use Rattle.rows.specs.Entries.{entry_at, enum_member_at_of, from_entry, from_member, from_enum_member, RowSays, RowNames}
 use Rattle.rows.specs.declared.Entry.{Entry}
 use Rattle.rows.specs.declared.Entry.TheVariants.{Leaf, Compound, Enumeration, VariableLength, Array, Unknown}
 use Rattle.rows.specs.declared.Member.{Member}

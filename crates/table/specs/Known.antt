@@ -1,5 +1,5 @@
 -- What is answered of rows that are not tested again: something is said only where a type is found, wherever its pool bytes begin.
-use Rattle.std.specs.Prelude.{ℕ, ◌+◌, ◌*◌, min, ◌≡◌, List, take, drop}
+use Rattle.std.specs.Prelude.{ℕ, ◌*◌, min, ◌≡◌, List, take, drop}
 use Rattle.format.specs.Bytes.{dimensions_from}
 use Rattle.format.specs.Datatype.{Datatype, product, type_size_of}
 use Rattle.format.specs.Table.{Found, found, bad, type_at, members_at, enum_names_at}

@@ -11,14 +11,14 @@ use borrow.Author.Tests.{not-true, not-false}
 use Rattle.refusal.specs.declared.Refusal.{Refusal}
 use Rattle.refusal.specs.declared.Refusal.TheVariants.{BadTable, NoSuchEdition, Unstorable, NotInEdition, NoRoom}
 use Rattle.format.specs.Datatype.{Datatype}
-use Rattle.format.specs.Message.{message, message_length, storable, carried, writing}
+use Rattle.format.specs.Message.{message, message_length, storable, carried}
 use Rattle.format.specs.Outcome.{Outcome, gives, refuses, output_after, needed, outcome_number, outcome_values}
-use Rattle.format.specs.Table.{WithinLimits, SetsOut, Found, found, bad, type_at, type_of}
+use Rattle.format.specs.Table.{WithinLimits, Found, found, bad, type_at, type_of}
 use Rattle.format.proofs.Bytes.{all-bytes}
 use Rattle.format.proofs.Lists.{sets-front}
 use Rattle.format.proofs.Table.{type_of_sound}
 use Rattle.format.proofs.Written.{length-message, writing-bad-table, writing_no_edition, writing_unstorable, writing-not_in_edition, writing_no_room, writing-given}
-use Rattle.table.specs.Survey.{ends_at, Sets, Checks}
+use Rattle.table.specs.Survey.{ends_at, Checks}
 use Rattle.table.specs.declared.Survey.{Survey}
 use Rattle.table.specs.declared.Checked.{Checked}
 use Rattle.table.specs.declared.Checked.TheVariants.{Good, Bad}

@@ -1,15 +1,13 @@
 -- The members of a compound, one a turn: the answer of the whole is that of the members left.
-use Prim.Native.Nat.{ℕ, zero, suc, ◌+◌, ◌-◌, ◌*◌, ◌<◌, ◌≤◌, max}
+use Prim.Native.Nat.{ℕ, zero, suc, ◌+◌, ◌-◌, ◌<◌, ◌≤◌}
 use mathlib.Core.Path.{◌≡◌, refl, sym, ap, ◌∙◌}
-use mathlib.Core.Bool.{true, ◌&&◌}
-use mathlib.Core.List.{List, [], ◌∷◌, ◌++◌, append_assoc}
+use mathlib.Core.Bool.{true}
+use mathlib.Core.List.{List, [], ◌++◌, append_assoc}
 use native.Mathlib.Omega.{arith}
-use native.Mathlib.Nat.{add-zero}
 use native.Mathlib.Numerals.{add-one}
 use lib.ListN.{length, take, drop, length-append}
-use lib.Seq.{length-sets}
 use Rattle.format.specs.Bytes.{little_endian, zeros}
-use Rattle.format.specs.Datatype.{Datatype, Members, no_members, member, member_count_of}
+use Rattle.format.specs.Datatype.{Datatype, Members, member, member_count_of}
 use Rattle.format.specs.Message.{message, member_bytes, name_bytes, offset_width, skipped_bytes_of, storable, storable_members, carried, carried_members}
 use Rattle.format.specs.Table.{Found, found, bad, Walk, and_then, members_at}
 use Rattle.format.proofs.Booleans.{and_both}
@@ -19,13 +17,13 @@ use Rattle.rows.specs.declared.Member.{Member}
 use Rattle.rows.specs.declared.Member.TheVariants.{Named, Unnamed}
 use Rattle.rows.proofs.Decode.{members_at-entry, named-inside}
 use Rattle.rows.proofs.Known.{claim_of-members}
-use Rattle.writer_parts.specs.Places.{Places, PlacesFrom, Inside, Stands}
+use Rattle.writer_parts.specs.Places.{Places, PlacesFrom, Stands}
 use Rattle.writer_parts.specs.declared.Placed.{Placed}
 use Rattle.writer_parts.specs.declared.Placed.TheVariants.{Behind, Full}
 use Rattle.writer_parts.specs.declared.Put.{Put}
 use Rattle.writer_parts.specs.declared.Put.TheVariants.{At, Lost}
 use Rattle.writer_parts.specs.declared.Written.{Written}
-use Rattle.writer_parts.proofs.Placing.{none-placed, stands, lost, stands-behind, lost-behind, row-known, placed, unplaced, where_fits, behind}
+use Rattle.writer_parts.proofs.Placing.{none-placed, stands, stands-behind, lost-behind, row-known, placed, unplaced, where_fits}
 use Rattle.writer.specs.Writes.{PutsFound, PutsType, PutsFoundMembers, PutsMembers}
 
 -- ---- as many members as the row says

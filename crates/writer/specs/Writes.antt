@@ -1,5 +1,5 @@
 -- What the writing functions ensure of a type that is found and can be stored; and what `write` promises.
-use Rattle.std.specs.Prelude.{ℕ, zero, suc, ◌+◌, ◌*◌, ◌<◌, ◌≤◌, ◌≡◌, true, List, [], ◌∷◌, ◌++◌, length}
+use Rattle.std.specs.Prelude.{ℕ, ◌≡◌, true, List, [], ◌∷◌, length}
 use Rattle.refusal.specs.Refusal.{number_of, values_of}
 use Rattle.format.specs.Datatype.{Datatype, Members, type_size_of}
 use Rattle.format.specs.Message.{message, member_bytes, storable, storable_members, carried, carried_members, writing}

@@ -1,5 +1,5 @@
 -- An enumeration's names, then its values.
-use Rattle.std.specs.Prelude.{ℕ, ◌+◌, ◌≤◌, List, [], ◌∷◌, ◌++◌, length}
+use Rattle.std.specs.Prelude.{ℕ, List, ◌++◌}
 use Rattle.format.specs.Datatype.{EnumMember, enum_values}
 use Rattle.format.specs.Message.{enum_name_bytes}
 use Rattle.format.specs.Table.{Found, found, bad, and_then, enum_names_at, enum_values_at}

@@ -1,6 +1,6 @@
 -- What the functions ensure that store a piece of a message: where it fits, it stands at its place and the place behind it is answered.
 -- Nothing is said where it does not fit.
-use Rattle.std.specs.Prelude.{ℕ, ◌+◌, ◌≤◌, max, ◌≡◌, List, length, take, drop}
+use Rattle.std.specs.Prelude.{ℕ, ◌+◌, ◌≤◌, max, ◌≡◌, List, length}
 use Rattle.std.proofs.lemmas.List.Edits.{sets}
 use Rattle.writer_parts.specs.declared.Placed.{Placed}
 use Rattle.writer_parts.specs.declared.Placed.TheVariants.{Behind}

@@ -1,8 +1,5 @@
 use Rattle.format.specs.Table.{row, compound_row}
 use Rattle.reading.proofs.Types.{compound_empty, compound-stored}
-use Rattle.reader.proofs.end_compound.Reads as reads
-use Rattle.reader.proofs.end_compound.Lts as lts
-use Rattle.primitives.proofs.put_row.Reads as put-row-reads
 use Rattle.reader.proofs.end_compound.Goals as goal
 
 pub returns-then-header-eq0 : goal.returns-then-header-eq0

@@ -1,6 +1,5 @@
 use Prim.Native.Nat.{◌*◌, min}
 use mathlib.Core.Path.{◌≡◌, refl}
-
 use native.Mathlib.Omega.{arith}
 use Rattle.format.proofs.Scaling.{cap_room, scale_start, scale_next, scale_end}
 use Rattle.reader_behind.proofs.scaled_size.Goals as goal

@@ -16,12 +16,12 @@ read_u64-stored-requires c = search slot_lies
 
 pub loop-i-preserved : goal.loop-i-preserved
 loop-i-preserved c = let l = c.loop-i in (
-      (omega arith, (simp length-set l.invariant.0.1.0, simp length-set l.invariant.0.1.1)),
-      (
-        place-more _ _ _ _ _ l.i (omega arith) l.invariant.1.0,
-        value-more _ _ _ _ _ l.i (omega arith) _ _ c.read_u64-stored.ensures l.invariant.1.1,
-      ),
-    )
+  (omega arith, (simp length-set l.invariant.0.1.0, simp length-set l.invariant.0.1.1)),
+  (
+    place-more _ _ _ _ _ l.i (omega arith) l.invariant.1.0,
+    value-more _ _ _ _ _ l.i (omega arith) _ _ c.read_u64-stored.ensures l.invariant.1.1,
+  ),
+)
 
 pub shape_of-places : goal.shape_of-places
 shape_of-places c = c.loop-i.invariant.0.1.0

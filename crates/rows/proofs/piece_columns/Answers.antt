@@ -1,7 +1,7 @@
 use Rattle.rows.specs.Columns.{piece_columns_of}
 use Rattle.rows.proofs.Columns.{product-fits, behind-fits}
 use borrow.Author.Tests.{eq-eqb, ne_eqb}
-use borrow.Author.Rules.{rules, Fits-under}
+use borrow.Author.Rules.{rules}
 use Rattle.rows.proofs.piece_columns.Goals as goal
 
 pub returns-then-table-at : goal.returns-then-table-at

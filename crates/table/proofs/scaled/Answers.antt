@@ -1,6 +1,5 @@
 use Prim.Native.Nat.{◌*◌, min}
 use mathlib.Core.Path.{◌≡◌, refl}
-
 use native.Mathlib.Nat.{mul_comm}
 use native.Mathlib.Omega.{arith}
 use Rattle.format.proofs.Scaling.{cap_room, scale_start, scale_next, scale_end}

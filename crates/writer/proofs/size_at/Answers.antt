@@ -1,7 +1,4 @@
 use Rattle.writer.proofs.Types.{no_size, size-found}
-use Rattle.writer.proofs.size_at.Reads as reads
-use Rattle.writer.proofs.size_at.Lts as lts
-use Rattle.table.proofs.survey_type.Reads as survey-type-reads
 use Rattle.writer.proofs.size_at.Goals as goal
 
 pub returns-in-Unsound : goal.returns-in-Unsound

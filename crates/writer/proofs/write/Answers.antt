@@ -6,9 +6,8 @@ pub returns-in-Bad : goal.returns-in-Bad
 returns-in-Bad c = search write_bad
 
 pub returns-in-Good : goal.returns-in-Good
-returns-in-Good c = 
+returns-in-Good c =
     elim c.in_default.branch [
-      in_default-via-then-edition-lt1 w ↦ search write_none
+      | in_default-via-then-edition-lt1 w ↦ search write_none
       | in_default-via-else-edition-lt1+else-edition-lt4 w ↦ search write_past
     ]
-

@@ -1,7 +1,5 @@
 use borrow.Author.Rules.{rules}
 use Rattle.writer_parts.proofs.Leaves.{width_two, width_one, width_four}
-use Rattle.writer_parts.proofs.column_width.Reads as reads
-use Rattle.writer_parts.proofs.column_width.Lts as lts
 use Rattle.writer_parts.proofs.column_width.Goals as goal
 
 pub returns-in-0-to-8 : goal.returns-in-0-to-8

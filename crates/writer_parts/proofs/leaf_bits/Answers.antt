@@ -1,6 +1,4 @@
 use Rattle.writer_parts.proofs.Leaves.{no_bits, bits_of-none, bits_of}
-use Rattle.writer_parts.proofs.leaf_bits.Reads as reads
-use Rattle.writer_parts.proofs.leaf_bits.Lts as lts
 use Rattle.writer_parts.proofs.leaf_bits.Goals as goal
 
 pub returns-then-class-ne1 : goal.returns-then-class-ne1

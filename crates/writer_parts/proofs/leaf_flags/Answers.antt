@@ -1,9 +1,4 @@
 use Rattle.writer_parts.proofs.Leaves.{fixed_order, fixed_signed, fixed_flag, float_order_lem, float_flag, string_padding, string-charset, string_flag, tag-long, tag_flag, code_great, code_flag}
-use Rattle.writer_parts.proofs.leaf_flags.Reads as reads
-use Rattle.writer_parts.proofs.leaf_flags.Lts as lts
-use Rattle.primitives.proofs.fixed_flags.Reads as fixed-flags-reads
-use Rattle.primitives.proofs.float_flags.Reads as float-flags-reads
-use Rattle.primitives.proofs.nibbles_of.Reads as nibbles-of-reads
 use Rattle.writer_parts.proofs.leaf_flags.Goals as goal
 
 pub returns-then-code-gt1 : goal.returns-then-code-gt1

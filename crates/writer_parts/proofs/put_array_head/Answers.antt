@@ -1,8 +1,4 @@
 use Rattle.writer_parts.proofs.Placing.{rank_great, behind-from, full_from}
-use Rattle.writer_parts.proofs.put_array_head.Reads as reads
-use Rattle.writer_parts.proofs.put_array_head.Lts as lts
-use Rattle.writer_parts.proofs.put_array_body.Reads as put-array-body-reads
-use Rattle.writer_parts.proofs.put_header.Reads as put-header-reads
 use Rattle.writer_parts.proofs.put_array_head.Goals as goal
 
 pub returns-then-rank-gt255 : goal.returns-then-rank-gt255

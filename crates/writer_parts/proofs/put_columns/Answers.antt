@@ -1,8 +1,4 @@
 use Rattle.writer_parts.proofs.Leaves.{columns-begun, columns-ended, columns-full, columns-next}
-use Rattle.writer_parts.proofs.put_columns.Reads as reads
-use Rattle.writer_parts.proofs.put_columns.Lts as lts
-use Rattle.writer_parts.proofs.column_width.Reads as column-width-reads
-use Rattle.writer_parts.proofs.put_number.Reads as put-number-reads
 use Rattle.writer_parts.proofs.put_columns.Goals as goal
 
 pub loop-c-init : goal.loop-c-init

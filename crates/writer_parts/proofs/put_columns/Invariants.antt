@@ -1,9 +1,5 @@
 use Prim.Native.Nat.{◌-◌}
 use Rattle.writer_parts.proofs.Leaves.{ColumnsLeft}
-use Rattle.writer_parts.proofs.put_columns.Reads as reads
-use Rattle.writer_parts.proofs.put_columns.Lts as lts
-use Rattle.writer_parts.proofs.column_width.Reads as column-width-reads
-use Rattle.writer_parts.proofs.put_number.Reads as put-number-reads
 use Rattle.writer_parts.proofs.put_columns.Given as goal
 
 abbrev pub invariant-loop-c : goal.invariant-loop-c

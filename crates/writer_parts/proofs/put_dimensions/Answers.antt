@@ -1,9 +1,4 @@
 use Rattle.writer_parts.proofs.Placing.{piece-behind, piece-first}
-use Rattle.writer_parts.proofs.put_dimensions.Reads as reads
-use Rattle.writer_parts.proofs.put_dimensions.Lts as lts
-use Rattle.primitives.proofs.permutation_bytes.Reads as permutation-bytes-reads
-use Rattle.writer_parts.proofs.put_piece.Reads as put-piece-reads
-use Rattle.writer_parts.proofs.put_zeros.Reads as put-zeros-reads
 use Rattle.writer_parts.proofs.put_dimensions.Goals as goal
 
 pub returns-in-Full : goal.returns-in-Full

@@ -1,7 +1,4 @@
 use Rattle.writer_parts.proofs.Placing.{group_many}
-use Rattle.writer_parts.proofs.put_group_header.Reads as reads
-use Rattle.writer_parts.proofs.put_group_header.Lts as lts
-use Rattle.writer_parts.proofs.put_header.Reads as put-header-reads
 use Rattle.writer_parts.proofs.put_group_header.Goals as goal
 
 pub returns-then-count-gt65535 : goal.returns-then-count-gt65535

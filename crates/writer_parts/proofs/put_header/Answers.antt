@@ -3,11 +3,6 @@ use lib.ListN.{length, length-set}
 use lib.Seq.{length-sets}
 use mathlib.Core.Path.{ap, ◌∙◌}
 use Rattle.writer_parts.proofs.Placing.{header-full, header-stored}
-use Rattle.writer_parts.proofs.put_header.Reads as reads
-use Rattle.writer_parts.proofs.put_header.Lts as lts
-use Rattle.primitives.proofs.class_and_version.Reads as class-and-version-reads
-use Rattle.primitives.proofs.write_uint.Reads as write-uint-reads
-use Rattle.writer_parts.proofs.room.Reads as room-reads
 use Rattle.writer_parts.proofs.put_header.Goals as goal
 
 pub returns-then-room-lt8 : goal.returns-then-room-lt8

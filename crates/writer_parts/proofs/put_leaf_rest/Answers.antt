@@ -1,8 +1,4 @@
 use Rattle.writer_parts.proofs.Leaves.{rest-fixed, rest_float, rest-time, rest_bits, rest-tag, rest-none}
-use Rattle.writer_parts.proofs.put_leaf_rest.Reads as reads
-use Rattle.writer_parts.proofs.put_leaf_rest.Lts as lts
-use Rattle.writer_parts.proofs.put_columns.Reads as put-columns-reads
-use Rattle.writer_parts.proofs.put_tag.Reads as put-tag-reads
 use Rattle.writer_parts.proofs.put_leaf_rest.Goals as goal
 
 pub returns-in-0 : goal.returns-in-0

@@ -1,8 +1,4 @@
 use Rattle.writer_parts.proofs.Placing.{piece-none, piece-outside, piece-full, piece-stored}
-use Rattle.writer_parts.proofs.put_piece.Reads as reads
-use Rattle.writer_parts.proofs.put_piece.Lts as lts
-use Rattle.primitives.proofs.copy_bytes.Reads as copy-bytes-reads
-use Rattle.writer_parts.proofs.room.Reads as room-reads
 use Rattle.writer_parts.proofs.put_piece.Goals as goal
 
 pub returns-then-n-eq0 : goal.returns-then-n-eq0

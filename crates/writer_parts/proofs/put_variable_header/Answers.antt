@@ -1,8 +1,4 @@
 use Rattle.writer_parts.proofs.Placing.{sequence_put, string-put, no_padding, past_padding, no_charset, past-charset}
-use Rattle.writer_parts.proofs.put_variable_header.Reads as reads
-use Rattle.writer_parts.proofs.put_variable_header.Lts as lts
-use Rattle.primitives.proofs.nibbles_of.Reads as nibbles-of-reads
-use Rattle.writer_parts.proofs.put_header.Reads as put-header-reads
 use Rattle.writer_parts.proofs.put_variable_header.Goals as goal
 
 pub returns-then-string-eq0 : goal.returns-then-string-eq0
