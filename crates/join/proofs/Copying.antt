@@ -52,8 +52,8 @@ records_mono ns block size m (suc n) h =
 
 -- ---- one record
 
-pub first-told : {x : Bool} (ns : List ℕ) (k f : ℕ) → f ≡ get_or ns k 0 → x ≡ eqb f k → x ≡ eqb (get_or ns k 0) k
-first-told ns k f g e = e ∙ ap (λ (i : ℕ). eqb i k) g
+pub first_told : {x : Bool} (ns : List ℕ) (k f : ℕ) → f ≡ get_or ns k 0 → x ≡ eqb f k → x ≡ eqb (get_or ns k 0) k
+first_told ns k f g e = e ∙ ap (λ (i : ℕ). eqb i k) g
 
 module _ (ns block : List ℕ) (size k : ℕ) {t : Bool} (g : t ≡ eqb (get_or ns k 0) k) where
   module _ (e : t ≡ true) {x : List ℕ} (r : IsRecord block size k x) where

@@ -23,6 +23,7 @@ use primitives::copy_bytes;
 use refusal::Refusal;
 
 // Whether record k has no earlier one that is the same.
+#[tactic(auto, using(crate::proofs::Copying::first_told))]
 fn is_first<'a>(
     table: &[u32],
     pool: &[u8],
