@@ -1,5 +1,5 @@
 /* The functions of crate `abi`, for C hosts: HDF5 datatype messages (HDF5 File Format Specification, IV.A.2.d). Link the archive that
- * `rt staticlib abi` writes.
+ * `tests/archive` writes.
  *
  * A lent slice is a pointer to its first element and the number of elements; where that number is 0 the pointer may be NULL, as that of an
  * empty std::vector is. A slice that is written must not overlap any other argument. `first` and `second` are two different places and

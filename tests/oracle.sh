@@ -13,7 +13,7 @@ oracle() {
     fi
     [ -n "$(byteorder)" ] || { echo "beside the Rust: left out, Debian's librust-byteorder-dev cannot be had"; return 1; }
     mkdir -p target/differential
-    rt staticlib abi >target/staticlib.log 2>&1 || { cat target/staticlib.log; exit 1; }
+    bash tests/archive
     rustc --edition 2021 -O --crate-type rlib --crate-name byteorder --cap-lints allow --cfg 'feature="std"' -o target/differential/libbyteorder.rlib "$(byteorder)"
     cp "$papers"/datatype.rs "$papers"/bytes.rs "$papers"/convert.rs "$papers"/error.rs tests/differential/*.rs target/differential/
     rustc --edition 2021 -O --crate-type rlib --crate-name datatype_message -L native=target/staticlib -l static=abi -o target/differential/libdatatype_message.rlib hosts/rust/src/lib.rs

@@ -1,4 +1,4 @@
-//! Links the archive that `rt staticlib abi` writes; DATATYPE_ABI names its folder, by default target/staticlib of the repository.
+//! Links the archive that `tests/archive` writes; DATATYPE_ABI names its folder, by default target/staticlib of the repository.
 fn main() {
     let here = std::env::var("CARGO_MANIFEST_DIR").unwrap_or_default();
     let folder = std::env::var("DATATYPE_ABI").unwrap_or_else(|_| format!("{here}/../../target/staticlib"));

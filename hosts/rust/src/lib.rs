@@ -1,6 +1,6 @@
 //! Safe calls of the proved library of HDF5 datatype messages (HDF5 File Format Specification, IV.A.2.d).
 //!
-//! The command `rt staticlib abi`, in the repository of the library, makes the archive that this crate links; the variable `DATATYPE_ABI`
+//! The script `tests/archive`, in the repository of the library, makes the archive that this crate links; the variable `DATATYPE_ABI`
 //! names the folder of the archive where that is not target/staticlib of the repository.
 //!
 //! [`Type`] owns a type that was read from a message:
