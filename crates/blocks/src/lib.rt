@@ -1,5 +1,5 @@
-// A view of a record block: its bytes with the record size. The thin functions over the view are proved by hand; the work is in the
-// functions over a plain slice and numbers.
+// A view of a record block: its bytes with the record size. The functions over the view are thin; the work is in those over a plain slice and
+// numbers.
 #![tactic(auto)]
 
 ghost use Rattle.std.specs.Prelude.{◌≡◌};
