@@ -36,9 +36,9 @@ pub record First (size offset : ℕ) (t : Datatype) (ms : Members) : Type 0 wher
   pub ends : offset + type_size_of t ≤ size
   pub others : AdmittedIn size ms
 
-pub first_of : (size : ℕ) (name : List ℕ) (offset : ℕ) (t : Datatype) (ms : Members) → AdmittedIn size (member name offset t ms) → First size offset t ms
+pub first_of_lem : (size : ℕ) (name : List ℕ) (offset : ℕ) (t : Datatype) (ms : Members) → AdmittedIn size (member name offset t ms) → First size offset t ms
 unfolding first_zero outside heap_held
-first_of size name offset t ms d =
+first_of_lem size name offset t ms d =
     let z = or_else_none (first_zero t) (member_first_zero ms) d.sized in
     let o = or_neither (ltb size (offset + type_size_of t)) (outside t || member_outside size ms) d.inside in
     let i = or_neither (outside t) (member_outside size ms) o.1 in
@@ -82,7 +82,7 @@ module _ (name : List ℕ) (o : ℕ) (rest : Walk Members) (a b : List ℕ) (at 
   behind z (found t r p) h = go (rest r p) refl
     where
       go : (w : Found Members) → rest r p ≡ w → AgreesIn (and_then w (λ ms r₂ p₂. found (member name o t ms) r₂ p₂)) a b at z
-      go (found ms r' p') e = unfold and_then AgreesIn in λ n d l. h t r p ms r' p' n refl e (first_of n name o t ms d) l
+      go (found ms r' p') e = unfold and_then AgreesIn in λ n d l. h t r p ms r' p' n refl e (first_of_lem n name o t ms d) l
       go bad e = unfold and_then AgreesIn in tt
   behind z bad h = unfold AgreesIn in tt
 

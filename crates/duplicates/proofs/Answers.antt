@@ -44,12 +44,12 @@ module _ (ns : List ℕ) (n d : ℕ) (m s : List ℕ) (e : length ns ≡ n) (g :
       }
 
 -- by the keys
-groups_of : (keys : List (List ℕ)) (n d : ℕ) → n ≡ length keys → d ≡ distinct_of keys → d ≡ length (firsts_to (numbers_of keys) n)
+groups_of_lem : (keys : List (List ℕ)) (n d : ℕ) → n ≡ length keys → d ≡ distinct_of keys → d ≡ length (firsts_to (numbers_of keys) n)
 unfolding distinct_of firsts_of
-groups_of keys n d e g = g ∙ rw e
+groups_of_lem keys n d e g = g ∙ rw e
 
 pub plain-full : (keys : List (List ℕ)) (n d : ℕ) (m s : List ℕ) → n ≡ length keys → d ≡ distinct_of keys → length s < d → Listed (numbers_of keys) (Refused (NoRoom d)) m m s s
-plain-full keys n d m s e g h = listed-full (numbers_of keys) n d m s (length-numbers keys ∙ sym e) (groups_of keys n d e g) h
+plain-full keys n d m s e g h = listed-full (numbers_of keys) n d m s (length-numbers keys ∙ sym e) (groups_of_lem keys n d e g) h
 
 -- the numbers stored are the first n of what is lent
 numbers-taken : (keys : List (List ℕ)) (n : ℕ) (m m' : List ℕ) → n ≡ length keys → n ≤ length m → m' ≡ sets m 0 (numbers_of keys) → take n m' ≡ numbers_of keys
@@ -60,7 +60,7 @@ numbers-taken keys n m m' e r a =
 pub plain-found : (keys : List (List ℕ)) (n d : ℕ) (m m' s s' : List ℕ) → n ≡ length keys → d ≡ distinct_of keys → d ≤ length s → n ≤ length m
     → m' ≡ sets m 0 (numbers_of keys) → s' ≡ sets s 0 (sizes_to (take n m') n) → Listed (numbers_of keys) (Found n d) m m' s s'
 plain-found keys n d m m' s s' e g h r a b =
-    listed_found (numbers_of keys) n d m s (length-numbers keys ∙ sym e) (groups_of keys n d e g) m' s' h r a
+    listed_found (numbers_of keys) n d m s (length-numbers keys ∙ sym e) (groups_of_lem keys n d e g) m' s' h r a
     (b ∙ ap (λ (x : List ℕ). sets s 0 (sizes_to x n)) (numbers-taken keys n m m' e r a))
 
 -- ---- the sizes, by the numbers stored

@@ -21,7 +21,7 @@ use Rattle.keys.specs.declared.Multipliers.{Multipliers}
 use Rattle.firsts.specs.Records.{IsRecord}
 use Rattle.firsts.specs.Chaining.{keys_by, ByRuns, InBucket, Seeks, SpotIs, Repeats, Placed, Compiled, Counted}
 use Rattle.firsts.specs.declared.chains.Spot.{Spot}
-use Rattle.firsts.proofs.KeyLaws.{key_of}
+use Rattle.firsts.proofs.KeyLaws.{key_of_lem}
 
 -- ---- records by runs
 
@@ -38,7 +38,7 @@ module _ (words a b : List ℕ) (size : ℕ) (g : ByRuns words a b size) where
 
   key_by : (k : ℕ) {x : List ℕ} → k < length (keys_by words a b size) → IsRecord (a ++ b) size k x → image_from (runs_in words) x 0 (length x) ≡ key_at (keys_by words a b size) k
   unfolding keys_by
-  key_by k h r = key_of (runs_in words) (a ++ b) size k h r
+  key_by k h r = key_of_lem (runs_in words) (a ++ b) size k h r
 
   pub keys-compared : (j k : ℕ) {x y : List ℕ} (c : Bool) → j < length (keys_by words a b size) → k < length (keys_by words a b size) → IsRecord (a ++ b) size j x → IsRecord (a ++ b) size k y
       → c ≡ same_words (image_from (runs_in words) x 0 (length x)) (image_from (runs_in words) y 0 (length x))

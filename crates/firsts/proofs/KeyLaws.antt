@@ -22,8 +22,8 @@ use Rattle.firsts.specs.Records.{IsRecord, keys_in, Comparable}
 
 module _ (fs : List Field) (block : List ℕ) (size : ℕ) where
   -- a record's key, by the record as it was found
-  pub key_of : (k : ℕ) {x : List ℕ} → k < length (keys_of fs block size) → IsRecord block size k x → image_from fs x 0 (length x) ≡ key_at (keys_of fs block size) k
-  key_of k h r = rw (r.long, r.is) (sym (key_at_lem fs block size k h))
+  pub key_of_lem : (k : ℕ) {x : List ℕ} → k < length (keys_of fs block size) → IsRecord block size k x → image_from fs x 0 (length x) ≡ key_at (keys_of fs block size) k
+  key_of_lem k h r = rw (r.long, r.is) (sym (key_at_lem fs block size k h))
 
 -- ---- by the fields of a type
 
@@ -57,7 +57,7 @@ module _ (table pool a b : List ℕ) (size : ℕ) (g : Comparable table pool a b
     unfolding keys_in image
     key_image i {z = z} h r =
         let e : type_size_of g.admits.type ≡ length z = sym g.admits.size_is ∙ sym r.long in
-        rw (e, ← fields_in table pool size g.admits) (key_of (fields_in_of table pool) (a ++ b) size i h r)
+        rw (e, ← fields_in table pool size g.admits) (key_of_lem (fields_in_of table pool) (a ++ b) size i h r)
 
     pub key_compared : (c : Bool) → comparing table pool x y ≡ gives c → c ≡ same_words (key_at (keys_in table pool a b size) j) (key_at (keys_in table pool a b size) k)
     unfolding agree

@@ -178,8 +178,8 @@ module _ (ns : List ℕ) (n buckets k : ℕ) (w : List ℕ) (t : Tallied ns n bu
   length-of : length ns ≡ n
   length-of = ap length (sym t.names) ∙ length-names n buckets w t.room
 
-  entry_at : get_or w (buckets + n + k) 0 ≡ get_or ns k 0
-  entry_at = sym (name-at n buckets w t.room k l) ∙ ap (λ (x : List ℕ). get_or x k 0) t.names
+  entry_at_lem : get_or w (buckets + n + k) 0 ≡ get_or ns k 0
+  entry_at_lem = sym (name-at n buckets w t.room k l) ∙ ap (λ (x : List ℕ). get_or x k 0) t.names
 
   -- the name of k is not above it
   pub entry-low : get_or ns k 0 ≤ k

@@ -211,25 +211,25 @@ themselves ns n e f =
 
 module _ (table pool block : List ℕ) (size n : ℕ) (d : admission table pool ≡ gives size) (p : 0 < size) (long : length block ≡ n * size)
     (f : (i k : ℕ) → i < n → k < n → (i ≡ k → ⊥) → DifferAt table pool block size i k) where
-  count_of : length block / size ≡ n
-  count_of = rw long (mul-div_cancel n p)
+  count_of_lem : length block / size ≡ n
+  count_of_lem = rw long (mul-div_cancel n p)
 
   all_listed : numbers_of (keys_of (fields_in_of table pool) block size) ≡ listed (λ k. k) n
   all_listed =
-      let q : NumbersExactly table pool block size n (numbers_of (keys_of (fields_in_of table pool) block size)) = rw count_of at (numbers_in table pool block size d) in
+      let q : NumbersExactly table pool block size n (numbers_of (keys_of (fields_in_of table pool) block size)) = rw count_of_lem at (numbers_in table pool block size d) in
       themselves (numbers_of (keys_of (fields_in_of table pool) block size)) n q.for_each (λ i h. q.itself i h (λ j l. f j i (omega arith) h (λ e. omega arith)))
 
   few-groups : distinct_of (keys_of (fields_in_of table pool) block size) ≤ n
   unfolding distinct_of firsts_of
   few-groups =
       let keys = keys_of (fields_in_of table pool) block size in
-      omega (arith, firsts_le (numbers_of keys) (length keys), length-keys (fields_in_of table pool) block size, count_of)
+      omega (arith, firsts_le (numbers_of keys) (length keys), length-keys (fields_in_of table pool) block size, count_of_lem)
 
   numbered : (room places : ℕ) → n ≤ room → n ≤ places → (g : Groups) × (duplicating table pool block room places ≡ gives g) × (g.numbers ≡ listed (λ k. k) n)
   unfolding groups_of
   numbered room places r s = (
     groups_of (keys_of (fields_in_of table pool) block size),
-    duplicating-given table pool block room places size d (rw long (mul-mod_left n size)) (omega (arith, count_of)) (omega (arith, few-groups)),
+    duplicating-given table pool block room places size d (rw long (mul-mod_left n size)) (omega (arith, count_of_lem)) (omega (arith, few-groups)),
     all_listed,
   )
 

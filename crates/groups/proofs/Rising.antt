@@ -38,8 +38,8 @@ module _ (ns : List ℕ) (m : ℕ) (f : get_or ns m 0 ≡ m) where
   last-at : (i : ℕ) → i ≡ length (firsts_to ns m) → get_or (firsts_to ns (m + 1)) i 0 ≡ m
   last-at i e = rw (firsts_hit ns m f) (get_or_at (firsts_to ns m) m [] 0 i (sym e))
 
-  place_of : (i : ℕ) → i < length (firsts_to ns (m + 1)) → (i < length (firsts_to ns m)) ⊎ (i ≡ length (firsts_to ns m))
-  place_of i h = below_or_same i (length (firsts_to ns m)) (omega (arith, length_hit ns m f))
+  place_of_lem : (i : ℕ) → i < length (firsts_to ns (m + 1)) → (i < length (firsts_to ns m)) ⊎ (i ≡ length (firsts_to ns m))
+  place_of_lem i h = below_or_same i (length (firsts_to ns m)) (omega (arith, length_hit ns m f))
 
 -- a number below m that names itself
 pub record FirstAt (ns : List ℕ) (m x : ℕ) : Type 0 where
@@ -57,7 +57,7 @@ first-at ns (suc m) i h =
     ⊎_elim
     (λ (l : i < length (firsts_to ns m)). let w = first-at ns m i l in rw (earlier-at ns m f i l) (record { below = omega arith; own = w.own }))
     (λ (e : i ≡ length (firsts_to ns m)). rw (last-at ns m f i e) (record { below = omega arith; own = f }))
-    (place_of ns m f i g))
+    (place_of_lem ns m f i g))
     (λ (d : get_or ns m 0 ≡ m → ⊥). let w = first-at ns m i (omega (arith, length_miss ns m d)) in rw (firsts_miss ns m d) (record { below = omega arith; own = w.own }))
     (same_or_not (get_or ns m 0) m))
 
@@ -94,6 +94,6 @@ firsts-rise ns (suc m) i j l h =
     ⊎_elim
     (λ (p : j < length (firsts_to ns m)). rw (earlier-at ns m f j p, earlier-at ns m f i (omega arith)) (firsts-rise ns m i j l p))
     (λ (e : j ≡ length (firsts_to ns m)). rw (last-at ns m f j e, earlier-at ns m f i (omega arith)) (first-at ns m i (omega arith)).below)
-    (place_of ns m f j g))
+    (place_of_lem ns m f j g))
     (λ (d : get_or ns m 0 ≡ m → ⊥). rw (firsts_miss ns m d) (firsts-rise ns m i j l (omega (arith, length_miss ns m d))))
     (same_or_not (get_or ns m 0) m))

@@ -28,8 +28,8 @@ range_holds a b at (suc n) h =
 
 -- two numbers of the same places are equal exactly when the bytes are
 module _ (a b : List ℕ) (at n : ℕ) {v w : ℕ} (va : Word (take n (drop at a)) v) (wb : Word (take n (drop at b)) w) (la : at + n ≤ length a) (lb : at + n ≤ length b) where
-  place_of : (x : List ℕ) (i : ℕ) → i < n → get_or (take n (drop at x)) i 0 ≡ get_or x (at + i) 0
-  place_of x i l = get_or-take n (drop at x) i 0 l ∙ get_or-drop at x i 0
+  place_of_lem : (x : List ℕ) (i : ℕ) → i < n → get_or (take n (drop at x)) i 0 ≡ get_or x (at + i) 0
+  place_of_lem x i l = get_or-take n (drop at x) i 0 l ∙ get_or-drop at x i 0
 
   bytes-told : v ≡ w → take n (drop at a) ≡ take n (drop at b)
   bytes-told e =
@@ -40,12 +40,12 @@ module _ (a b : List ℕ) (at n : ℕ) {v w : ℕ} (va : Word (take n (drop at a
   bytes_same : equal_range_of a b at n ≡ true → take n (drop at a) ≡ take n (drop at b)
   bytes_same h =
       ext_get_or 0 (take n (drop at a)) (take n (drop at b)) (length_part a at n la ∙ sym (length_part b at n lb))
-      (λ i l. let m : i < n = omega (arith, length_part a at n la) in place_of a i m ∙ range_says a b at n h i m ∙ sym (place_of b i m))
+      (λ i l. let m : i < n = omega (arith, length_part a at n la) in place_of_lem a i m ∙ range_says a b at n h i m ∙ sym (place_of_lem b i m))
 
   pub words-equal : eqb v w ≡ equal_range_of a b at n
   words-equal =
       same_test (eqb v w) (equal_range_of a b at n)
-      (λ e. range_holds a b at n (λ i l. sym (place_of a i l) ∙ ap (λ (s : List ℕ). get_or s i 0) (bytes-told (eqb-true v w e)) ∙ place_of b i l))
+      (λ e. range_holds a b at n (λ i l. sym (place_of_lem a i l) ∙ ap (λ (s : List ℕ). get_or s i 0) (bytes-told (eqb-true v w e)) ∙ place_of_lem b i l))
       (λ e. eq-eqb v w (va.is ∙ ap number_from (bytes_same e) ∙ sym wb.is))
 
 -- the first i of n bytes are equal: the last k decide, where they reach back so far

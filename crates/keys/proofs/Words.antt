@@ -27,21 +27,21 @@ module _ (x : List ℕ) where
   word_none at n e = rw e (record { is = refl; small = omega arith; bytes = tt })
 
   module _ (at : ℕ) {a : ℕ} (ea : ByteIs a (get_or x at 0)) where
-    first_of : (n : ℕ) → at + suc n ≤ length x → take (suc n) (drop at x) ≡ a ∷ take n (drop (at + 1) x)
-    first_of n h = part-next at n (omega arith) ∙ rw (← ea.0)
+    first_of_lem : (n : ℕ) → at + suc n ≤ length x → take (suc n) (drop at x) ≡ a ∷ take n (drop (at + 1) x)
+    first_of_lem n h = part-next at n (omega arith) ∙ rw (← ea.0)
 
     pub word-one : (n : ℕ) → n ≡ 1 → at + n ≤ length x → Word (take n (drop at x)) a
     unfolding number_from AllBytes
     word-one n e h =
         let l : at + suc 0 ≤ length x = omega arith in
-        rw (e, first_of 0 l) (record { is = omega arith; small = omega (arith, ea.1); bytes = (ea.1, tt) })
+        rw (e, first_of_lem 0 l) (record { is = omega arith; small = omega (arith, ea.1); bytes = (ea.1, tt) })
 
     module _ {b : ℕ} (eb : ByteIs b (get_or x (at + 1) 0)) where
       second-of : (n : ℕ) → at + suc (suc n) ≤ length x → take (suc (suc n)) (drop at x) ≡ a ∷ b ∷ take n (drop (at + 2) x)
       second-of n h =
           let f : at + 1 + 1 ≡ at + 2 = omega arith in
           let e : take (suc n) (drop (at + 1) x) ≡ b ∷ take n (drop (at + 2) x) = part-next (at + 1) n (omega arith) ∙ rw (← eb.0, f) in
-          first_of (suc n) h ∙ rw e
+          first_of_lem (suc n) h ∙ rw e
 
       pub word_two : (n : ℕ) → n ≡ 2 → at + n ≤ length x → Word (take n (drop at x)) (a + b * 256)
       unfolding number_from AllBytes

@@ -16,7 +16,7 @@ use Rattle.rows.specs.declared.Member.TheVariants.{Named, Unnamed}
 use Rattle.rows.proofs.Decode.{members_at-entry}
 use Rattle.rows.proofs.Known.{claim_of-members}
 use Rattle.compare.specs.Agreeing.{Admitted, AdmittedIn}
-use Rattle.compare.proofs.Inside.{First, first_of}
+use Rattle.compare.proofs.Inside.{First, first_of_lem}
 use Rattle.groups.specs.Runs.{RunList, add_runs}
 use Rattle.groups.proofs.Runs.{runs_append}
 use Rattle.runs.specs.Listing.{Held, Grows, Lists, ListsAs, ListsIn, ListsEach, ListsAt, ListsMembers, ListsEntries}
@@ -55,7 +55,7 @@ module _ (name : List ℕ) (o : ℕ) (rest : Walk Members) (limit at : ℕ) wher
   behind s w s' w' (found t r p) h = go (rest r p) refl
     where
       go : (y : Found Members) → rest r p ≡ y → ListsIn (and_then y (λ ms r₂ p₂. found (member name o t ms) r₂ p₂)) limit at s w s' w'
-      go (found ms r' p') e = unfold and_then ListsIn in λ n d l. h t r p ms r' p' n refl e (first_of n name o t ms d) l
+      go (found ms r' p') e = unfold and_then ListsIn in λ n d l. h t r p ms r' p' n refl e (first_of_lem n name o t ms d) l
       go bad e = unfold and_then ListsIn in tt
   behind s w s' w' bad h = unfold ListsIn in tt
 
