@@ -1,10 +1,12 @@
+use Prim.Native.Nat.{◌≤◌}
 use native.Mathlib.Omega.{arith}
 use Rattle.blocks.proofs.Records.{record_past, record_inside, record_found}
 use Rattle.blocks.proofs.record_bytes.Goals as goal
 
 pub returns-then-count-number : goal.returns-then-count-number
 returns-then-count-number c = let k = c.record_count-count in
-    let both = record_past _ _ _ k.result k.ensures _ c.if-count-number.true in
+    let past : k.result ≤ c.args.number = omega arith in
+    let both = record_past _ _ _ k.result k.ensures _ past in
     record { is = both.0; begins = both.1 }
 
 pub overflow_mul-from : goal.overflow_mul-from

@@ -1,3 +1,4 @@
+use native.Mathlib.Omega.{arith}
 use borrow.Author.Rules.{rules}
 use mathlib.Core.Path.{refl}
 use Rattle.reading.proofs.Members.{members-begun, members-ended, members-stopped, entered-ready, entered-within, members-refused, members-turned, entered-behind, entered-next, progress_table, progress_pool, table-entered, pool-entered, table-turned, pool-turned}
@@ -36,7 +37,9 @@ pub read_members-returns-in-Refused-got : goal.read_members-returns-in-Refused-g
 read_members-returns-in-Refused-got t c = search members-refused
 
 pub read_members-overflow_add-at : goal.read_members-overflow_add-at
-read_members-overflow_add-at t c = entered-behind c.loop-i.invariant c.enter_member-entered.ensures c.in-Done.is c.read_type-got.ensures c.in-Done-got.is
+read_members-overflow_add-at t c =
+    let behind = entered-behind c.loop-i.invariant c.enter_member-entered.ensures c.in-Done.is c.read_type-got.ensures c.in-Done-got.is in
+    record { fits = omega (arith, behind.fits) }
 
 pub read_members-overflow_add-i : goal.read_members-overflow_add-i
 read_members-overflow_add-i t c = search entered-next
