@@ -1,9 +1,15 @@
-// What the programs share: the answer to `--help`, and whether what they are given is an HDF5 file.
+// What the programs share: their arguments, the answer to `--help`, reading, and whether what they are given is an HDF5 file.
 #![tactic(auto)]
 
-ghost use Rattle.std.specs.Prelude.{◌≡◌};
+ghost use Rattle.std.specs.Prelude.{◌≡◌, ◌<◌, length, take, OnOk};
+ghost use Rattle.std.specs.Io.KnownBytes.{Consumes, IsAtEnd};
+ghost use Rattle.io.specs.Counts.{IsPrefixLen};
 ghost use Rattle.command.specs.Starts.{starts_as, signature, help_word};
 ghost use Rattle.format.specs.Table.{same_words};
+
+use std::env::FillError;
+use std::io::{Read, Result};
+use std::rt::Env;
 
 // Whether bytes begin as an HDF5 file does: with 89 48 44 46 0D 0A 1A 0A.
 pub fn is_hdf5_file(data: &[u8]) -> bool
@@ -22,13 +28,42 @@ fn is_help(word: &[u8]) -> bool
     check::same(word, b"--help")
 }
 
-// Where the first argument is `--help`, writes the usage to standard output and answers true.
-pub fn helped(usage: &[u8]) -> bool {
-    let mut word = io::buffer();
-    let n = os::arg(1, &mut word);
-    if is_help(&word[..n]) {
-        io::write_all(1, usage);
-        return true;
+// Whether there is an argument of this number, from 1.
+pub fn has_argument(rt: &impl Env, number: usize) -> bool {
+    match rt.arg(number, &mut []) {
+        Err(FillError::NotPresent) => false,
+        _ => true,
     }
-    false
+}
+
+// Where the first argument is `--help`, writes the usage to standard output and answers true.
+pub fn helped(rt: &impl Env, usage: &[u8]) -> bool {
+    let mut word = io::buffer();
+    match rt.arg(1, &mut word) {
+        Ok(n) => {
+            if is_help(&word[..n]) {
+                io::write_all(1, usage);
+                return true;
+            }
+            false
+        }
+        Err(_) => false,
+    }
+}
+
+// Reads until the buffer is full or the reader ends: how many bytes it put at the start of the buffer, and the error of a read that failed.
+pub fn fill<R: Read>(reader: &mut R, buffer: &mut [u8]) -> (usize, Result<()>)
+    ensures within { IsPrefixLen result.0 buffer.new }
+    ensures bytes { Consumes (R.remaining reader.old) (R.remaining reader.new) (take result.0 buffer.new) }
+    ensures whole { OnOk result.1 (result.0 < length buffer.new → IsAtEnd (R.remaining reader.new)) }
+{
+    let mut done = 0;
+    while done < buffer.len() {
+        match reader.read(&mut buffer[done..]) {
+            Ok(0) => return (done, Ok(())),
+            Ok(n) => done += n,
+            Err(e) => return (done, Err(e)),
+        }
+    }
+    (done, Ok(()))
 }
