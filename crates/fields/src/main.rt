@@ -8,6 +8,7 @@ use listing::{Listing, list_fields, list_refusal};
 use reader::read;
 use reading::Reading;
 use refusal::Refusal;
+use std::io::{Error, ErrorKind};
 
 // The first bytes of a text, if there are so many.
 fn show(text: &[u8], length: usize) {
@@ -52,13 +53,16 @@ fn note(what: &[u8]) {
     io::write_all(2, b"\n");
 }
 
+// The number of the system's error where a file is closed, for which there is no kind.
+const CLOSED: i32 = 9;
+
 // The same, after a read that failed with this error.
-fn note_unread(error: i32) {
-    if error == libc::EISDIR {
+fn note_unread(error: Error) {
+    if error.kind() == ErrorKind::IsADirectory {
         note(b"is a directory, not a datatype message");
         return;
     }
-    if error == libc::EBADF {
+    if error.raw_os_error() == Some(CLOSED) {
         note(b"is closed");
         return;
     }
@@ -66,26 +70,22 @@ fn note_unread(error: i32) {
 }
 
 // Reads standard input into the start of a buffer, and notes where nothing is read.
-fn input(buffer: &mut [u8]) -> usize
+fn input(rt: &impl Input, buffer: &mut [u8]) -> usize
     ensures { IsPrefixLen result buffer.new }
 {
-    let got = libc::read(0, buffer);
-    if got < 0 {
-        note_unread(os::errno());
-        return 0;
+    let (count, outcome) = command::fill(&mut rt.reader(), buffer);
+    if count == 0 {
+        match outcome {
+            Ok(()) => note(b"is empty"),
+            Err(error) => note_unread(error),
+        }
     }
-    if got == 0 {
-        note(b"is empty");
-        return 0;
-    }
-    let first = io::count(got, buffer);
-    let more = io::read_full(0, &mut buffer[first..]);
-    first + more
+    count
 }
 
 // At most 65,536 bytes are read; what is behind them is not looked at.
-fn main() {
-    if os::arg_count() > 1 {
+fn main(rt: HostRuntime) {
+    if command::has_argument(&rt, 1) {
         io::write_all(
             1,
             b"usage: fields <MESSAGE\n\
@@ -94,7 +94,7 @@ Writes the fields of the HDF5 datatype message on standard input: a line for eac
         return;
     }
     let mut message = io::large_buffer();
-    let length = input(&mut message);
+    let length = input(&rt, &mut message);
     if command::is_hdf5_file(&message[..length]) {
         note(b"is an HDF5 file, not a datatype message");
     }
