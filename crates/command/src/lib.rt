@@ -1,15 +1,17 @@
 // What the programs share: their arguments, the answer to `--help`, reading, and whether what they are given is an HDF5 file.
 #![tactic(auto)]
 
-ghost use Rattle.std.specs.Prelude.{◌≡◌, ◌<◌, length, take, OnOk};
+ghost use Rattle.std.specs.Prelude.{◌≡◌, ◌<◌, length, take, IsUtf8, IsErrAnd, OnOk};
 ghost use Rattle.std.specs.Io.KnownBytes.{Consumes, IsAtEnd};
+ghost use Rattle.std.specs.IoError.{error_kind};
 ghost use Rattle.io.specs.Counts.{IsPrefixLen};
 ghost use Rattle.command.specs.Starts.{starts_as, signature, help_word};
 ghost use Rattle.format.specs.Table.{same_words};
 
 use std::env::FillError;
-use std::io::{Read, Result};
-use std::rt::Env;
+use std::fs;
+use std::io::{Error, ErrorKind, Read, Result};
+use std::rt::{Env, Files};
 
 // Whether bytes begin as an HDF5 file does: with 89 48 44 46 0D 0A 1A 0A.
 pub fn is_hdf5_file(data: &[u8]) -> bool
@@ -48,6 +50,16 @@ pub fn helped(rt: &impl Env, usage: &[u8]) -> bool {
             false
         }
         Err(_) => false,
+    }
+}
+
+// Opens the file of a name for reading. One that is no UTF-8 is refused.
+pub fn open_file<R: Files>(rt: &R, name: &[u8]) -> Result<R::File>
+    ensures { (IsUtf8 name.now → ⊥) → IsErrAnd result (λ e. error_kind e ≡ ErrorKind.InvalidFilename) }
+{
+    match str::from_utf8(name) {
+        Ok(path) => fs::open(rt, path),
+        Err(_) => Err(Error::from(ErrorKind::InvalidFilename)),
     }
 }
 
