@@ -3,8 +3,9 @@
 
 mod messages;
 
-fn main() {
+fn main(rt: HostRuntime) {
     if command::helped(
+        &rt,
         b"usage: cases\nRuns worked cases of reading and writes what each gives.\n",
     ) {
         return;

@@ -5,8 +5,9 @@ mod calls;
 mod lengths;
 mod types;
 
-fn main() {
+fn main(rt: HostRuntime) {
     if command::helped(
+        &rt,
         b"usage: cases_duplicates\nRuns worked cases of records that are the same as an earlier one and writes what each gives.\n",
     ) {
         return;

@@ -4,8 +4,9 @@
 mod listings;
 mod refusals;
 
-fn main() {
+fn main(rt: HostRuntime) {
     if command::helped(
+        &rt,
         b"usage: cases_fields\nRuns worked cases of the listing that fields prints and writes what each gives.\n",
     ) {
         return;

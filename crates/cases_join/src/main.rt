@@ -5,8 +5,9 @@ mod blocks;
 mod calls;
 mod workspaces;
 
-fn main() {
+fn main(rt: HostRuntime) {
     if command::helped(
+        &rt,
         b"usage: cases_join\nRuns worked cases of two blocks of records made one and writes what each gives.\n",
     ) {
         return;

@@ -3,8 +3,9 @@
 
 mod stop_names;
 
-fn main() {
+fn main(rt: HostRuntime) {
     if command::helped(
+        &rt,
         b"usage: cases_names\nRuns worked cases of comparing names and writes what each gives.\n",
     ) {
         return;

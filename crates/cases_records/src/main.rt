@@ -4,8 +4,9 @@
 mod records;
 mod tables;
 
-fn main() {
+fn main(rt: HostRuntime) {
     if command::helped(
+        &rt,
         b"usage: cases_records\nRuns worked cases of comparing records and writes what each gives.\n",
     ) {
         return;

@@ -4,8 +4,9 @@
 mod calls;
 mod types;
 
-fn main() {
+fn main(rt: HostRuntime) {
     if command::helped(
+        &rt,
         b"usage: cases_slots\nRuns worked cases of sizes, slots, references and member names and writes what each gives.\n",
     ) {
         return;

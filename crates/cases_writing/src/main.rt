@@ -4,8 +4,9 @@
 mod calls;
 mod types;
 
-fn main() {
+fn main(rt: HostRuntime) {
     if command::helped(
+        &rt,
         b"usage: cases_writing\nRuns worked cases of writing and reading back and writes what each gives.\n",
     ) {
         return;
