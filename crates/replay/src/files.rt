@@ -4,11 +4,13 @@ ghost use Rattle.std.specs.Prelude.{◌≤◌, length};
 use crate::differences::{Outcome, entry_outcome};
 use crate::entries::{Answer, Piece, answer_at, end_of};
 use crate::lines::{end_line, entry_line, file_line};
+use std::io::{Read, Result};
+use std::rt::{Env, Files};
 
-// What a read of one byte more answers: below 0 where it fails, 0 at the file's end.
-fn one_more(fd: i32) -> isize {
+// How many bytes a read of one byte more gives: 0 at the file's end.
+fn one_more(file: &mut impl Read) -> Result<usize> {
     let mut byte = [0u8; 1];
-    libc::read(fd, &mut byte)
+    file.read(&mut byte)
 }
 
 // The outcome of an entry whose last piece is known.
@@ -37,37 +39,33 @@ fn entries(name: &[u8], bytes: &[u8]) {
 }
 
 // Runs the file that is open, of at most 1,048,576 bytes, by way of a buffer of that length.
-fn file(name: &[u8], fd: i32, bytes: &mut [u8]) {
-    let n = io::read_full(fd, bytes);
-    let more = one_more(fd);
-    if more < 0 {
+fn file(name: &[u8], from: &mut impl Read, bytes: &mut [u8]) {
+    let (n, outcome) = command::fill(from, bytes);
+    if outcome.is_err() {
         file_line(name, b"cannot be read");
         return;
     }
-    if more > 0 {
-        file_line(name, b"larger than 1048576 bytes");
-        return;
+    match one_more(from) {
+        Err(_) => file_line(name, b"cannot be read"),
+        Ok(0) => {
+            if n == 0 {
+                file_line(name, b"empty");
+                return;
+            }
+            entries(name, &bytes[..n]);
+        }
+        Ok(_) => file_line(name, b"larger than 1048576 bytes"),
     }
-    if n == 0 {
-        file_line(name, b"empty");
-        return;
-    }
-    entries(name, &bytes[..n]);
 }
 
 // Runs the file that an argument names.
-pub fn named(argument: usize, bytes: &mut [u8]) {
+pub fn named(rt: &(impl Env + Files), argument: usize, bytes: &mut [u8]) {
     let mut space = io::buffer();
-    let length = os::arg(argument, &mut space);
-    if os::errno() != 0 {
-        file_line(b"a file's name", b"missing or too long");
-        return;
+    match rt.arg(argument, &mut space) {
+        Err(_) => file_line(b"a file's name", b"missing or too long"),
+        Ok(length) => match command::open_file(rt, &space[..length]) {
+            Err(_) => file_line(&space[..length], b"cannot be opened"),
+            Ok(mut from) => file(&space[..length], &mut from, bytes),
+        },
     }
-    let fd = os::open_read(&space[..length]);
-    if fd < 0 {
-        file_line(&space[..length], b"cannot be opened");
-        return;
-    }
-    file(&space[..length], fd, bytes);
-    libc::close(fd);
 }

@@ -6,19 +6,22 @@ mod entries;
 mod files;
 mod lines;
 
-fn main() {
+use std::rt::{Env, Files};
+
+fn main(rt: HostRuntime) {
     if command::helped(
+        &rt,
         b"usage: replay FILE FILE\n\
 Runs two files of samples and writes for each whether the library answers as the file says.\n",
     ) {
         return;
     }
-    replay(1);
-    replay(2);
+    replay(&rt, 1);
+    replay(&rt, 2);
 }
 
 // Runs the file that an argument names.
-fn replay(argument: usize) {
+fn replay(rt: &(impl Env + Files), argument: usize) {
     let mut bytes = [0u8; 1048576];
-    files::named(argument, &mut bytes);
+    files::named(rt, argument, &mut bytes);
 }

@@ -1,8 +1,11 @@
 // A file among the arguments.
+ghost use Rattle.std.specs.Prelude.{◌≢◌, ℕ};
 ghost use Rattle.io.specs.Counts.{IsPrefixLen};
 ghost use Rattle.same.specs.Files.{ReadInto};
 
 use show::{number, text};
+use std::io::{Error, ErrorKind, Read};
+use std::rt::{Env, Files};
 
 // What came of reading a file whole.
 #[derive(Clone, Copy)]
@@ -15,32 +18,45 @@ pub enum Whole {
     TooLong,
 }
 
-// Reads a file whole into the start of a buffer.
-fn read_whole(path: &[u8], buffer: &mut [u8]) -> Whole
+// Reads a file that is open whole into the start of a buffer.
+fn read_open(file: &mut impl Read, buffer: &mut [u8]) -> Whole
     ensures { ReadInto result buffer.new }
 {
-    let fd = os::open_read(path);
-    if fd < 0 {
-        if os::errno() == libc::ENOENT {
-            return Whole::NotThere;
-        }
-        return Whole::Unopened;
+    let (count, outcome) = command::fill(file, buffer);
+    if let Err(error) = outcome {
+        return unread(error);
     }
-    let n = io::read_full(fd, buffer);
     let mut more = [0u8; 1];
-    let got = libc::read(fd, &mut more);
-    let error = os::errno();
-    libc::close(fd);
-    if got < 0 {
-        if error == libc::EISDIR {
-            return Whole::Directory;
+    match file.read(&mut more) {
+        Ok(0) => Whole::Bytes(count),
+        Ok(_) => Whole::TooLong,
+        Err(error) => unread(error),
+    }
+}
+
+// What a read that failed with this error says of its file.
+fn unread(error: Error) -> Whole
+    ensures { (n : ℕ) → result ≢ Whole.Bytes n }
+{
+    if error.kind() == ErrorKind::IsADirectory {
+        return Whole::Directory;
+    }
+    Whole::Unread
+}
+
+// Reads a file whole into the start of a buffer.
+fn read_whole(rt: &impl Files, path: &[u8], buffer: &mut [u8]) -> Whole
+    ensures { ReadInto result buffer.new }
+{
+    match command::open_file(rt, path) {
+        Ok(mut file) => read_open(&mut file, buffer),
+        Err(error) => {
+            if error.kind() == ErrorKind::NotFound {
+                return Whole::NotThere;
+            }
+            Whole::Unopened
         }
-        return Whole::Unread;
     }
-    if got > 0 {
-        return Whole::TooLong;
-    }
-    Whole::Bytes(n)
 }
 
 // What is wrong with a file.
@@ -69,11 +85,11 @@ fn too_long(role: &[u8], path: &[u8], most: u64, hdf5: bool) {
 }
 
 // The bytes read, or a line that says what is wrong, and 0.
-fn whole_or_line(role: &[u8], path: &[u8], buffer: &mut [u8]) -> usize
+fn whole_or_line(rt: &impl Files, role: &[u8], path: &[u8], buffer: &mut [u8]) -> usize
     ensures { IsPrefixLen result buffer.new }
 {
     let most = buffer.len() as u64;
-    let whole = read_whole(path, buffer);
+    let whole = read_whole(rt, path, buffer);
     match whole {
         Whole::Bytes(n) => {
             if n == 0 {
@@ -105,16 +121,17 @@ fn whole_or_line(role: &[u8], path: &[u8], buffer: &mut [u8]) -> usize
 }
 
 // Reads the file that an argument names into the start of a buffer: its length, or 0 where a line says what is wrong.
-pub fn argument(i: usize, role: &[u8], buffer: &mut [u8]) -> usize
+pub fn argument(rt: &(impl Env + Files), i: usize, role: &[u8], buffer: &mut [u8]) -> usize
     ensures { IsPrefixLen result buffer.new }
 {
     let mut path = io::buffer();
-    let n = os::arg(i, &mut path);
-    if os::errno() != 0 {
-        text(b"error: the name of the ");
-        text(role);
-        text(b" has more than 4096 bytes\n");
-        return 0;
+    match rt.arg(i, &mut path) {
+        Ok(n) => whole_or_line(rt, role, &path[..n], buffer),
+        Err(_) => {
+            text(b"error: the name of the ");
+            text(role);
+            text(b" has more than 4096 bytes\n");
+            0
+        }
     }
-    whole_or_line(role, &path[..n], buffer)
 }

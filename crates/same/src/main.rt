@@ -10,9 +10,11 @@ mod numbers;
 mod say;
 
 use numbers::Parsed;
+use std::rt::{Env, Files};
 
-fn main() {
+fn main(rt: HostRuntime) {
     if command::helped(
+        &rt,
         b"usage: same MESSAGE RECORDS I J\n\
 Whether records I and J of a block, by number from 0, are the same: bytes between fields and behind the NUL of a name do not count.\n\
 MESSAGE is a file with an HDF5 datatype message, RECORDS a file with whole records of that type.\n\
@@ -20,37 +22,37 @@ Writes one line: same, differs, refused with number and values, or error and wha
     ) {
         return;
     }
-    if os::arg_count() != 5 {
+    if !command::has_argument(&rt, 4) || command::has_argument(&rt, 5) {
         show::text(
             b"error: wanted are a message file, a record file and two record numbers from 0\n",
         );
         return;
     }
     let mut message = io::large_buffer();
-    let length = files::argument(1, b"message file", &mut message);
+    let length = files::argument(&rt, 1, b"message file", &mut message);
     if length > 0 {
-        with_message(&message[..length]);
+        with_message(&rt, &message[..length]);
     }
 }
 
-fn with_message(message: &[u8]) {
+fn with_message(rt: &(impl Env + Files), message: &[u8]) {
     if command::is_hdf5_file(message) {
         show::text(b"error: the message file is an HDF5 file, not a datatype message\n");
         return;
     }
     let mut block = buffers::block();
-    let length = files::argument(2, b"record file", &mut block);
+    let length = files::argument(rt, 2, b"record file", &mut block);
     if length > 0 {
-        with_block(message, &block[..length]);
+        with_block(rt, message, &block[..length]);
     }
 }
 
-fn with_block(message: &[u8], block: &[u8]) {
-    let first = numbers::argument(3);
+fn with_block(rt: &impl Env, message: &[u8], block: &[u8]) {
+    let first = numbers::argument(rt, 3);
     match first {
         Parsed::NoNumber => {}
         Parsed::Number(i) => {
-            let second = numbers::argument(4);
+            let second = numbers::argument(rt, 4);
             match second {
                 Parsed::NoNumber => {}
                 Parsed::Number(j) => with_numbers(message, block, i, j),

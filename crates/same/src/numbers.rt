@@ -3,6 +3,7 @@ ghost use Rattle.std.specs.Prelude.{◌≡◌};
 ghost use Rattle.same.specs.Numbers.{decimal_of};
 
 use show::text;
+use std::rt::Env;
 
 // An argument as a number.
 #[derive(Clone, Copy)]
@@ -43,18 +44,24 @@ pub fn decimal(s: &[u8]) -> Parsed
     Parsed::Number(value)
 }
 
-// The number that an argument writes; where it writes none, a line says so.
-pub fn argument(i: usize) -> Parsed {
+// The number that a word writes; where it writes none, a line says so.
+fn number_or_line(word: &[u8]) -> Parsed
+    ensures { result ≡ decimal_of word.now }
+{
+    let parsed = decimal(word);
+    if let Parsed::NoNumber = parsed {
+        text(b"error: '");
+        text(word);
+        text(b"' is not a record number, which is decimal and below 18446744073709551616\n");
+    }
+    parsed
+}
+
+// The number that an argument writes; where it writes none, a line says so. One of more than 4,096 bytes counts as empty.
+pub fn argument(rt: &impl Env, i: usize) -> Parsed {
     let mut word = io::buffer();
-    let n = os::arg(i, &mut word);
-    let parsed = decimal(&word[..n]);
-    match parsed {
-        Parsed::Number(value) => Parsed::Number(value),
-        Parsed::NoNumber => {
-            text(b"error: '");
-            text(&word[..n]);
-            text(b"' is not a record number, which is decimal and below 18446744073709551616\n");
-            Parsed::NoNumber
-        }
+    match rt.arg(i, &mut word) {
+        Ok(n) => number_or_line(&word[..n]),
+        Err(_) => number_or_line(b""),
     }
 }
