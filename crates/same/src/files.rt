@@ -1,5 +1,5 @@
 // A file among the arguments.
-ghost use Rattle.std.specs.Prelude.{◌≢◌, ℕ};
+ghost use Rattle.std.specs.Prelude.{◌≡◌, ◌≢◌, ℕ, take, IfSome};
 ghost use Rattle.io.specs.Counts.{IsPrefixLen};
 ghost use Rattle.same.specs.Files.{ReadInto};
 
@@ -19,8 +19,9 @@ pub enum Whole {
 }
 
 // Reads a file that is open whole into the start of a buffer.
-fn read_open(file: &mut impl Read, buffer: &mut [u8]) -> Whole
-    ensures { ReadInto result buffer.new }
+fn read_open<F: Read>(file: &mut F, buffer: &mut [u8]) -> Whole
+    ensures within { ReadInto result buffer.new }
+    ensures whole { (n : ℕ) → result ≡ Whole.Bytes n → IfSome (F.remaining file.old) (λ bytes. bytes ≡ take n buffer.new) }
 {
     let (count, outcome) = command::fill(file, buffer);
     if let Err(error) = outcome {
