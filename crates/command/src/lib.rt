@@ -55,7 +55,8 @@ pub fn helped(rt: &impl Env, usage: &[u8]) -> bool {
 
 // Opens the file of a name for reading. One that is no UTF-8 is refused.
 pub fn open_file<R: Files>(rt: &R, name: &[u8]) -> Result<R::File>
-    ensures { (IsUtf8 name.now → ⊥) → IsErrAnd result (λ e. error_kind e ≡ ErrorKind.InvalidFilename) }
+    ensures { ¬ IsUtf8 name.now →
+        IsErrAnd result (λ e. error_kind e ≡ ErrorKind.InvalidFilename) }
 {
     match str::from_utf8(name) {
         Ok(path) => fs::open(rt, path),
@@ -66,7 +67,8 @@ pub fn open_file<R: Files>(rt: &R, name: &[u8]) -> Result<R::File>
 // Reads until the buffer is full or the reader ends: how many bytes it put at the start of the buffer, and the error of a read that failed.
 pub fn fill<R: Read>(reader: &mut R, buffer: &mut [u8]) -> (usize, Result<()>)
     ensures within { IsPrefixLen result.0 buffer.new }
-    ensures bytes { Consumes (R.remaining reader.old) (R.remaining reader.new) (take result.0 buffer.new) }
+    ensures bytes { Consumes (R.remaining reader.old) (R.remaining reader.new)
+        (take result.0 buffer.new) }
     ensures whole { OnOk result.1 (result.0 < length buffer.new → IsAtEnd (R.remaining reader.new)) }
 {
     let mut done = 0;
@@ -78,4 +80,56 @@ pub fn fill<R: Read>(reader: &mut R, buffer: &mut [u8]) -> (usize, Result<()>)
         }
     }
     (done, Ok(()))
+}
+
+#[cfg(test)]
+mod tests {
+    use super::*;
+
+    // Gives one byte, and then fails.
+    #[derive(Drop)]
+    struct Broken {
+        has_failed: bool,
+    }
+
+    impl Read for Broken {
+        fn read(&mut self, buf: &mut [u8]) -> Result<usize> {
+            if self.has_failed || buf.is_empty() {
+                return Err(Error::from(ErrorKind::Other));
+            }
+            self.has_failed = true;
+            buf[0] = b'a';
+            Ok(1)
+        }
+    }
+
+    #[test]
+    fn fills_from_memory(rt: HostRuntime) {
+        let mut text: &[u8] = b"abcde";
+        let mut first = [0u8; 2];
+        let (count, outcome) = fill(&mut text, &mut first);
+        assert_eq!(rt; (count, outcome.is_ok()), (2, true));
+        assert_eq!(rt; first, *b"ab");
+        let mut rest = [0u8; 4];
+        let (count, outcome) = fill(&mut text, &mut rest);
+        assert_eq!(rt; (count, outcome.is_ok()), (3, true));
+        assert_eq!(rt; rest, *b"cde\0");
+    }
+
+    #[test]
+    fn keeps_what_was_read_before_a_failure(rt: HostRuntime) {
+        let mut buffer = [0u8; 3];
+        let (count, outcome) = fill(&mut Broken { has_failed: false }, &mut buffer);
+        assert_eq!(rt;
+            (count, outcome.map_err(|e| e.kind())),
+            (1, Err(ErrorKind::Other))
+        );
+        assert_eq!(rt; buffer, *b"a\0\0");
+    }
+
+    #[test]
+    fn refuses_a_name_that_is_no_text(rt: HostRuntime) {
+        let opened = open_file(&rt, b"\xff").map(|_| ()).map_err(|e| e.kind());
+        assert_eq!(rt; opened, Err(ErrorKind::InvalidFilename));
+    }
 }

@@ -21,7 +21,8 @@ pub enum Whole {
 // Reads a file that is open whole into the start of a buffer.
 fn read_open<F: Read>(file: &mut F, buffer: &mut [u8]) -> Whole
     ensures within { ReadInto result buffer.new }
-    ensures whole { (n : ℕ) → result ≡ Whole.Bytes n → IfSome (F.remaining file.old) (λ bytes. bytes ≡ take n buffer.new) }
+    ensures whole { (n : ℕ) → result ≡ Whole.Bytes n →
+        IfSome (F.remaining file.old) (λ bytes. bytes ≡ take n buffer.new) }
 {
     let (count, outcome) = command::fill(file, buffer);
     if let Err(error) = outcome {
