@@ -25,7 +25,7 @@ pub read_members-slice_bounds-read_type-start : goal.read_members-slice_bounds-r
 read_members-slice_bounds-read_type-start t c = search (rules, entered-within)
 
 pub read_members-read_type-got-requires : goal.read_members-read_type-got-requires
-read_members-read_type-got-requires t c = let h = c in (search rules, ready_any_version _ (entered-ready c.enter_member-entered.ensures c.in-Done.is) refl refl)
+read_members-read_type-got-requires t c = (search rules, ready_any_version _ (entered-ready c.enter_member-entered.ensures c.in-Done.is) refl refl)
 
 pub read_members-shape_of-table-in-Refused-got : goal.read_members-shape_of-table-in-Refused-got
 read_members-shape_of-table-in-Refused-got t c = search table-turned
