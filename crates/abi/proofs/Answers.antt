@@ -1,44 +1,16 @@
--- The answers as number and values.
-use Prim.Native.Nat.{ℕ}
-use mathlib.Core.Path.{◌≡◌, sym, ap, ◌∙◌}
-use mathlib.Core.Bool.{Bool, true, false}
-use mathlib.Core.List.{List}
-use lib.ListN.{length, get_or}
-use Rattle.refusal.specs.declared.RefusalValues.{RefusalValues}
+-- What a host is told, by an answer's number and values.
+use Rattle.std.specs.Prelude.{ℕ, ◌≡◌, Bool, true, false, List, Result, get_or}
+use Rattle.std.proofs.Common.{ap, ◌∙◌, sym}
+use Rattle.refusal.specs.Refusal.{answer_number, answer_values}
+use Rattle.refusal.specs.declared.Refusal.{Refusal}
+use Rattle.format.specs.Outcome.{Outcome, outcome_number, outcome_values, Answers}
 use Rattle.table.specs.Survey.{yes_or_no}
 use Rattle.abi.specs.Answers.{Tells}
-use Rattle.abi.specs.declared.Answer.{Answer}
 
--- a refusal's number and values
-pub refusal_tells : {n m : ℕ} {vs : List ℕ} {v : RefusalValues} → n ≡ m → v ≡ record { count = length vs; first = get_or vs 0 0; second = get_or vs 1 0 }
-    → Tells m vs (record { number = n; first = v.first; second = v.second })
-refusal_tells k h = record { number_is = k; first-is = ap (λ x. x.first) h; second_is = ap (λ x. x.second) h }
-
--- an answer known by cases
-pub tells_as : {A : Type 0} (number : A → ℕ) (values : A → List ℕ) {x y : A} {a : Answer} → x ≡ y → Tells (number y) (values y) a → Tells (number x) (values x) a
-tells_as number values e t = rw e t
-
--- what is returned and put into `first` and `second`, by what the definition's answer has for number and values
-module _ {n : ℕ} {vs : List ℕ} {a : Answer} (t : Tells n vs a) where
-  pub told-number : {m : ℕ} → n ≡ m → a.number ≡ m
-  told-number k = t.number_is ∙ k
-
-  module _ {ws : List ℕ} (h : vs ≡ ws) where
-    pub told-first : a.first ≡ get_or ws 0 0
-    told-first = t.first-is ∙ ap (λ (l : List ℕ). get_or l 0 0) h
-
-    pub told-second : a.second ≡ get_or ws 1 0
-    told-second = t.second_is ∙ ap (λ (l : List ℕ). get_or l 1 0) h
-
--- all three
-pub told : {n m : ℕ} {vs ws : List ℕ} {a : Answer} → Tells n vs a → n ≡ m → vs ≡ ws
-    → (a.number ≡ m) × ((a.first ≡ get_or ws 0 0) × (a.second ≡ get_or ws 1 0))
-told t k h = (told-number t k, (told-first t h, told-second t h))
-
--- the same, with what holds of the lent output
-pub told_with : {n m : ℕ} {vs ws : List ℕ} {a : Answer} {B : Type 0} → Tells n vs a → n ≡ m → vs ≡ ws → B
-    → (a.number ≡ m) × ((a.first ≡ get_or ws 0 0) × ((a.second ≡ get_or ws 1 0) × B))
-told_with t k h b = let x = told t k h in (x.0, (x.1.0, (x.1.1, b)))
+pub tells : {A B : Type 0} {f : A → B} {shown : B → List ℕ} {o : Outcome A} {r : Result B Refusal} {n first second : ℕ}
+    → Answers f shown o r → n ≡ answer_number r → first ≡ get_or (answer_values shown r) 0 0 → second ≡ get_or (answer_values shown r) 1 0 → Tells (λ x. shown (f x)) o n first second
+tells a k h w =
+    record { number_is = k ∙ a.number; first-is = h ∙ ap (λ (l : List ℕ). get_or l 0 0) a.values; second_is = w ∙ ap (λ (l : List ℕ). get_or l 1 0) a.values }
 
 -- yes and no
 pub yes_is : {r b : Bool} → r ≡ b → r ≡ true → 1 ≡ yes_or_no b

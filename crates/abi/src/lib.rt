@@ -2,185 +2,37 @@
 // number, and puts its result, or the refusal's values, into `first` and `second` (0 where there is none).
 #![tactic(auto)]
 
-ghost use Rattle.std.specs.Prelude.{◌≡◌, [], ◌∷◌, min, length, get_or};
-ghost use Rattle.refusal.specs.Refusal.{number_of, values_of};
+mod told;
+
+ghost use Rattle.std.specs.Prelude.{◌≡◌, [], ◌∷◌, min, length};
 ghost use Rattle.format.specs.Bytes.{zeros};
 ghost use Rattle.format.specs.Message.{writing};
-ghost use Rattle.format.specs.Outcome.{output_after, outcome_number, outcome_values};
+ghost use Rattle.format.specs.Outcome.{output_after};
 ghost use Rattle.format.specs.Ownership.{comparing};
 ghost use Rattle.format.specs.Reading.{reading, table_after, pool_after};
 ghost use Rattle.format.specs.Sizes.{sizing, element_sizing, class_may_hold_object_address_of, object_address_held, file_address_held};
 ghost use Rattle.format.specs.Slots.{finding_slots, referencing};
-ghost use Rattle.reading.specs.Reads.{reading_number, reading_values};
-ghost use Rattle.writer.specs.Writes.{writing_number, writing_values};
-ghost use Rattle.compare.specs.Agreeing.{comparison_number, comparison_values, same_or_differs};
-ghost use Rattle.table.specs.Survey.{sized_number, sized_values, held_number, held_values, yes_or_no};
+ghost use Rattle.compare.specs.Agreeing.{same_or_differs};
+ghost use Rattle.table.specs.Survey.{yes_or_no, held_values, size_values};
 ghost use Rattle.table.specs.Names.{name_of, name_place};
-ghost use Rattle.table.specs.Extent.{extending, extent_values, using_number, using_values};
-ghost use Rattle.slots.specs.Slots.{slots_number, slots_values};
-ghost use Rattle.references.specs.References.{references_number, references_values, places_after, values_after};
+ghost use Rattle.table.specs.Extent.{extending, extent_values};
+ghost use Rattle.references.specs.References.{places_after, values_after};
 ghost use Rattle.groups.specs.Duplicates.{duplicating};
 ghost use Rattle.groups.specs.Join.{joining};
-ghost use Rattle.duplicates.specs.Answers.{duplicates_number, duplicates_values, groups_values, numbers_given, sizes_given};
-ghost use Rattle.duplicates.specs.WordCount.{words_needed, words_number, words_values};
-ghost use Rattle.join.specs.Answers.{joining_number, joining_values, joint_values, bytes_given};
+ghost use Rattle.duplicates.specs.Answers.{groups_told, groups_values, numbers_given, sizes_given};
+ghost use Rattle.duplicates.specs.WordCount.{words_needed};
+ghost use Rattle.join.specs.Answers.{joint_told, joint_values, bytes_given};
 ghost use Rattle.abi.specs.Answers.{Tells};
 
-use compare::{Comparison, same};
-use duplicates::outcome::{Duplicates, Words};
+use compare::same;
 use duplicates::{duplicates, duplicates_words};
 use join::join;
-use join::outcome::Joining;
 use reader::read;
-use reading::Reading;
-use references::{References, stored_object_references};
-use refusal::Refusal;
-use slots::{Slots, embedded_reference_slots};
-use table::{Held, Sized, Using, element_size, extent, name_part, type_size};
-use writer::{Writing, write};
-
-// The answer of a call: 0 or the refusal's number, and two values, 0 for each that is not there.
-#[derive(Clone, Copy)]
-struct Answer {
-    number: u32,
-    first: u64,
-    second: u64,
-}
-
-// A result.
-fn given(first: u64) -> Answer
-    ensures { Tells 0 (first ∷ []) result }
-{
-    Answer {
-        number: 0,
-        first: first,
-        second: 0,
-    }
-}
-
-// A result of two values.
-fn given_two(first: u64, second: u64) -> Answer
-    ensures { Tells 0 (first ∷ second ∷ []) result }
-{
-    Answer {
-        number: 0,
-        first: first,
-        second: second,
-    }
-}
-
-// A refusal.
-fn refused(refusal: Refusal) -> Answer
-    ensures { Tells (number_of refusal) (values_of refusal) result }
-{
-    let values = refusal::values(refusal);
-    Answer {
-        number: refusal::number(refusal),
-        first: values.first,
-        second: values.second,
-    }
-}
-
-fn of_reading(answer: Reading) -> Answer
-    ensures { Tells (reading_number answer) (reading_values answer) result }
-{
-    match answer {
-        Reading::Read(length) => given(length as u64),
-        Reading::Refused(e) => refused(e),
-    }
-}
-
-fn of_writing(answer: Writing) -> Answer
-    ensures { Tells (writing_number answer) (writing_values answer) result }
-{
-    match answer {
-        Writing::Written(length) => given(length as u64),
-        Writing::Refused(e) => refused(e),
-    }
-}
-
-fn of_comparison(answer: Comparison) -> Answer
-    ensures { Tells (comparison_number answer) (comparison_values answer) result }
-{
-    match answer {
-        Comparison::Same => given(0),
-        Comparison::Differs => given(1),
-        Comparison::Refused(e) => refused(e),
-    }
-}
-
-fn of_sized(answer: Sized) -> Answer
-    ensures { Tells (sized_number answer) (sized_values answer) result }
-{
-    match answer {
-        Sized::Size(size) => given(size as u64),
-        Sized::Refused(e) => refused(e),
-    }
-}
-
-fn of_held(answer: Held) -> Answer
-    ensures { Tells (held_number answer) (held_values answer) result }
-{
-    match answer {
-        Held::Yes => given(1),
-        Held::No => given(0),
-        Held::Refused(e) => refused(e),
-    }
-}
-
-fn of_using(answer: Using) -> Answer
-    ensures { Tells (using_number answer) (using_values answer) result }
-{
-    match answer {
-        Using::Used(rows, bytes) => given_two(rows as u64, bytes as u64),
-        Using::Refused(e) => refused(e),
-    }
-}
-
-fn of_slots(answer: Slots) -> Answer
-    ensures { Tells (slots_number answer) (slots_values answer) result }
-{
-    match answer {
-        Slots::Found(count) => given(count),
-        Slots::Refused(e) => refused(e),
-    }
-}
-
-fn of_duplicates(answer: Duplicates) -> Answer
-    ensures { Tells (duplicates_number answer) (duplicates_values answer) result }
-{
-    match answer {
-        Duplicates::Found(records, distinct) => given_two(records, distinct),
-        Duplicates::Refused(e) => refused(e),
-    }
-}
-
-fn of_words(answer: Words) -> Answer
-    ensures { Tells (words_number answer) (words_values answer) result }
-{
-    match answer {
-        Words::Needed(words) => given(words),
-        Words::Refused(e) => refused(e),
-    }
-}
-
-fn of_joining(answer: Joining) -> Answer
-    ensures { Tells (joining_number answer) (joining_values answer) result }
-{
-    match answer {
-        Joining::Joined(bytes, records) => given_two(bytes as u64, records),
-        Joining::Refused(e) => refused(e),
-    }
-}
-
-fn of_references(answer: References) -> Answer
-    ensures { Tells (references_number answer) (references_values answer) result }
-{
-    match answer {
-        References::Found(count) => given(count),
-        References::Refused(e) => refused(e),
-    }
-}
+use references::stored_object_references;
+use slots::embedded_reference_slots;
+use table::{element_size, extent, name_part, type_size};
+use told::{comparison, tell};
+use writer::write;
 
 // `read`. first: the length of the message.
 #[unsafe(no_mangle)]
@@ -192,16 +44,11 @@ pub extern "C" fn datatype_read(
     first: &mut u64,
     second: &mut u64,
 ) -> u32
-    ensures number { result ≡ outcome_number (reading limit (length table.old) (length pool.old) «data».now) }
-    ensures first { first.new ≡ get_or (outcome_values (λ x. x.consumed ∷ []) (reading limit (length table.old) (length pool.old) «data».now)) 0 0 }
-    ensures second { second.new ≡ get_or (outcome_values (λ x. x.consumed ∷ []) (reading limit (length table.old) (length pool.old) «data».now)) 1 0 }
+    ensures told { Tells (λ x. x.consumed ∷ []) (reading limit (length table.old) (length pool.old) «data».now) result first.new second.new }
     ensures table { table.new ≡ table_after (length table.old) (reading limit (length table.old) (length pool.old) «data».now) }
     ensures pool { pool.new ≡ pool_after (length pool.old) (reading limit (length table.old) (length pool.old) «data».now) }
 {
-    let answer = of_reading(read(data, limit, table, pool));
-    *first = answer.first;
-    *second = answer.second;
-    answer.number
+    tell(read(data, limit, table, pool), first, second)
 }
 
 // `write`. first: the length of the message.
@@ -214,15 +61,10 @@ pub extern "C" fn datatype_write(
     first: &mut u64,
     second: &mut u64,
 ) -> u32
-    ensures number { result ≡ outcome_number (writing table.now pool.now edition (length out.old)) }
-    ensures first { first.new ≡ get_or (outcome_values (λ s. length s ∷ []) (writing table.now pool.now edition (length out.old))) 0 0 }
-    ensures second { second.new ≡ get_or (outcome_values (λ s. length s ∷ []) (writing table.now pool.now edition (length out.old))) 1 0 }
+    ensures told { Tells (λ s. length s ∷ []) (writing table.now pool.now edition (length out.old)) result first.new second.new }
     ensures out { out.new ≡ output_after out.old (writing table.now pool.now edition (length out.old)) }
 {
-    let answer = of_writing(write(table, pool, edition, out));
-    *first = answer.first;
-    *second = answer.second;
-    answer.number
+    tell(write(table, pool, edition, out), first, second)
 }
 
 // `same`. first: 0 same, 1 differs.
@@ -235,14 +77,9 @@ pub extern "C" fn datatype_compare(
     first: &mut u64,
     second: &mut u64,
 ) -> u32
-    ensures number { result ≡ outcome_number (comparing table.now pool.now a.now b.now) }
-    ensures first { first.new ≡ get_or (outcome_values same_or_differs (comparing table.now pool.now a.now b.now)) 0 0 }
-    ensures second { second.new ≡ get_or (outcome_values same_or_differs (comparing table.now pool.now a.now b.now)) 1 0 }
+    ensures told { Tells same_or_differs (comparing table.now pool.now a.now b.now) result first.new second.new }
 {
-    let answer = of_comparison(same(table, pool, a, b));
-    *first = answer.first;
-    *second = answer.second;
-    answer.number
+    tell(comparison(same(table, pool, a, b)), first, second)
 }
 
 // `type_size`. first: the size.
@@ -253,14 +90,9 @@ pub extern "C" fn datatype_size(
     first: &mut u64,
     second: &mut u64,
 ) -> u32
-    ensures number { result ≡ outcome_number (sizing table.now pool.now) }
-    ensures first { first.new ≡ get_or (outcome_values (λ n. n ∷ []) (sizing table.now pool.now)) 0 0 }
-    ensures second { second.new ≡ get_or (outcome_values (λ n. n ∷ []) (sizing table.now pool.now)) 1 0 }
+    ensures told { Tells size_values (sizing table.now pool.now) result first.new second.new }
 {
-    let answer = of_sized(type_size(table, pool));
-    *first = answer.first;
-    *second = answer.second;
-    answer.number
+    tell(type_size(table, pool), first, second)
 }
 
 // `element_size`. first: the size.
@@ -271,14 +103,9 @@ pub extern "C" fn datatype_element_size(
     first: &mut u64,
     second: &mut u64,
 ) -> u32
-    ensures number { result ≡ outcome_number (element_sizing table.now pool.now) }
-    ensures first { first.new ≡ get_or (outcome_values (λ n. n ∷ []) (element_sizing table.now pool.now)) 0 0 }
-    ensures second { second.new ≡ get_or (outcome_values (λ n. n ∷ []) (element_sizing table.now pool.now)) 1 0 }
+    ensures told { Tells size_values (element_sizing table.now pool.now) result first.new second.new }
 {
-    let answer = of_sized(element_size(table, pool));
-    *first = answer.first;
-    *second = answer.second;
-    answer.number
+    tell(element_size(table, pool), first, second)
 }
 
 // `extent`. first: the rows, second: the pool bytes that the type uses.
@@ -289,14 +116,9 @@ pub extern "C" fn datatype_extent(
     first: &mut u64,
     second: &mut u64,
 ) -> u32
-    ensures number { result ≡ outcome_number (extending table.now pool.now) }
-    ensures first { first.new ≡ get_or (outcome_values extent_values (extending table.now pool.now)) 0 0 }
-    ensures second { second.new ≡ get_or (outcome_values extent_values (extending table.now pool.now)) 1 0 }
+    ensures told { Tells extent_values (extending table.now pool.now) result first.new second.new }
 {
-    let answer = of_using(extent(table, pool));
-    *first = answer.first;
-    *second = answer.second;
-    answer.number
+    tell(extent(table, pool), first, second)
 }
 
 // `embedded_reference_slots`. first: the count.
@@ -308,15 +130,10 @@ pub extern "C" fn datatype_slots(
     first: &mut u64,
     second: &mut u64,
 ) -> u32
-    ensures number { result ≡ outcome_number (finding_slots table.now pool.now (length out.old)) }
-    ensures first { first.new ≡ get_or (outcome_values (λ s. length s ∷ []) (finding_slots table.now pool.now (length out.old))) 0 0 }
-    ensures second { second.new ≡ get_or (outcome_values (λ s. length s ∷ []) (finding_slots table.now pool.now (length out.old))) 1 0 }
+    ensures told { Tells (λ s. length s ∷ []) (finding_slots table.now pool.now (length out.old)) result first.new second.new }
     ensures out { out.new ≡ output_after out.old (finding_slots table.now pool.now (length out.old)) }
 {
-    let answer = of_slots(embedded_reference_slots(table, pool, out));
-    *first = answer.first;
-    *second = answer.second;
-    answer.number
+    tell(embedded_reference_slots(table, pool, out), first, second)
 }
 
 // `duplicates`. first: the records, second: how many are distinct.
@@ -331,17 +148,16 @@ pub extern "C" fn datatype_duplicates(
     first: &mut u64,
     second: &mut u64,
 ) -> u32
-    ensures number { result ≡ outcome_number (duplicating table.now pool.now block.now (length numbers.old) (length sizes.old)) }
-    ensures first { first.new ≡ get_or (outcome_values groups_values (duplicating table.now pool.now block.now (length numbers.old) (length sizes.old))) 0 0 }
-    ensures second { second.new ≡ get_or (outcome_values groups_values (duplicating table.now pool.now block.now (length numbers.old) (length sizes.old))) 1 0 }
+    ensures told { Tells (λ g. groups_values (groups_told g)) (duplicating table.now pool.now block.now (length numbers.old) (length sizes.old)) result first.new second.new }
     ensures numbers { numbers.new ≡ output_after numbers.old (numbers_given (duplicating table.now pool.now block.now (length numbers.old) (length sizes.old))) }
     ensures sizes { sizes.new ≡ output_after sizes.old (sizes_given (duplicating table.now pool.now block.now (length numbers.old) (length sizes.old))) }
     ensures work { work.new ≡ zeros (length work.old) }
 {
-    let answer = of_duplicates(duplicates(table, pool, block, numbers, sizes, work));
-    *first = answer.first;
-    *second = answer.second;
-    answer.number
+    tell(
+        duplicates(table, pool, block, numbers, sizes, work),
+        first,
+        second,
+    )
 }
 
 // `duplicates_words`. first: the words.
@@ -353,14 +169,9 @@ pub extern "C" fn datatype_duplicates_words(
     first: &mut u64,
     second: &mut u64,
 ) -> u32
-    ensures number { result ≡ outcome_number (words_needed table.now pool.now records) }
-    ensures first { first.new ≡ get_or (outcome_values (λ n. n ∷ []) (words_needed table.now pool.now records)) 0 0 }
-    ensures second { second.new ≡ get_or (outcome_values (λ n. n ∷ []) (words_needed table.now pool.now records)) 1 0 }
+    ensures told { Tells (λ n. n ∷ []) (words_needed table.now pool.now records) result first.new second.new }
 {
-    let answer = of_words(duplicates_words(table, pool, records));
-    *first = answer.first;
-    *second = answer.second;
-    answer.number
+    tell(duplicates_words(table, pool, records), first, second)
 }
 
 // `join`. first: the bytes, second: the records of the joined block.
@@ -375,16 +186,11 @@ pub extern "C" fn datatype_join<'a>(
     first: &mut u64,
     second: &mut u64,
 ) -> u32
-    ensures number { result ≡ outcome_number (joining table.now pool.now a.now b.now (length out.old)) }
-    ensures first { first.new ≡ get_or (outcome_values joint_values (joining table.now pool.now a.now b.now (length out.old))) 0 0 }
-    ensures second { second.new ≡ get_or (outcome_values joint_values (joining table.now pool.now a.now b.now (length out.old))) 1 0 }
+    ensures told { Tells (λ j. joint_values (joint_told j)) (joining table.now pool.now a.now b.now (length out.old)) result first.new second.new }
     ensures out { out.new ≡ output_after out.old (bytes_given (joining table.now pool.now a.now b.now (length out.old))) }
     ensures work { work.new ≡ zeros (length work.old) }
 {
-    let answer = of_joining(join(table, pool, a, b, out, work));
-    *first = answer.first;
-    *second = answer.second;
-    answer.number
+    tell(join(table, pool, a, b, out, work), first, second)
 }
 
 // `stored_object_references`. first: the count.
@@ -398,16 +204,15 @@ pub extern "C" fn datatype_references(
     first: &mut u64,
     second: &mut u64,
 ) -> u32
-    ensures number { result ≡ outcome_number (referencing block.now record_size slots.now (min (length places.old) (length values.old))) }
-    ensures first { first.new ≡ get_or (outcome_values (λ x. length x.places ∷ []) (referencing block.now record_size slots.now (min (length places.old) (length values.old)))) 0 0 }
-    ensures second { second.new ≡ get_or (outcome_values (λ x. length x.places ∷ []) (referencing block.now record_size slots.now (min (length places.old) (length values.old)))) 1 0 }
+    ensures told { Tells (λ x. length x.places ∷ []) (referencing block.now record_size slots.now (min (length places.old) (length values.old))) result first.new second.new }
     ensures places { places.new ≡ places_after places.old (referencing block.now record_size slots.now (min (length places.old) (length values.old))) }
     ensures values { values.new ≡ values_after values.old (referencing block.now record_size slots.now (min (length places.old) (length values.old))) }
 {
-    let answer = of_references(stored_object_references(block, record_size, slots, places, values));
-    *first = answer.first;
-    *second = answer.second;
-    answer.number
+    tell(
+        stored_object_references(block, record_size, slots, places, values),
+        first,
+        second,
+    )
 }
 
 // `member_name`, as a part of the pool. first: its place, second: its length; 0 and 0 where there is none.
@@ -437,14 +242,13 @@ pub extern "C" fn datatype_holds_object_address(
     first: &mut u64,
     second: &mut u64,
 ) -> u32
-    ensures number { result ≡ outcome_number (object_address_held table.now pool.now) }
-    ensures first { first.new ≡ get_or (outcome_values (λ b. yes_or_no b ∷ []) (object_address_held table.now pool.now)) 0 0 }
-    ensures second { second.new ≡ get_or (outcome_values (λ b. yes_or_no b ∷ []) (object_address_held table.now pool.now)) 1 0 }
+    ensures told { Tells held_values (object_address_held table.now pool.now) result first.new second.new }
 {
-    let answer = of_held(table::datatype_holds_object_address(table, pool));
-    *first = answer.first;
-    *second = answer.second;
-    answer.number
+    tell(
+        table::datatype_holds_object_address(table, pool),
+        first,
+        second,
+    )
 }
 
 // `datatype_holds_file_address`. first: 0 no, 1 yes.
@@ -455,14 +259,13 @@ pub extern "C" fn datatype_holds_file_address(
     first: &mut u64,
     second: &mut u64,
 ) -> u32
-    ensures number { result ≡ outcome_number (file_address_held table.now pool.now) }
-    ensures first { first.new ≡ get_or (outcome_values (λ b. yes_or_no b ∷ []) (file_address_held table.now pool.now)) 0 0 }
-    ensures second { second.new ≡ get_or (outcome_values (λ b. yes_or_no b ∷ []) (file_address_held table.now pool.now)) 1 0 }
+    ensures told { Tells held_values (file_address_held table.now pool.now) result first.new second.new }
 {
-    let answer = of_held(table::datatype_holds_file_address(table, pool));
-    *first = answer.first;
-    *second = answer.second;
-    answer.number
+    tell(
+        table::datatype_holds_file_address(table, pool),
+        first,
+        second,
+    )
 }
 
 // `class_may_hold_object_address`: 0 no, 1 yes.

@@ -10,8 +10,8 @@ ghost use Rattle.compare.specs.Agreeing.{Compares};
 ghost use Rattle.references.specs.References.{ReferencesAre};
 ghost use Rattle.blocks.specs.Blocks.{record_of_lem, record_place};
 
-use compare::Comparison;
-use references::{References, at_least_one};
+use references::at_least_one;
+use refusal::Refusal;
 
 // A block of records, and the size of one, where 0 counts as 1.
 #[derive(Clone, Copy)]
@@ -73,7 +73,7 @@ pub fn block_references<'a>(
     slots: &[u64],
     places: &mut [u64],
     values: &mut [u64],
-) -> References
+) -> Result<u64, Refusal>
     ensures { ReferencesAre block.entry.bytes.now block.entry.record_size slots.now result places.old places.new values.old values.new }
 {
     references::stored_object_references(block.bytes, block.record_size, slots, places, values)
@@ -87,7 +87,7 @@ pub fn compare_records(
     record_size: u64,
     first: u64,
     second: u64,
-) -> Comparison
+) -> Result<bool, Refusal>
     ensures { Compares (comparing table.now pool.now (record_of_lem bytes.now record_size first) (record_of_lem bytes.now record_size second)) result }
 {
     let block = view(bytes, record_size);

@@ -1,5 +1,5 @@
 // The messages of the cases. U1, U2, R and P are document 01's.
-ghost use Rattle.std.specs.Prelude.{◌≡◌, ◌≤◌, length};
+ghost use Rattle.std.specs.Prelude.{◌≡◌, ◌+◌, ◌*◌, length};
 
 use show::reading;
 
@@ -61,34 +61,24 @@ pub fn document_cases() {
 // So many sequences, at most 40, round a message of at most 64 bytes.
 fn sequences(label: &[u8], count: usize, inner: &[u8]) {
     let mut message = [0u8; 384];
-    if count > 40 {
+    if count > 40 || inner.len() > 64 {
         return;
     }
-    if inner.len() > 64 {
-        return;
-    }
-    let end = fill(&mut message, count, inner);
+    let end = 8 * count + inner.len();
+    fill(&mut message[..end], 8 * count, inner);
     plain(label, &message[..end]);
 }
 
-// The bytes that they take.
-fn fill(message: &mut [u8], count: usize, inner: &[u8]) -> usize
-    requires { (length message.old ≡ 384) × (count ≤ 40) × (length inner.now ≤ 64) }
-    ensures { result ≤ 384 }
+// Puts the sequences' headers before a place, and the message behind it.
+fn fill(message: &mut [u8], start: usize, inner: &[u8])
+    requires { start + length inner.now ≡ length message.old }
 {
-    let mut i = 0;
-    while i < count {
-        message[8 * i] = 0x19;
-        message[8 * i + 4] = 16;
-        i += 1;
+    let (headers, rest) = message.split_at_mut(start);
+    for header in headers.chunks_exact_mut(8) {
+        header[0] = 0x19;
+        header[4] = 16;
     }
-    let start = 8 * count;
-    let mut j = 0;
-    while j < inner.len() {
-        message[start + j] = inner[j];
-        j += 1;
-    }
-    start + inner.len()
+    rest.copy_from_slice(inner);
 }
 
 // Too few rows, and too many levels.

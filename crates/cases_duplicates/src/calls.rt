@@ -1,21 +1,15 @@
 // The groups of a block of records of a type that is read first into 64 rows and 256 pool bytes. What is lent for numbers and sizes and as workspace
 // is all 7 before the call and shown whole after it.
-use duplicates::outcome::{Duplicates, Words};
-use duplicates::{duplicates, duplicates_words};
+use duplicates::{Groups, duplicates, duplicates_words};
 use record_types::read_labelled;
-use show::{number, refusal_line, text};
+use refusal::Refusal;
+use show::{out, refusal_line, text};
 use show_lent::list_line;
 
-fn groups_line(answer: Duplicates) {
+fn groups_line(answer: Result<Groups, Refusal>) {
     match answer {
-        Duplicates::Refused(e) => refusal_line(e),
-        Duplicates::Found(records, groups) => {
-            text(b"records ");
-            number(records);
-            text(b" distinct ");
-            number(groups);
-            text(b"\n");
-        }
+        Err(e) => refusal_line(e),
+        Ok(groups) => out!("records {} distinct {}\n", groups.records, groups.distinct),
     }
 }
 
@@ -39,13 +33,7 @@ fn group_in(table: &[u32], pool: &[u8], block: &[u8], places: usize, groups: usi
     let mut numbers = [7u64; 8];
     let mut sizes = [7u64; 8];
     let mut work = [7u64; 32];
-    if places > 8 {
-        return;
-    }
-    if groups > 8 {
-        return;
-    }
-    if words > 32 {
+    if places > 8 || groups > 8 || words > 32 {
         return;
     }
     group_and_show(
@@ -74,13 +62,10 @@ pub fn grouping(
     }
 }
 
-fn words_line(answer: Words) {
+fn words_line(answer: Result<u64, Refusal>) {
     match answer {
-        Words::Refused(e) => refusal_line(e),
-        Words::Needed(n) => {
-            number(n);
-            text(b" words\n");
-        }
+        Err(e) => refusal_line(e),
+        Ok(n) => out!("{n} words\n"),
     }
 }
 

@@ -1,20 +1,19 @@
 // Listings of types. U1, U2 and P are document 01's.
-use listing::{Listing, list_fields};
-use reading::Reading;
-use show::{number, refusal_line, shown_text, text};
-use show_lent::bytes_line;
+use listing::list_fields;
+use refusal::Refusal;
+use show::{out, refusal_line, shown_text, text};
+use show_lent::lent_line;
 
-fn listing_lines(answer: Listing, out: &[u8]) {
+fn listing_lines(answer: Result<usize, Refusal>, out: &[u8]) {
     match answer {
-        Listing::Refused(e) => {
+        Err(e) => {
             refusal_line(e);
-            bytes_line(out, 0);
+            lent_line(out, 0);
         }
-        Listing::Listed(n) => {
-            number(n as u64);
-            text(b" bytes\n");
+        Ok(n) => {
+            out!("{n} bytes\n");
             shown_text(out, n);
-            bytes_line(out, n);
+            lent_line(out, n);
         }
     }
 }
@@ -34,10 +33,9 @@ fn listed(label: &[u8], message: &[u8], room: usize) {
     if room > 1024 {
         return;
     }
-    let got = reader::read(message, 15, &mut table, &mut pool);
-    match got {
-        Reading::Refused(e) => refusal_line(e),
-        Reading::Read(_) => list_and_show(&table, &pool, &mut out[..room]),
+    match reader::read(message, 15, &mut table, &mut pool) {
+        Err(e) => refusal_line(e),
+        Ok(_) => list_and_show(&table, &pool, &mut out[..room]),
     }
 }
 
@@ -70,22 +68,16 @@ pub fn type_cases() {
     );
 }
 
-fn deep(message: &[u8; 256]) {
-    listed(b"31 sequences round R", message, 1024);
-}
-
 // 31 sequences round R: 32 levels.
 pub fn depth_case() {
     let mut message = [0u8; 256];
-    let mut i = 0;
-    while i < 31 {
-        message[i * 8] = 0x19;
-        message[i * 8 + 4] = 16;
-        i += 1;
+    for header in message.chunks_exact_mut(8) {
+        header[0] = 0x19;
+        header[4] = 16;
     }
     message[248] = 0x17;
     message[252] = 8;
-    deep(&message);
+    listed(b"31 sequences round R", &message, 1024);
 }
 
 // Enough room, a byte less, and a table that sets out no type.

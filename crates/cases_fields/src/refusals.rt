@@ -1,16 +1,16 @@
 // The line of each refusal.
-use listing::{Listing, list_refusal};
+use listing::list_refusal;
 use refusal::Refusal;
 use show::{refusal_line, shown_text, text};
-use show_lent::bytes_line;
+use show_lent::lent_line;
 
-fn shown(answer: Listing, out: &[u8]) {
+fn shown(answer: Result<usize, Refusal>, out: &[u8]) {
     match answer {
-        Listing::Refused(e) => {
+        Err(e) => {
             refusal_line(e);
-            bytes_line(out, 0);
+            lent_line(out, 0);
         }
-        Listing::Listed(n) => shown_text(out, n),
+        Ok(n) => shown_text(out, n),
     }
 }
 

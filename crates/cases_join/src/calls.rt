@@ -1,27 +1,21 @@
 // Two blocks of records made one, of a type that is read first into 64 rows and 256 pool bytes. What is lent for the result and as workspace is all
 // 7 before the call and shown whole after it.
-use join::join;
-use join::outcome::Joining;
+use join::{Joint, join};
 use record_types::read_labelled;
-use show::{number, refusal_line, shown_bytes, text};
+use refusal::Refusal;
+use show::{out, refusal_line, shown_bytes, text};
 use show_lent::list_line;
 
-fn joined_line(answer: Joining) {
+fn joined_line(answer: Result<Joint, Refusal>) {
     match answer {
-        Joining::Refused(e) => refusal_line(e),
-        Joining::Joined(bytes, records) => {
-            text(b"bytes ");
-            number(bytes as u64);
-            text(b" records ");
-            number(records);
-            text(b"\n");
-        }
+        Err(e) => refusal_line(e),
+        Ok(joint) => out!("bytes {} records {}\n", joint.bytes, joint.records),
     }
 }
 
 fn out_line(out: &[u8]) {
     text(b"  out");
-    if out.len() > 0 {
+    if !out.is_empty() {
         text(b" ");
         shown_bytes(out, out.len());
     }
@@ -46,10 +40,7 @@ fn join_and_show<'a>(
 fn join_in<'a>(table: &[u32], pool: &[u8], a: &'a [u8], b: &'a [u8], room: usize, words: usize) {
     let mut out = [7u8; 32];
     let mut work = [7u64; 32];
-    if room > 32 {
-        return;
-    }
-    if words > 32 {
+    if room > 32 || words > 32 {
         return;
     }
     join_and_show(table, pool, a, b, &mut out[..room], &mut work[..words]);

@@ -1,42 +1,28 @@
 // The sizes, extents, predicates, names, slots and references of a type that is read first, at limit 15, into 64 rows and 256 pool bytes; and what
 // each gives.
-use reading::Reading;
-use references::References;
-use show::{number, refusal_line, text};
-use show_lent::numbers_line;
-use slots::Slots;
-use table::{Held, Sized, Using};
+use refusal::Refusal;
+use show::{out, refusal_line, text};
+use show_lent::lent_line;
+use table::Used;
 
-fn shown(numbers: &[u64], i: usize, count: u64) {
-    if (i as u64) < count {
-        if i < numbers.len() {
-            text(b" ");
-            number(numbers[i]);
-        }
+// The first numbers, so many.
+fn list(numbers: &[u64], count: u64) {
+    for x in numbers.iter().take(count as usize) {
+        out!(" {x}");
     }
 }
 
-// The first numbers, at most 4.
-fn list(numbers: &[u64], count: u64) {
-    shown(numbers, 0, count);
-    shown(numbers, 1, count);
-    shown(numbers, 2, count);
-    shown(numbers, 3, count);
-}
-
-fn slots_line(answer: Slots, out: &[u64]) {
+fn slots_line(answer: Result<u64, Refusal>, out: &[u64]) {
     match answer {
-        Slots::Refused(e) => {
+        Err(e) => {
             refusal_line(e);
-            numbers_line(out, 0);
+            lent_line(out, 0);
         }
-        Slots::Found(n) => {
-            text(b"slots ");
-            number(n);
-            text(b":");
+        Ok(n) => {
+            out!("slots {n}:");
             list(out, n);
             text(b"\n");
-            numbers_line(out, n as usize);
+            lent_line(out, n as usize);
         }
     }
 }
@@ -48,33 +34,30 @@ pub fn slots(label: &[u8], message: &[u8]) {
     let mut out = [7u64; 4];
     text(label);
     text(b": ");
-    let got = reader::read(message, 15, &mut table, &mut pool);
-    match got {
-        Reading::Refused(e) => refusal_line(e),
-        Reading::Read(_) => {
+    match reader::read(message, 15, &mut table, &mut pool) {
+        Err(e) => refusal_line(e),
+        Ok(_) => {
             let answer = slots::embedded_reference_slots(&table, &pool, &mut out);
             slots_line(answer, &out);
         }
     }
 }
 
-fn references_line(answer: References, places: &[u64], values: &[u64]) {
+fn references_line(answer: Result<u64, Refusal>, places: &[u64], values: &[u64]) {
     match answer {
-        References::Refused(e) => {
+        Err(e) => {
             refusal_line(e);
-            numbers_line(places, 0);
-            numbers_line(values, 0);
+            lent_line(places, 0);
+            lent_line(values, 0);
         }
-        References::Found(n) => {
-            text(b"references ");
-            number(n);
-            text(b" at");
+        Ok(n) => {
+            out!("references {n} at");
             list(places, n);
-            text(b" are");
+            out!(" are");
             list(values, n);
             text(b"\n");
-            numbers_line(places, n as usize);
-            numbers_line(values, n as usize);
+            lent_line(places, n as usize);
+            lent_line(values, n as usize);
         }
     }
 }
@@ -95,34 +78,25 @@ pub fn references(label: &[u8], block: &[u8], record_size: u64, slots: &[u64]) {
     references_line(answer, &places, &values);
 }
 
-fn size_line(answer: Sized) {
+fn size_line(answer: Result<u32, Refusal>) {
     match answer {
-        Sized::Refused(e) => refusal_line(e),
-        Sized::Size(n) => {
-            text(b"size ");
-            number(n as u64);
-            text(b"\n");
-        }
+        Err(e) => refusal_line(e),
+        Ok(n) => out!("size {n}\n"),
     }
 }
 
-fn held_line(answer: Held) {
+fn held_line(answer: Result<bool, Refusal>) {
     match answer {
-        Held::Refused(e) => refusal_line(e),
-        Held::Yes => text(b"yes\n"),
-        Held::No => text(b"no\n"),
+        Err(e) => refusal_line(e),
+        Ok(true) => text(b"yes\n"),
+        Ok(false) => text(b"no\n"),
     }
 }
 
-fn extent_line(answer: Using) {
+fn extent_line(answer: Result<Used, Refusal>) {
     match answer {
-        Using::Refused(e) => refusal_line(e),
-        Using::Used(rows, bytes) => {
-            number(rows as u64);
-            text(b" rows, ");
-            number(bytes as u64);
-            text(b" pool bytes\n");
-        }
+        Err(e) => refusal_line(e),
+        Ok(used) => out!("{} rows, {} pool bytes\n", used.rows, used.bytes),
     }
 }
 
@@ -144,28 +118,23 @@ pub fn sizes(label: &[u8], message: &[u8]) {
     let mut pool = [7u8; 256];
     text(label);
     text(b": ");
-    let got = reader::read(message, 15, &mut table, &mut pool);
-    match got {
-        Reading::Refused(e) => refusal_line(e),
-        Reading::Read(_) => size_lines(&table, &pool),
+    match reader::read(message, 15, &mut table, &mut pool) {
+        Err(e) => refusal_line(e),
+        Ok(_) => size_lines(&table, &pool),
     }
 }
 
 fn name_line(table: &[u32], pool: &[u8], row: usize) {
-    text(b"  row ");
-    number(row as u64);
-    text(b": '");
+    out!("  row {row}: '");
     text(table::member_name(table, pool, row));
-    text(b"'\n");
+    out!("'\n");
 }
 
 fn name_lines(table: &[u32], pool: &[u8]) {
-    text(b"\n");
-    name_line(table, pool, 0);
-    name_line(table, pool, 1);
-    name_line(table, pool, 2);
-    name_line(table, pool, 3);
-    name_line(table, pool, 4);
+    out!("\n");
+    for row in 0..5 {
+        name_line(table, pool, row);
+    }
 }
 
 // The names of the first five rows of the type of a message.
@@ -174,10 +143,9 @@ pub fn names(label: &[u8], message: &[u8]) {
     let mut pool = [7u8; 256];
     text(label);
     text(b":");
-    let got = reader::read(message, 15, &mut table, &mut pool);
-    match got {
-        Reading::Refused(e) => refusal_line(e),
-        Reading::Read(_) => name_lines(&table, &pool),
+    match reader::read(message, 15, &mut table, &mut pool) {
+        Err(e) => refusal_line(e),
+        Ok(_) => name_lines(&table, &pool),
     }
 }
 

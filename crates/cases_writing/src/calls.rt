@@ -1,24 +1,19 @@
 // The calls on a type that is read first, at limit 15, into 64 rows and 256 pool bytes; and what each gives.
-use reading::Reading;
 use refusal::Refusal;
-use round_trip::RoundTrip;
-use show::{number, refusal_line, shown_bytes, text};
-use show_lent::{bytes_line, words_line};
-use writer::Writing;
+use show::{out, refusal_line, shown_bytes, text};
+use show_lent::lent_line;
 
-fn written_line(answer: Writing, out: &[u8]) {
+fn written_line(answer: Result<usize, Refusal>, out: &[u8]) {
     match answer {
-        Writing::Refused(e) => {
+        Err(e) => {
             refusal_line(e);
-            bytes_line(out, 0);
+            lent_line(out, 0);
         }
-        Writing::Written(n) => {
-            text(b"written ");
-            number(n as u64);
-            text(b" ");
+        Ok(n) => {
+            out!("written {n} ");
             shown_bytes(out, n);
-            text(b"\n");
-            bytes_line(out, n);
+            out!("\n");
+            lent_line(out, n);
         }
     }
 }
@@ -35,22 +30,16 @@ pub fn writing(label: &[u8], message: &[u8], edition: u32) {
     let mut out = [7u8; 160];
     text(label);
     text(b": ");
-    let got = reader::read(message, 15, &mut table, &mut pool);
-    match got {
-        Reading::Refused(e) => refusal_line(e),
-        Reading::Read(_) => write_and_show(&table, &pool, edition, &mut out),
+    match reader::read(message, 15, &mut table, &mut pool) {
+        Err(e) => refusal_line(e),
+        Ok(_) => write_and_show(&table, &pool, edition, &mut out),
     }
 }
 
-fn set_word(table: &mut [u32], word: usize, value: u32) {
-    if word < table.len() {
-        table[word] = value;
-    }
-}
-
-fn set_byte(pool: &mut [u8], place: usize, byte: u8) {
-    if place < pool.len() {
-        pool[place] = byte;
+// Changes an element, if there is one at that place.
+fn set<T: Copy>(list: &mut [T], place: usize, value: T) {
+    if place < list.len() {
+        list[place] = value;
     }
 }
 
@@ -68,12 +57,11 @@ pub fn writing_changed(
     let mut out = [7u8; 160];
     text(label);
     text(b": ");
-    let got = reader::read(message, 15, &mut table, &mut pool);
-    match got {
-        Reading::Refused(e) => refusal_line(e),
-        Reading::Read(_) => {
-            set_word(&mut table, word, value);
-            set_byte(&mut pool, place, byte);
+    match reader::read(message, 15, &mut table, &mut pool) {
+        Err(e) => refusal_line(e),
+        Ok(_) => {
+            set(&mut table, word, value);
+            set(&mut pool, place, byte);
             write_and_show(&table, &pool, 3, &mut out);
         }
     }
@@ -108,24 +96,19 @@ pub fn writing_array(label: &[u8], rank: u32, pool: &[u8]) {
 // TooNew comes of reading back; every other refusal leaves all that is lent as it was.
 fn not_back_lines(e: Refusal, buffer: &[u8], table: &[u32], pool: &[u8]) {
     refusal_line(e);
-    match e {
-        Refusal::TooNew(_) => {}
-        _ => {
-            bytes_line(buffer, 0);
-            words_line(table, 0);
-            bytes_line(pool, 0);
-        }
+    if !matches!(e, Refusal::TooNew(_)) {
+        lent_line(buffer, 0);
+        lent_line(table, 0);
+        lent_line(pool, 0);
     }
 }
 
-fn round_trip_lines(answer: RoundTrip, buffer: &[u8], table: &[u32], pool: &[u8]) {
+fn round_trip_lines(answer: Result<usize, Refusal>, buffer: &[u8], table: &[u32], pool: &[u8]) {
     match answer {
-        RoundTrip::Refused(e) => not_back_lines(e, buffer, table, pool),
-        RoundTrip::Length(n) => {
-            text(b"back ");
-            number(n as u64);
-            text(b"\n");
-            bytes_line(buffer, n);
+        Err(e) => not_back_lines(e, buffer, table, pool),
+        Ok(n) => {
+            out!("back {n}\n");
+            lent_line(buffer, n);
         }
     }
 }
@@ -139,10 +122,9 @@ pub fn written_and_read(label: &[u8], message: &[u8], edition: u32, limit: u32) 
     let mut buffer = [7u8; 160];
     text(label);
     text(b": ");
-    let got = reader::read(message, 15, &mut table, &mut pool);
-    match got {
-        Reading::Refused(e) => refusal_line(e),
-        Reading::Read(_) => {
+    match reader::read(message, 15, &mut table, &mut pool) {
+        Err(e) => refusal_line(e),
+        Ok(_) => {
             let answer = round_trip::write_and_read(
                 &table,
                 &pool,

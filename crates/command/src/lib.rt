@@ -17,40 +17,29 @@ use std::rt::{Env, Files};
 pub fn is_hdf5_file(data: &[u8]) -> bool
     ensures { result ≡ starts_as signature «data».now }
 {
-    if data.len() < 8 {
-        return false;
-    }
-    check::same(&data[..8], b"\x89HDF\r\n\x1A\n")
+    data.starts_with(b"\x89HDF\r\n\x1A\n")
 }
 
 // Whether an argument is `--help`.
 fn is_help(word: &[u8]) -> bool
     ensures { result ≡ same_words word.now help_word }
 {
-    check::same(word, b"--help")
+    word == b"--help".as_slice()
 }
 
 // Whether there is an argument of this number, from 1.
 pub fn has_argument(rt: &impl Env, number: usize) -> bool {
-    match rt.arg(number, &mut []) {
-        Err(FillError::NotPresent) => false,
-        _ => true,
-    }
+    !matches!(rt.arg(number, &mut []), Err(FillError::NotPresent))
 }
 
 // Where the first argument is `--help`, writes the usage to standard output and answers true.
 pub fn helped(rt: &impl Env, usage: &[u8]) -> bool {
     let mut word = io::buffer();
-    match rt.arg(1, &mut word) {
-        Ok(n) => {
-            if is_help(&word[..n]) {
-                io::write_all(1, usage);
-                return true;
-            }
-            false
-        }
-        Err(_) => false,
+    let asked = matches!(rt.arg(1, &mut word), Ok(n) if is_help(&word[..n]));
+    if asked {
+        io::write_all(1, usage);
     }
+    asked
 }
 
 // Opens the file of a name for reading. One that is no UTF-8 is refused.
@@ -72,6 +61,7 @@ pub fn fill<R: Read>(reader: &mut R, buffer: &mut [u8]) -> (usize, Result<()>)
     ensures whole { OnOk result.1 (result.0 < length buffer.new → IsAtEnd (R.remaining reader.new)) }
 {
     let mut done = 0;
+    // No `for`: a read gives as many bytes as it likes.
     while done < buffer.len() {
         match reader.read(&mut buffer[done..]) {
             Ok(0) => return (done, Ok(())),

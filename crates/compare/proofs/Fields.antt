@@ -1,4 +1,5 @@
 -- Types that are one field: a leaf's row, an enumeration's.
+use Rattle.std.specs.Prelude.{Option, Some}
 use Prim.Native.Nat.{ℕ, zero, suc, ◌+◌}
 use mathlib.Core.Path.{◌≡◌, refl, sym, ap, ◌∙◌}
 use mathlib.Core.Bool.{Bool, true, false, false≢true}
@@ -9,13 +10,12 @@ use borrow.Author.Tests.{ne_eqb}
 use Rattle.format.specs.Datatype.{Datatype, enumeration, EnumMember, type_size_of}
 use Rattle.format.specs.Image.{ends, field_of, move_field, move_fields, fields_of}
 use Rattle.format.specs.Table.{Found, found, bad, Walk, and_then, type_at, enum_names_at, enum_values_at}
-use Rattle.rows.specs.Entries.{entry_at, leaf_type, from_entry, EntryIfKnown}
+use Rattle.rows.specs.Entries.{entry_at, leaf_type, from_entry, IfKnown}
 use Rattle.rows.specs.declared.Entry.{Entry}
-use Rattle.rows.specs.declared.Entry.TheVariants.{Leaf, Compound, Enumeration, VariableLength, Array, Unknown}
+use Rattle.rows.specs.declared.Entry.TheVariants.{Leaf, Compound, Enumeration, VariableLength, Array}
 use Rattle.rows.proofs.Known.{claim_of-type}
 use Rattle.rows.proofs.Leaves.{leaf_law}
-use Rattle.compare.specs.Agreeing.{nul_terminated_of, field_at, is_field_of, is_string_of, Agrees, AgreesField}
-use Rattle.compare.specs.declared.Agreed.{Agreed}
+use Rattle.compare.specs.Agreeing.{Agreed, nul_terminated_of, field_at, is_field_of, is_string_of, Agrees, AgreesField}
 
 -- ---- the rows that are a field's
 
@@ -28,47 +28,28 @@ module _ {e : Entry} where
   unfolding is_field_of
   enumeration-is h = ap is_field_of (sym h)
 
-  pub compound-is-not : {n k : ℕ} → e ≡ Compound n k → false ≡ is_field_of e
-  unfolding is_field_of
-  compound-is-not h = ap is_field_of (sym h)
-
-  pub variable_length-is-not : {i a c : ℕ} → e ≡ VariableLength i a c → false ≡ is_field_of e
-  unfolding is_field_of
-  variable_length-is-not h = ap is_field_of (sym h)
-
-  pub array-is-not : {k : ℕ} → e ≡ Array k → false ≡ is_field_of e
-  unfolding is_field_of
-  array-is-not h = ap is_field_of (sym h)
-
-  pub unknown_is-not : e ≡ Unknown → false ≡ is_field_of e
-  unfolding is_field_of
-  unknown_is-not h = ap is_field_of (sym h)
-
   pub leaf-string : {c n l y : ℕ} {x : Bool} → e ≡ Leaf c n l y → x ≡ nul_terminated_of c y → x ≡ is_string_of e
   unfolding is_string_of
   leaf-string h v = v ∙ ap is_string_of (sym h)
 
-  pub enumeration_no_string : {n k : ℕ} → e ≡ Enumeration n k → false ≡ is_string_of e
-  unfolding is_string_of
-  enumeration_no_string h = ap is_string_of (sym h)
+-- any other row's type is neither
+pub no_field : (e : Entry) → ((c n l y : ℕ) → e ≡ Leaf c n l y → ⊥) → ((n k : ℕ) → e ≡ Enumeration n k → ⊥) → false ≡ is_field_of e
+unfolding is_field_of
+no_field (Leaf c n l y) h g = absurd (h c n l y refl)
+no_field (Enumeration n k) h g = absurd (g n k refl)
+no_field (Compound n k) h g = refl
+no_field (VariableLength i a c) h g = refl
+no_field (Array k) h g = refl
 
-  pub compound_no_string : {n k : ℕ} → e ≡ Compound n k → false ≡ is_string_of e
-  unfolding is_string_of
-  compound_no_string h = ap is_string_of (sym h)
+pub no_string : (e : Entry) → ((c n l y : ℕ) → e ≡ Leaf c n l y → ⊥) → false ≡ is_string_of e
+unfolding is_string_of
+no_string (Leaf c n l y) h = absurd (h c n l y refl)
+no_string (Enumeration n k) h = refl
+no_string (Compound n k) h = refl
+no_string (VariableLength i a c) h = refl
+no_string (Array k) h = refl
 
-  pub variable_length_no_string : {i a c : ℕ} → e ≡ VariableLength i a c → false ≡ is_string_of e
-  unfolding is_string_of
-  variable_length_no_string h = ap is_string_of (sym h)
-
-  pub array_no_string : {k : ℕ} → e ≡ Array k → false ≡ is_string_of e
-  unfolding is_string_of
-  array_no_string h = ap is_string_of (sym h)
-
-  pub unknown_no_string : e ≡ Unknown → false ≡ is_string_of e
-  unfolding is_string_of
-  unknown_no_string h = ap is_string_of (sym h)
-
-pub other_class : (c x : ℕ) → (c ≡ 3 → ⊥) → false ≡ nul_terminated_of c x
+pub other_class : (c x : ℕ) → (c ≡ 3 → ⊥) → eqb c 3 ≡ nul_terminated_of c x
 unfolding nul_terminated_of
 other_class c x n = rw (ne_eqb c 3 n)
 
@@ -94,9 +75,9 @@ field-agrees t r p n e a b at next x w q h d l = rw (← q, w.fields, field-move
 
 module _ (table pool : List ℕ) (r p : ℕ) where
   -- what a leaf's row says of its type
-  pub leaf-field : {k n l x : ℕ} {e : Entry} → e ≡ entry_at table pool r p → e ≡ Leaf k n l x → IsField (leaf_type table pool r p k) n (nul_terminated_of k x)
+  pub leaf-field : {k n l x : ℕ} {o : Option Entry} {e : Entry} → o ≡ entry_at table pool r p → o ≡ Some e → e ≡ Leaf k n l x → IsField (leaf_type table pool r p k) n (nul_terminated_of k x)
   unfolding type_size_of fields_of field_of ends nul_terminated_of
-  leaf-field q e = let h = leaf_law table pool r p q e in rw h.is (record { size = refl; fields = rw h.ends_by })
+  leaf-field q i e = let h = leaf_law table pool r p q i e in rw h.is (record { size = refl; fields = rw h.ends_by })
 
 -- a type, where one is found, that is one field
 unfoldable pub OneField : (e : Bool) → Found Datatype → Type 0
@@ -123,9 +104,9 @@ module _ (n : ℕ) (t : Datatype) where
   names-field pool bad = tt
 
 module _ (rd : Walk Datatype) (table pool : List ℕ) (r p : ℕ) where
-  entry-field : (e : Entry) → e ≡ entry_at table pool r p → is_field_of e ≡ true → OneField (is_string_of e) (from_entry rd table pool r p e)
+  entry-field : (e : Entry) → Some e ≡ entry_at table pool r p → is_field_of e ≡ true → OneField (is_string_of e) (from_entry rd table pool r p (Some e))
   unfolding from_entry is_field_of is_string_of OneField
-  entry-field (Leaf c n l x) q h = one_field (leaf_type table pool r p c) n (nul_terminated_of c x) (leaf-field table pool r p q refl)
+  entry-field (Leaf c n l x) q h = one_field (leaf_type table pool r p c) n (nul_terminated_of c x) (leaf-field table pool r p q refl refl)
   entry-field (Enumeration n k) q h = go (rd (suc r) p)
     where
       go : (x : Found Datatype)
@@ -135,9 +116,8 @@ module _ (rd : Walk Datatype) (table pool : List ℕ) (r p : ℕ) where
   entry-field (Compound n k) q h = absurd (false≢true h)
   entry-field (VariableLength i a c) q h = absurd (false≢true h)
   entry-field (Array k) q h = absurd (false≢true h)
-  entry-field Unknown q h = absurd (false≢true h)
 
-pub type-field : (levels : ℕ) (table pool : List ℕ) (r p : ℕ) (e : Entry) → EntryIfKnown (entry_at table pool r p) e → is_field_of e ≡ true → OneField (is_string_of e) (type_at levels table pool r p)
+pub type-field : (levels : ℕ) (table pool : List ℕ) (r p : ℕ) (e : Entry) → IfKnown (entry_at table pool r p) (Some e) → is_field_of e ≡ true → OneField (is_string_of e) (type_at levels table pool r p)
 unfolding OneField type_at
 type-field zero table pool r p e i h = tt
-type-field (suc k) table pool r p e i h = claim_of-type table pool r p (OneField (is_string_of e)) tt k e i (λ is. entry-field (type_at k table pool) table pool r p e is h)
+type-field (suc k) table pool r p e i h = claim_of-type table pool r p (OneField (is_string_of e)) tt k (Some e) i (λ is. entry-field (type_at k table pool) table pool r p e is h)

@@ -1,7 +1,7 @@
 -- The walk over a compound's members, and over an array's entries: one law for each way out of them.
+use Rattle.std.specs.Prelude.{Option, Some, None, Ok, Err}
 use Prim.Native.Nat.{ℕ, suc, ◌+◌, ◌-◌, ◌*◌, ◌<◌, ◌≤◌}
 use mathlib.Core.Path.{◌≡◌, refl}
-use mathlib.Core.Logic.{◌⊎◌, inl, inr, ⊎_elim}
 use mathlib.Core.Bool.{◌||◌}
 use mathlib.Core.List.{List}
 use native.Mathlib.Omega.{arith}
@@ -20,12 +20,11 @@ use Rattle.format.proofs.Walking.{agree-none, agree_both, differ_first, differ_s
 use Rattle.format.proofs.Slots.{or_else_none}
 use Rattle.rows.specs.Entries.{member_at_of, from_member, RowNames}
 use Rattle.rows.specs.declared.Member.{Member}
-use Rattle.rows.specs.declared.Member.TheVariants.{Named, Unnamed}
 use Rattle.rows.proofs.Decode.{members_at-entry}
 use Rattle.rows.proofs.Known.{claim_of-members}
-use Rattle.compare.specs.Agreeing.{Admitted, AdmittedIn, Answers, Agrees, AgreesIn, AgreesEach, AgreesAt, AgreesMembers, AgreesEntries}
-use Rattle.compare.specs.declared.Agreed.{Agreed}
-use Rattle.compare.specs.declared.Agreed.TheVariants.{Apart, Together, Lost}
+use Rattle.compare.specs.Agreeing.{Agreed, Admitted, AdmittedIn, AnswersFields, Agrees, AgreesIn, AgreesEach, AgreesAt, AgreesMembers, AgreesEntries}
+use Rattle.compare.specs.declared.Disagreement.{Disagreement}
+use Rattle.compare.specs.declared.Disagreement.TheVariants.{Apart, Lost}
 use Rattle.compare.proofs.Ranges.{answers-together, answers-apart}
 
 -- ---- one member more
@@ -50,8 +49,8 @@ first_of_lem size name offset t ms d =
     }
 
 module _ (name : List ℕ) (o : ℕ) (t : Datatype) (ms : Members) (a b : List ℕ) (at : ℕ) where
-  join : {next : ℕ} {x : Agreed} → FieldsAgree (move_fields (at + o) (fields_of t)) a b → Answers (move_fields at (member_fields ms)) a b next x
-      → Answers (move_fields at (member_fields (member name o t ms))) a b next x
+  join : {next : ℕ} {x : Agreed} → FieldsAgree (move_fields (at + o) (fields_of t)) a b → AnswersFields (move_fields at (member_fields ms)) a b next x
+      → AnswersFields (move_fields at (member_fields (member name o t ms))) a b next x
   join h w =
       rw (member_walked at name o t ms)
       (record {
@@ -60,11 +59,11 @@ module _ (name : List ℕ) (o : ℕ) (t : Datatype) (ms : Members) (a b : List �
         kept = w.kept;
       })
 
-  first-apart : {next : ℕ} → FieldsDiffer (move_fields (at + o) (fields_of t)) a b → Answers (move_fields at (member_fields (member name o t ms))) a b next Apart
+  first-apart : {next : ℕ} → FieldsDiffer (move_fields (at + o) (fields_of t)) a b → AnswersFields (move_fields at (member_fields (member name o t ms))) a b next (Err Apart)
   first-apart d = rw (member_walked at name o t ms) (answers-apart (differ_first _ _ d))
 
 others-answer : (a b : List ℕ) (at : ℕ) (z : Agreed) (y : Found Members) (ms : Members) (r p n : ℕ) → y ≡ found ms r p → AgreesIn y a b at z → AdmittedIn n ms → at + n ≤ length a
-    → Answers (move_fields at (member_fields ms)) a b r z
+    → AnswersFields (move_fields at (member_fields ms)) a b r z
 unfolding AgreesIn
 others-answer a b at z y ms r p n u v d l = rw u at v n d l
 
@@ -76,7 +75,7 @@ module _ (name : List ℕ) (o : ℕ) (rest : Walk Members) (a b : List ℕ) (at 
   -- what is to be shown where a first member and others are found
   behind : (z : Agreed) (x : Found Datatype)
       → ((t : Datatype) (r p : ℕ) (ms : Members) (r' p' n : ℕ) → x ≡ found t r p → rest r p ≡ found ms r' p' → First n o t ms → at + n ≤ length a
-      → Answers (move_fields at (member_fields (member name o t ms))) a b r' z)
+      → AnswersFields (move_fields at (member_fields (member name o t ms))) a b r' z)
       → AgreesIn (Behind x) a b at z
   unfolding and_then
   behind z (found t r p) h = go (rest r p) refl
@@ -91,17 +90,17 @@ module _ (name : List ℕ) (o : ℕ) (rest : Walk Members) (a b : List ℕ) (at 
 
   module _ (x : Found Datatype) (got : Agreed) (h : Agrees x a b (at + o) got) where
     -- the first member's answer
-    answer : (t : Datatype) (r p : ℕ) (ms : Members) (n : ℕ) → x ≡ found t r p → First n o t ms → at + n ≤ length a → Answers (move_fields (at + o) (fields_of t)) a b r got
+    answer : (t : Datatype) (r p : ℕ) (ms : Members) (n : ℕ) → x ≡ found t r p → First n o t ms → at + n ≤ length a → AnswersFields (move_fields (at + o) (fields_of t)) a b r got
     unfolding Agrees
     answer t r p ms n e f l = rw e at h f.type (omega (arith, f.ends))
 
-    lost : (z : Agreed) → got ≡ Lost → AgreesIn (Behind x) a b at z
+    lost : (z : Agreed) → got ≡ Err Lost → AgreesIn (Behind x) a b at z
     lost z q = behind z x (λ t r p ms r' p' n e g f l. absurd ((answer t r p ms n e f l).kept q))
 
-    apart : got ≡ Apart → AgreesIn (Behind x) a b at Apart
-    apart q = behind Apart x (λ t r p ms r' p' n e g f l. first-apart name o t ms a b at ((answer t r p ms n e f l).apart q))
+    apart : got ≡ Err Apart → AgreesIn (Behind x) a b at (Err Apart)
+    apart q = behind (Err Apart) x (λ t r p ms r' p' n e g f l. first-apart name o t ms a b at ((answer t r p ms n e f l).apart q))
 
-    next : (z : Agreed) (s : ℕ) → got ≡ Together s → ((p : ℕ) → AgreesIn (rest s p) a b at z) → AgreesIn (Behind x) a b at z
+    next : (z : Agreed) (s : ℕ) → got ≡ Ok s → ((p : ℕ) → AgreesIn (rest s p) a b at z) → AgreesIn (Behind x) a b at z
     next z s q v =
         behind z x (λ t r p ms r' p' n e g f l.
         let w = (answer t r p ms n e f l).together s q in
@@ -110,71 +109,64 @@ module _ (name : List ℕ) (o : ℕ) (rest : Walk Members) (a b : List ℕ) (at 
 
 -- ---- members
 
--- what is answered of the members from here on is answered of all
-pub record Leads (levels : ℕ) (table pool : List ℕ) (left r count row : ℕ) (a b : List ℕ) (at : ℕ) : Type 0 where
-  pub leads : (z : Agreed) → AgreesMembers levels table pool left r a b at z → AgreesMembers levels table pool count row a b at z
+-- what is answered of the members behind the first k is answered of all
+pub record Leads (levels : ℕ) (table pool : List ℕ) (k r count row : ℕ) (a b : List ℕ) (at : ℕ) : Type 0 where
+  pub leads : (z : Agreed) → AgreesMembers levels table pool (count - k) r a b at z → AgreesMembers levels table pool count row a b at z
 
-pub leads-same : (levels : ℕ) (table pool : List ℕ) (count row : ℕ) (a b : List ℕ) (at : ℕ) → Leads levels table pool count row count row a b at
-leads-same levels table pool count row a b at = record { leads = λ z h. h }
+pub leads-same : (levels : ℕ) (table pool : List ℕ) (count row : ℕ) (a b : List ℕ) (at : ℕ) → Leads levels table pool 0 row count row a b at
+leads-same levels table pool count row a b at = let e : count - 0 ≡ count = omega arith in record { leads = λ z h. rw e at h }
 
-module _ (table pool : List ℕ) (depth left r count row : ℕ) (a b : List ℕ) (at : ℕ) (inv : Leads (32 - depth) table pool left r count row a b at) where
-  pub members_end : left ≤ 0 → AgreesMembers (32 - depth) table pool count row a b at (Together r)
+module _ (table pool : List ℕ) (depth k r count row : ℕ) (a b : List ℕ) (at : ℕ) (inv : Leads (32 - depth) table pool k r count row a b at) where
+  pub members_end : count ≤ k → AgreesMembers (32 - depth) table pool count row a b at (Ok r)
   members_end e =
-      let k : left ≡ 0 = omega arith in
+      let k : count - k ≡ 0 = omega arith in
       inv.leads _ (record { agrees = λ p. rw k (unfold members_at AgreesIn in λ n d l. answers-together (unfold fields_of move_fields in agree-none)) })
 
-  module _ (some_left : 0 < left) where
+  module _ (some_left : k < count) where
+    -- how many are left behind the member at hand
+    abbrev left : ℕ
+    left = count - (k + 1)
+
     abbrev rd : Walk Datatype
     rd = type_at (32 - depth) table pool
 
-    members_as : (z : Agreed) → ((p : ℕ) → AgreesIn (members_at rd table pool (suc (left - 1)) r p) a b at z) → AgreesMembers (32 - depth) table pool count row a b at z
+    members_as : (z : Agreed) → ((p : ℕ) → AgreesIn (members_at rd table pool (suc left) r p) a b at z) → AgreesMembers (32 - depth) table pool count row a b at z
     members_as z h =
-        let j : left ≡ suc (left - 1) = omega arith in
+        let j : count - k ≡ suc left = omega arith in
         inv.leads z (record { agrees = λ p. rw j (h p) })
 
     pub members-deep : (z : Agreed) → 32 ≤ depth → AgreesMembers (32 - depth) table pool count row a b at z
-    members-deep z h = members_as z (λ p. rw (members_at-entry table pool (left - 1) r p rd) (go p (member_at_of table pool r p)))
+    members-deep z h = members_as z (λ p. rw (members_at-entry table pool left r p rd) (go p (member_at_of table pool r p)))
       where
-        go : (p : ℕ) (m : Member) → AgreesIn (from_member (type_at (32 - depth) table pool) (members_at (type_at (32 - depth) table pool) table pool (left - 1)) pool r p m) a b at z
-        go p (Named o n) = let k : 32 - depth ≡ 0 = omega arith in rw k (unfold from_member type_at and_then AgreesIn in tt)
-        go p Unnamed = unfold from_member AgreesIn in tt
+        go : (p : ℕ) (m : Option Member) → AgreesIn (from_member (type_at (32 - depth) table pool) (members_at (type_at (32 - depth) table pool) table pool left) pool r p m) a b at z
+        go p (Some m) = let k : 32 - depth ≡ 0 = omega arith in rw k (unfold from_member type_at and_then AgreesIn in tt)
+        go p None = unfold from_member AgreesIn in tt
 
-    module _ {m : Member} (names : RowNames table r m) where
-      by_member : (z : Agreed) {f : Member} → m ≡ f → ((p : ℕ) → AgreesIn (from_member rd (members_at rd table pool (left - 1)) pool r p f) a b at z) → AgreesMembers (32 - depth) table pool count row a b at z
+    module _ {m : Option Member} (names : RowNames table r m) where
+      by_member : (z : Agreed) {f : Option Member} → m ≡ f → ((p : ℕ) → AgreesIn (from_member rd (members_at rd table pool left) pool r p f) a b at z) → AgreesMembers (32 - depth) table pool count row a b at z
       by_member z e h =
-          members_as z (λ p. claim_of-members table pool r p (λ (w : Found Members). AgreesIn w a b at z) (unfold AgreesIn in tt) rd (left - 1) m (names.is pool p) (λ q. rw e (h p)))
+          members_as z (λ p. claim_of-members table pool r p (λ (w : Found Members). AgreesIn w a b at z) (unfold AgreesIn in tt) rd left m (names.is pool p) (λ q. rw e (h p)))
 
-      pub members_unnamed : (z : Agreed) → m ≡ Unnamed → AgreesMembers (32 - depth) table pool count row a b at z
+      pub members_unnamed : (z : Agreed) → m ≡ None → AgreesMembers (32 - depth) table pool count row a b at z
       members_unnamed z e = by_member z e (λ p. unfold from_member AgreesIn in tt)
 
-      module _ {o n : ℕ} (e : m ≡ Named o n) where
-        members-named : (z : Agreed) → ((p : ℕ) → AgreesIn (Behind (take n (drop p pool)) o (members_at rd table pool (left - 1)) a b at (rd (r + 1) (p + n))) a b at z)
+      module _ {v : Member} (e : m ≡ Some v) where
+        members-named : (z : Agreed) → ((p : ℕ) → AgreesIn (Behind (take v.name (drop p pool)) v.number (members_at rd table pool left) a b at (rd (r + 1) (p + v.name))) a b at z)
             → AgreesMembers (32 - depth) table pool count row a b at z
         members-named z h = by_member z e (λ p. unfold from_member in (rw (add-one r) at (h p)))
 
-        pub members-past : (z : Agreed) → length a - at < o → AgreesMembers (32 - depth) table pool count row a b at z
-        members-past z h = members-named z (λ p. past _ o _ a b at z _ h)
+        pub members-past : (z : Agreed) → length a - at < v.number → AgreesMembers (32 - depth) table pool count row a b at z
+        members-past z h = members-named z (λ p. past _ v.number _ a b at z _ h)
 
-        module _ (got : Agreed) (g : AgreesAt (32 - depth) table pool (r + 1) a b (at + o) got) where
-          pub members-lost : (z : Agreed) → got ≡ Lost → AgreesMembers (32 - depth) table pool count row a b at z
-          members-lost z f = members-named z (λ p. lost _ o _ a b at _ got (g.agrees (p + n)) z f)
+        module _ (got : Agreed) (g : AgreesAt (32 - depth) table pool (r + 1) a b (at + v.number) got) where
+          pub members-stop : (e : Disagreement) → got ≡ Err e → AgreesMembers (32 - depth) table pool count row a b at (Err e)
+          members-stop Lost f = members-named (Err Lost) (λ p. lost _ v.number _ a b at _ got (g.agrees (p + v.name)) (Err Lost) f)
+          members-stop Apart f = members-named (Err Apart) (λ p. apart _ v.number _ a b at _ got (g.agrees (p + v.name)) f)
 
-          pub members-apart : got ≡ Apart → AgreesMembers (32 - depth) table pool count row a b at Apart
-          members-apart f = members-named Apart (λ p. apart _ o _ a b at _ got (g.agrees (p + n)) f)
-
-          pub members-next : {s : ℕ} → got ≡ Together s → Leads (32 - depth) table pool (left - 1) s count row a b at
-          members-next {s = s} f = record { leads = λ z h. members-named z (λ p. next _ o _ a b at _ got (g.agrees (p + n)) z s f h.agrees) }
+          pub members-next : {s : ℕ} → got ≡ Ok s → Leads (32 - depth) table pool (k + 1) s count row a b at
+          members-next {s = s} f = record { leads = λ z h. members-named z (λ p. next _ v.number _ a b at _ got (g.agrees (p + v.name)) z s f h.agrees) }
 
 -- ---- entries
-
--- an answer other than Together
-abbrev pub Stops : Agreed → Type 0
-Stops x = (row : ℕ) → x ≡ Together row → ⊥
-
-stopped : (x : Agreed) → Stops x → (x ≡ Apart) ⊎ (x ≡ Lost)
-stopped Apart h = inl refl
-stopped (Together s) h = absurd (h s refl)
-stopped Lost h = inr refl
 
 -- the first k entries agree, and behind the last of them the next row is known
 unfoldable pub Done : Found Datatype → (stride k next : ℕ) (a b : List ℕ) (at : ℕ) → Type 0
@@ -197,12 +189,12 @@ module _ (levels : ℕ) (table pool : List ℕ) (row stride count : ℕ) (a b : 
       go bad = unfold Done in tt
 
   module _ (k start next : ℕ) (g : Going levels table pool row stride count k start next a b at) where
-    pub entries_end : count ≤ k → AgreesEntries levels table pool row stride count a b at (Together next)
+    pub entries_end : count ≤ k → AgreesEntries levels table pool row stride count a b at (Ok next)
     entries_end l =
         let e : k ≡ count = omega (arith, g.within) in
         record { agrees = λ p. go (type_at levels table pool row p) (rw e at (g.done p)) }
       where
-        go : (x : Found Datatype) → Done x stride count next a b at → AgreesEach x stride count a b at (Together next)
+        go : (x : Found Datatype) → Done x stride count next a b at → AgreesEach x stride count a b at (Ok next)
         go (found t r p) h = unfold Done AgreesEach in λ d e n l. rw ((h d e).1 n) (answers-together (h d e).0)
         go bad h = unfold AgreesEach in tt
 
@@ -219,19 +211,22 @@ module _ (levels : ℕ) (table pool : List ℕ) (row stride count : ℕ) (a b : 
           go bad = unfold AgreesEach in tt
 
       module _ (got : Agreed) (v : AgreesAt levels table pool row a b start got) where
-        pub entries_stop : Stops got → AgreesEntries levels table pool row stride count a b at got
-        entries_stop f = record { agrees = λ p. go (type_at levels table pool row p) (v.agrees p) }
+        pub entries_stop : (e : Disagreement) → got ≡ Err e → AgreesEntries levels table pool row stride count a b at (Err e)
+        entries_stop e f = record { agrees = λ p. go (type_at levels table pool row p) (v.agrees p) }
           where
-            apart-here : (t : Datatype) (r : ℕ) → FieldsDiffer (move_fields start (fields_of t)) a b → Answers (move_fields at (field_entries stride (fields_of t) 0 count)) a b r Apart
+            apart-here : (t : Datatype) (r : ℕ) → FieldsDiffer (move_fields start (fields_of t)) a b → AnswersFields (move_fields at (field_entries stride (fields_of t) 0 count)) a b r (Err Apart)
             apart-here t r w = answers-apart (entry-differs a b at stride (fields_of t) k count some_left (rw g.here at w))
 
-            go : (x : Found Datatype) → Agrees x a b start got → AgreesEach x stride count a b at got
-            go (found t r p) u = unfold Agrees AgreesEach in λ d e n l.
-                let w = u d (omega (arith, ends l)) in
-                ⊎_elim (λ h. rw h (apart-here t r (w.apart h))) (λ h. absurd (w.kept h)) (stopped got f)
+            by_why : (t : Datatype) (r : ℕ) (q : Disagreement) → got ≡ Err q → AnswersFields (move_fields start (fields_of t)) a b r got
+                → AnswersFields (move_fields at (field_entries stride (fields_of t) 0 count)) a b r (Err q)
+            by_why t r Apart h w = apart-here t r (w.apart h)
+            by_why t r Lost h w = absurd (w.kept h)
+
+            go : (x : Found Datatype) → Agrees x a b start got → AgreesEach x stride count a b at (Err e)
+            go (found t r p) u = unfold Agrees AgreesEach in λ d i n l. by_why t r e f (u d (omega (arith, ends l)))
             go bad u = unfold AgreesEach in tt
 
-        pub entries_next : {s : ℕ} (k' start' : ℕ) → k' ≡ k + 1 → start' ≡ start + stride → stride ≤ length a - start → got ≡ Together s
+        pub entries_next : {s : ℕ} (k' start' : ℕ) → k' ≡ k + 1 → start' ≡ start + stride → stride ≤ length a - start → got ≡ Ok s
             → Going levels table pool row stride count k' start' s a b at
         entries_next {s = s} k' start' i j l f =
             rw (i, j)

@@ -1,45 +1,27 @@
 -- Ranges of two records that are equal, and what is answered of a field's.
-use Prim.Native.Nat.{ℕ, zero, suc, ◌+◌, ◌-◌, ◌*◌, ◌<◌, ◌≤◌}
+use Rattle.std.specs.Prelude.{Ok, Err}
+use Prim.Native.Nat.{ℕ, zero, suc, ◌+◌, ◌-◌, ◌*◌, ◌/◌, ◌<◌, ◌≤◌}
 use mathlib.Core.Path.{◌≡◌, refl, sym, ap, ◌∙◌}
 use mathlib.Core.Logic.{⊎_elim}
-use mathlib.Core.Bool.{Bool, true, false, not, ◌&&◌, ◌||◌, false≢true, and_assoc, and-true}
+use mathlib.Core.Bool.{Bool, true, false, not, ◌&&◌, ◌||◌, false≢true}
 use mathlib.Core.List.{List, [], ◌∷◌}
 use native.Mathlib.Omega.{arith}
 use native.Mathlib.Numerals.{add-one}
 use native.Mathlib.Nat.{suc-mul, mul-le-mul_right, eq-or-lt_of_le}
-use lib.ListN.{length, get_or}
-use lib.Bits.{bit_or, bit_xor}
+use lib.ListN.{length, get_or, take, drop}
+use lib.Seq.{drop-cons}
+use lib.Pointwise.{pointwise}
 use lib.Dec.{ltb, eqb}
-use borrow.Author.Tests.{eq-eqb, ne_eqb, eqb-true, eqb-false, ltb-true, ltb-false, le-ltb, not-true, not-false}
+use borrow.Author.Tests.{ne_eqb, eqb-true, eqb-false, ltb-true, ltb-false, le-ltb, not-true, not-false}
 use Rattle.format.specs.Image.{Field, move_field, move_fields, field_entries, no_nul_between, counted_in, FieldsAgree, FieldsDiffer}
 use Rattle.format.proofs.Image.{no_nul_if, counted_if, owned_if}
 use Rattle.format.proofs.Walking.{agree-none, agree_both, entry_walked, entry-differs, counted-one, field-equal, field-ended, field_apart}
 use Rattle.format.proofs.Booleans.{and_both, and_either, true_or_false}
-use Rattle.rows.proofs.Zeros.{or_is-zero, xor_is-zero}
-use Rattle.compare.specs.Agreeing.{equal_range_of, Equal, Common, field_at, Answers, AgreesField, AgreesStrings, AgreesFields, StringSame}
-use Rattle.compare.specs.declared.Agreed.{Agreed}
+use Rattle.compare.specs.Agreeing.{Agreed, equal_range_of, Equal, Common, field_at, AnswersFields, AgreesField, AgreesStrings, AgreesFields, StringSame}
 use Rattle.compare.specs.declared.Base.{Base}
-use Rattle.compare.specs.declared.Agreed.TheVariants.{Apart, Together}
+use Rattle.compare.specs.declared.Disagreement.TheVariants.{Apart}
 
 module _ (a b : List ℕ) where
-  range_split : (at m n : ℕ) → equal_range_of a b at (m + n) ≡ (equal_range_of a b at m && equal_range_of a b (at + m) n)
-  unfolding equal_range_of
-  range_split at zero n =
-      let e : at + 0 ≡ at = omega arith in
-      let f : 0 + n ≡ n = omega arith in
-      rw (e, f)
-  range_split at (suc m) n =
-      let e : at + suc m ≡ suc at + m = omega arith in
-      let f : suc m + n ≡ suc (m + n) = omega arith in
-      rw (e, f, range_split (suc at) m n) (sym (and_assoc (eqb (get_or a at 0) (get_or b at 0)) (equal_range_of a b (suc at) m) (equal_range_of a b (suc at + m) n)))
-
-  one-is : (at : ℕ) → eqb (get_or a at 0) (get_or b at 0) ≡ equal_range_of a b at 1
-  unfolding equal_range_of
-  one-is at = sym (and-true (eqb (get_or a at 0) (get_or b at 0)))
-
-  range_next : (at i : ℕ) → equal_range_of a b at (i + 1) ≡ (equal_range_of a b at i && eqb (get_or a (at + i) 0) (get_or b (at + i) 0))
-  range_next at i = rw (one-is (at + i)) (range_split at i 1)
-
   pub range_says : (at n : ℕ) → equal_range_of a b at n ≡ true → (i : ℕ) → i < n → get_or a (at + i) 0 ≡ get_or b (at + i) 0
   unfolding equal_range_of
   range_says at zero h i l = absurd (omega arith)
@@ -60,41 +42,16 @@ module _ (a b : List ℕ) where
       (suc d.0, omega (arith, d.1), rw e d.2))
       (and_either (eqb (get_or a at 0) (get_or b at 0)) (equal_range_of a b (suc at) n) h)
 
-pub range_start : (a b : List ℕ) (at n : ℕ) → equal_range_of a b (at + 0) (n - 0) ≡ equal_range_of a b at n
-range_start a b at n =
-    let e : at + 0 ≡ at = omega arith in
-    let f : n - 0 ≡ n = omega arith in
-    rw (e, f)
+-- the slices of n bytes from a place on, by their equality
+slices : (a b : List ℕ) (at n : ℕ) → at + n ≤ length a → at + n ≤ length b → pointwise eqb (take n (drop at a)) (take n (drop at b)) ≡ equal_range_of a b at n
+unfolding equal_range_of
+slices a b at zero h k = refl
+slices a b at (suc n) h k =
+    rw (drop-cons a at 0 (omega arith), drop-cons b at 0 (omega arith))
+    (ap (λ (x : Bool). eqb (get_or a at 0) (get_or b at 0) && x) (slices a b (suc at) n (omega arith) (omega arith)))
 
--- a comparison of n bytes that has come to i: what is left to compare decides
-module _ (a b : List ℕ) (at n i : ℕ) (inv : equal_range_of a b (at + i) (n - i) ≡ equal_range_of a b at n) where
-  part : (k : ℕ) → i + k ≤ n → (equal_range_of a b (at + i) k && equal_range_of a b (at + (i + k)) (n - (i + k))) ≡ equal_range_of a b at n
-  part k h =
-      let e : k + (n - (i + k)) ≡ n - i = omega arith in
-      let f : at + (i + k) ≡ at + i + k = omega arith in
-      rw f (sym (range_split a b (at + i) k (n - (i + k))) ∙ rw e inv)
-
-  -- past k bytes that are equal, and at k bytes that are not
-  pub range_past : (k : ℕ) {x : Bool} → x ≡ equal_range_of a b (at + i) k → x ≡ true → i + k ≤ n → equal_range_of a b (at + (i + k)) (n - (i + k)) ≡ equal_range_of a b at n
-  range_past k e x h = (let z : equal_range_of a b (at + i) k ≡ true = cc in sym (rw z)) ∙ part k h
-
-  pub range_not : (k : ℕ) {x : Bool} → x ≡ equal_range_of a b (at + i) k → x ≡ false → i + k ≤ n → false ≡ equal_range_of a b at n
-  range_not k e x h = (let z : equal_range_of a b (at + i) k ≡ false = cc in sym (rw z)) ∙ part k h
-
-  pub range_more : get_or a (at + i) 0 ≡ get_or b (at + i) 0 → i < n → equal_range_of a b (at + (i + 1)) (n - (i + 1)) ≡ equal_range_of a b at n
-  range_more e h = range_past 1 (one-is a b (at + i)) (eq-eqb (get_or a (at + i) 0) (get_or b (at + i) 0) e) (omega arith)
-
-  pub range_stop : (get_or a (at + i) 0 ≡ get_or b (at + i) 0 → ⊥) → i < n → false ≡ equal_range_of a b at n
-  range_stop e h = range_not 1 (one-is a b (at + i)) (ne_eqb (get_or a (at + i) 0) (get_or b (at + i) 0) e) (omega arith)
-
-  pub range_end : n ≤ i → true ≡ equal_range_of a b at n
-  unfolding equal_range_of
-  range_end h = let e : n - i ≡ 0 = omega arith in rw e at inv
-
--- the bits in which i bytes from `at` on differ, put together, with those of one byte more
-pub bits_next : (a b : List ℕ) (at i all : ℕ) → eqb all 0 ≡ equal_range_of a b at i → eqb (bit_or all (bit_xor (get_or a (at + i) 0) (get_or b (at + i) 0))) 0 ≡ equal_range_of a b at (i + 1)
-bits_next a b at i all e =
-    or_is-zero all (bit_xor (get_or a (at + i) 0) (get_or b (at + i) 0)) ∙ rw (e, xor_is-zero (get_or a (at + i) 0) (get_or b (at + i) 0)) (sym (range_next a b at i))
+pub range-slices : (a b : List ℕ) (at n : ℕ) {x : Bool} → x ≡ pointwise eqb (take (at + n - at) (drop at a)) (take (at + n - at) (drop at b)) → at + n ≤ length a → at + n ≤ length b → x ≡ equal_range_of a b at n
+range-slices a b at n e h k = let j : at + n - at ≡ n = omega arith in e ∙ rw j (slices a b at n h k)
 
 -- a place in a field that counts whole at which they differ
 whole-differs : (a b : List ℕ) (at n i : ℕ) → at ≤ i → i < at + n → (get_or a i 0 ≡ get_or b i 0 → ⊥) → FieldsDiffer (field_at at n false ∷ []) a b
@@ -106,7 +63,7 @@ whole-differs a b at n i l m z =
 -- ---- answers
 
 module _ {fs : List Field} {a b : List ℕ} where
-  pub answers-together : {next : ℕ} → FieldsAgree fs a b → Answers fs a b next (Together next)
+  pub answers-together : {next : ℕ} → FieldsAgree fs a b → AnswersFields fs a b next (Ok next)
   answers-together h =
       record {
         together = λ s e. (h, cc);
@@ -114,7 +71,7 @@ module _ {fs : List Field} {a b : List ℕ} where
         kept = λ e. let z : ◌≡◌ {A = ℕ} 0 1 = cc in omega arith;
       }
 
-  pub answers-apart : {next : ℕ} → FieldsDiffer fs a b → Answers fs a b next Apart
+  pub answers-apart : {next : ℕ} → FieldsDiffer fs a b → AnswersFields fs a b next (Err Apart)
   answers-apart d =
       record {
         together = λ s e. let z : ◌≡◌ {A = ℕ} 0 1 = cc in absurd (omega arith);
@@ -123,7 +80,7 @@ module _ {fs : List Field} {a b : List ℕ} where
       }
 
   -- of fields that count the same places
-  pub answers_as : {gs : List Field} {next : ℕ} {x : Agreed} → ((r : List ℕ) (i : ℕ) → counted_in gs r i ≡ counted_in fs r i) → Answers fs a b next x → Answers gs a b next x
+  pub answers_as : {gs : List Field} {next : ℕ} {x : Agreed} → ((r : List ℕ) (i : ℕ) → counted_in gs r i ≡ counted_in fs r i) → AnswersFields fs a b next x → AnswersFields gs a b next x
   answers_as e h =
       record {
         together = λ s q. let w = h.together s q in (record { equal = λ i o. w.0.equal i (sym (e a i) ∙ o) }, w.1);
@@ -151,9 +108,6 @@ module _ (a b : List ℕ) (at n : ℕ) where
               (true_or_false (ltb j (at + i)));
         }
 
-    pub equal-block-more : {x : Bool} → x ≡ equal_range_of a b (at + i) 128 → x ≡ true → 128 ≤ n - i → Equal a b at n (i + 128)
-    equal-block-more e x h = equal-more 128 (omega (arith, w.within)) (range_says a b (at + i) 128 (sym e ∙ x))
-
     pub equal_byte_more : get_or a (at + i) 0 ≡ get_or b (at + i) 0 → i < n → Equal a b at n (i + 1)
     equal_byte_more e h = equal-more 1 (omega arith) (λ j l. let z : at + i + j ≡ at + i = omega arith in rw z e)
 
@@ -162,6 +116,16 @@ module _ (a b : List ℕ) (at n : ℕ) where
 
     pub common_all : n ≤ i → Common a b at n n
     common_all h = let e : i ≡ n = omega (arith, w.within) in record { so_far = rw e at w; differs = λ l. absurd (omega arith) }
+
+  -- k blocks of 128 bytes, and one more
+  module _ (k : ℕ) (w : Equal a b at n (k * 128)) where
+    pub blocks-more : {x : Bool} → x ≡ equal_range_of a b (at + k * 128) 128 → x ≡ true → k < n / 128 → Equal a b at n ((k + 1) * 128)
+    blocks-more e x h =
+        let j : (k + 1) * 128 ≡ k * 128 + 128 = omega arith in
+        rw j (equal-more (k * 128) w 128 (omega arith) (range_says a b (at + k * 128) 128 (sym e ∙ x)))
+
+    pub blocks_end : n / 128 ≤ k → k ≤ n / 128 → Equal a b at n (n / 128 * 128)
+    blocks_end h l = let j : k ≡ n / 128 = omega arith in rw j at w
 
 -- ---- a NUL among bytes, from their end
 
@@ -202,14 +166,14 @@ module _ (n : ℕ) (a b : List ℕ) (at next : ℕ) where
   field_past e x h l = absurd (omega arith)
 
   module _ {r : Bool} (q : r ≡ equal_range_of a b at n) where
-    pub field-same : r ≡ true → AgreesField n false a b at next (Together next)
+    pub field-same : r ≡ true → AgreesField n false a b at next (Ok next)
     unfolding AgreesField
     field-same h l =
         answers-together (field-equal (field_at at n false) a b n
         (λ j g m. let k : at + (j - at) ≡ j = omega arith in rw k at (range_says a b at n (sym q ∙ h) (j - at) (omega arith)))
         (omega arith))
 
-    pub field-differs : r ≡ false → AgreesField n false a b at next Apart
+    pub field-differs : r ≡ false → AgreesField n false a b at next (Err Apart)
     unfolding AgreesField
     field-differs h l =
         let d = range_differs a b at n (sym q ∙ h) in
@@ -236,20 +200,20 @@ module _ (n : ℕ) (a b : List ℕ) (at k : ℕ) (w : Common a b at n k) where
 
     -- a leaf that is one
     module _ (next : ℕ) {ended t : Bool} (u : t ≡ ended) (y : t ≡ true) where
-      pub leaf-ended : r ≡ true → AgreesField n ended a b at next (Together next)
+      pub leaf-ended : r ≡ true → AgreesField n ended a b at next (Ok next)
       leaf-ended h = rw (← u, y) (unfold AgreesField in λ l. answers-together (nul-equal h))
 
-      pub leaf-not-ended : (k ≡ n → ⊥) → r ≡ false → AgreesField n ended a b at next Apart
+      pub leaf-not-ended : (k ≡ n → ⊥) → r ≡ false → AgreesField n ended a b at next (Err Apart)
       leaf-not-ended z h = rw (← u, y) (unfold AgreesField in λ l. answers-apart (no_nul-apart z h))
 
   pub string-equal : k ≡ n → StringSame a b at n true
   string-equal h = record { same = λ e. all-equal true h; differs = λ e. absurd (false≢true (sym e)) }
 
-  pub leaf-equal : (next : ℕ) (e : Bool) → k ≡ n → AgreesField n e a b at next (Together next)
+  pub leaf-equal : (next : ℕ) (e : Bool) → k ≡ n → AgreesField n e a b at next (Ok next)
   unfolding AgreesField
   leaf-equal next e h l = answers-together (all-equal e h)
 
-  pub leaf_apart : (next : ℕ) {ended t : Bool} → t ≡ ended → t ≡ false → (k ≡ n → ⊥) → AgreesField n ended a b at next Apart
+  pub leaf_apart : (next : ℕ) {ended t : Bool} → t ≡ ended → t ≡ false → (k ≡ n → ⊥) → AgreesField n ended a b at next (Err Apart)
   leaf_apart next u y z =
       rw (← u, y) (unfold AgreesField in λ l. answers-apart (field_apart (field_at at n false) a b k w.so_far.equal (not-all z) (w.differs (not-all z)) (λ g. absurd (false≢true g))))
 
@@ -267,7 +231,7 @@ module _ (n count : ℕ) (a b : List ℕ) (at : ℕ) where
   strings_start h = record { within = omega arith; here = omega arith; begins = h; same = unfold field_entries move_fields in agree-none }
 
   module _ (k start : ℕ) (w : SameTo n count a b at k start) where
-    pub strings_end : (next : ℕ) → count ≤ k → AgreesStrings n count a b at next (Together next)
+    pub strings_end : (next : ℕ) → count ≤ k → AgreesStrings n count a b at next (Ok next)
     unfolding AgreesStrings
     strings_end next h l = let e : k ≡ count = omega (arith, w.within) in answers-together (rw e at w.same)
 
@@ -282,7 +246,7 @@ module _ (n count : ℕ) (a b : List ℕ) (at : ℕ) where
       strings_past next x h l = absurd (omega (arith, w.here, mul-le-mul_right n some_left, suc-mul k n))
 
       module _ {r : Bool} (s : StringSame a b start n r) where
-        pub strings_apart : (next : ℕ) → r ≡ false → AgreesStrings n count a b at next Apart
+        pub strings_apart : (next : ℕ) → r ≡ false → AgreesStrings n count a b at next (Err Apart)
         unfolding AgreesStrings
         strings_apart next h l = answers-apart (entry-differs a b at n (field_at 0 n true ∷ []) k count some_left (rw here-moved (s.differs h)))
 

@@ -1,4 +1,5 @@
 -- The walk's ways out at a type's row, but for what its members and entries answer.
+use Rattle.std.specs.Prelude.{Option, Some, None}
 use Prim.Native.Nat.{ℕ, zero, suc, ◌+◌, ◌-◌, ◌*◌, ◌/◌, ◌<◌, ◌≤◌, min}
 use mathlib.Core.Path.{◌≡◌, refl, sym, ap, ◌∙◌}
 use mathlib.Core.Bool.{Bool, true, false, false≢true}
@@ -20,16 +21,13 @@ use Rattle.format.proofs.Walking.{counted-one, counted-whole, whole-entries}
 use Rattle.format.proofs.Slots.{first-zero-size, or_else_none}
 use Rattle.rows.specs.Entries.{entry_at, leaf_type, from_entry, RowSays}
 use Rattle.rows.specs.declared.Entry.{Entry}
-use Rattle.rows.specs.declared.Entry.TheVariants.{Leaf, Compound, Enumeration, VariableLength, Array, Unknown}
+use Rattle.rows.specs.declared.Entry.TheVariants.{Leaf, Compound, Enumeration, VariableLength, Array}
 use Rattle.rows.proofs.Known.{claim_of-type}
 use Rattle.table.specs.Known.{PassesTo, PassesType, TotalAt, SizedTo, SizedAt}
 use Rattle.table.specs.Path.{top_of, Entered}
 use Rattle.table.specs.declared.Path.{Path}
-use Rattle.compare.specs.Agreeing.{nul_terminated_of, field_at, is_field_of, is_string_of, Admitted, Agrees, AgreesIn, AgreesEach, AgreesAt, AgreesMembers, AgreesEntries, AgreesArray, AgreesEnumeration, AgreesField, AgreesStrings, AgreesFields, BaseIs, BaseIn, Standing}
-use Rattle.compare.specs.declared.Agreed.{Agreed}
+use Rattle.compare.specs.Agreeing.{Agreed, nul_terminated_of, field_at, is_field_of, is_string_of, Admitted, Agrees, AgreesIn, AgreesEach, AgreesAt, AgreesMembers, AgreesEntries, AgreesArray, AgreesEnumeration, AgreesField, AgreesStrings, AgreesFields, BaseIs, BaseIn, Standing}
 use Rattle.compare.specs.declared.Base.{Base}
-use Rattle.compare.specs.declared.Based.{Based}
-use Rattle.compare.specs.declared.Based.TheVariants.{At as BasedAt, Lost as BasedLost}
 use Rattle.compare.proofs.Fields.{IsField, field-agrees, leaf-field, enumeration-field, OneField, type-field}
 use Rattle.compare.proofs.Ranges.{answers_as}
 
@@ -123,11 +121,11 @@ module _ (table pool : List ℕ) (row k levels : ℕ) {size : ℕ} (f : SizedAt 
   base-size : (p : ℕ) → SizedTo (type_at levels table pool (suc row) p) size
   base-size p = rw (add-one row) at (f.sized p)
 
-  pub base-zero : size ≡ 0 → BaseIn table pool row k levels BasedLost
+  pub base-zero : size ≡ 0 → BaseIn table pool row k levels None
   unfolding BaseIn from_entry
   base-zero z a b at x = record { agrees = λ p q. array-zero _ size a b at x (type_at levels table pool (suc row) (p + k * 4)) (base-size (p + k * 4)) z }
 
-  pub base-found : {total : ℕ} → TotalAt table pool row k size total → BaseIn table pool row k levels (BasedAt (record { stride = size; bytes = total; count = total / size }))
+  pub base-found : {total : ℕ} → TotalAt table pool row k size total → BaseIn table pool row k levels (Some (record { stride = size; bytes = total; count = total / size }))
   unfolding BaseIn from_entry
   base-found h =
       record {
@@ -138,67 +136,71 @@ module _ (table pool : List ℕ) (row k levels : ℕ) {size : ℕ} (f : SizedAt 
 
 -- ---- by the row
 
-module _ (table pool : List ℕ) (depth row : ℕ) (a b : List ℕ) (at : ℕ) {e : Entry} (shallow : depth ≤ 32) (says : RowSays table row e) where
-  by_row : (x : Agreed) {f : Entry} → e ≡ f → ((p : ℕ) → f ≡ entry_at table pool row p → Agrees (from_entry (type_at (32 - depth) table pool) table pool row p f) a b at x)
+-- at a row that says nothing no type is found
+pub untyped : (table pool : List ℕ) (row levels : ℕ) {o : Option Entry} → RowSays table row o → o ≡ None → (p : ℕ) → type_at levels table pool row p ≡ bad
+unfolding type_at
+untyped table pool row zero says e p = refl
+untyped table pool row (suc k) {o = o} says e p = claim_of-type table pool row p (λ (y : Found Datatype). y ≡ bad) refl k o (says.is pool p) (λ q. rw e (unfold from_entry in refl))
+
+module _ (table pool : List ℕ) (depth row : ℕ) (a b : List ℕ) (at : ℕ) {o : Option Entry} (shallow : depth ≤ 32) (says : RowSays table row o) where
+  by_row : (x : Agreed) {f : Option Entry} → o ≡ f → ((p : ℕ) → f ≡ entry_at table pool row p → Agrees (from_entry (type_at (32 - depth) table pool) table pool row p f) a b at x)
       → AgreesAt (33 - depth) table pool row a b at x
   by_row x h v =
       let j : 33 - depth ≡ suc (32 - depth) = omega arith in
-      record { agrees = λ p. rw j (claim_of-type table pool row p (λ (y : Found Datatype). Agrees y a b at x) (unfold Agrees in tt) (32 - depth) e (says.is pool p) (λ q. rw h (v p (sym h ∙ q)))) }
+      record { agrees = λ p. rw j (claim_of-type table pool row p (λ (y : Found Datatype). Agrees y a b at x) (unfold Agrees in tt) (32 - depth) o (says.is pool p) (λ q. rw h (v p (sym h ∙ q)))) }
 
-  pub type_unknown : (x : Agreed) → e ≡ Unknown → AgreesAt (33 - depth) table pool row a b at x
-  type_unknown x h = by_row x h (λ p q. unfold from_entry Agrees in tt)
+  module _ {e : Entry} (i : o ≡ Some e) where
+    pub type-variable_length : (x : Agreed) {j v c : ℕ} → e ≡ VariableLength j v c → AgreesAt (33 - depth) table pool row a b at x
+    unfolding from_entry
+    type-variable_length x {j = j} {v = v} {c = c} h = by_row x (i ∙ ap Some h) (λ p q. go (type_at (32 - depth) table pool (suc row) p))
+      where
+        go : (y : Found Datatype) → Agrees (and_then y (λ t r' p'. found (variable_length j v c t) r' p')) a b at x
+        go (found t r' p') = unfold and_then Agrees heap_held in λ d l. absurd (false≢true (sym d.plain))
+        go bad = unfold and_then Agrees in tt
 
-  pub type-variable_length : (x : Agreed) {i v c : ℕ} → e ≡ VariableLength i v c → AgreesAt (33 - depth) table pool row a b at x
-  unfolding from_entry
-  type-variable_length x {i = i} {v = v} {c = c} h = by_row x h (λ p q. go (type_at (32 - depth) table pool (suc row) p))
-    where
-      go : (y : Found Datatype) → Agrees (and_then y (λ t r' p'. found (variable_length i v c t) r' p')) a b at x
-      go (found t r' p') = unfold and_then Agrees heap_held in λ d l. absurd (false≢true (sym d.plain))
-      go bad = unfold and_then Agrees in tt
+    pub type-leaf : (x : Agreed) {k n l y : ℕ} → e ≡ Leaf k n l y → AgreesField n (nul_terminated_of k y) a b at (row + 1) x → AgreesAt (33 - depth) table pool row a b at x
+    type-leaf x {k = k} {n = n} {l = l} {y = y} h v =
+        by_row x (i ∙ ap Some h) (λ p q. unfold from_entry in field-agrees (leaf_type table pool row p k) (suc row) (p + l) n (nul_terminated_of k y) a b at (row + 1) x (leaf-field table pool row p q refl refl) (add-one row) v)
 
-  pub type-leaf : (x : Agreed) {k n l y : ℕ} → e ≡ Leaf k n l y → AgreesField n (nul_terminated_of k y) a b at (row + 1) x → AgreesAt (33 - depth) table pool row a b at x
-  type-leaf x {k = k} {n = n} {l = l} {y = y} h v =
-      by_row x h (λ p q. unfold from_entry in field-agrees (leaf_type table pool row p k) (suc row) (p + l) n (nul_terminated_of k y) a b at (row + 1) x (leaf-field table pool row p q refl) (add-one row) v)
+    -- an enumeration ends where its field's answer says
+    pub type-enumeration : (x : Agreed) {n k : ℕ} → e ≡ Enumeration n k → AgreesEnumeration (33 - depth) table row n a b at x → AgreesAt (33 - depth) table pool row a b at x
+    unfolding from_entry
+    type-enumeration x {n = n} {k = k} h v =
+        let j : 33 - depth ≡ suc (32 - depth) = omega arith in
+        record { agrees = λ p. rw j (claim_of-type table pool row p (λ (y : Found Datatype). PassesTo y v.next → Agrees y a b at x) (λ g. unfold Agrees in tt) (32 - depth) o (says.is pool p) (λ q. rw (i, h) (of-base p)) (rw j at (v.passes.passes pool p))) }
+      where
+        of_values : (t : Datatype) (y : Found (List EnumMember)) → PassesTo (and_then y (λ ms r₃ p₃. found (enumeration n t ms) r₃ p₃)) v.next
+            → Agrees (and_then y (λ ms r₃ p₃. found (enumeration n t ms) r₃ p₃)) a b at x
+        of_values t (found ms r p) g = unfold and_then in field-agrees (enumeration n t ms) r p n false a b at v.next x (enumeration-field n t ms) (unfold PassesTo and_then in g) v.agrees
+        of_values t bad g = unfold and_then Agrees in tt
 
-  -- an enumeration ends where its field's answer says
-  pub type-enumeration : (x : Agreed) {n k : ℕ} → e ≡ Enumeration n k → AgreesEnumeration (33 - depth) table row n a b at x → AgreesAt (33 - depth) table pool row a b at x
-  unfolding from_entry
-  type-enumeration x {n = n} {k = k} h v =
-      let j : 33 - depth ≡ suc (32 - depth) = omega arith in
-      record { agrees = λ p. rw j (claim_of-type table pool row p (λ (y : Found Datatype). PassesTo y v.next → Agrees y a b at x) (λ g. unfold Agrees in tt) (32 - depth) e (says.is pool p) (λ q. rw h (of-base p)) (rw j at (v.passes.passes pool p))) }
-    where
-      of_values : (t : Datatype) (y : Found (List EnumMember)) → PassesTo (and_then y (λ ms r₃ p₃. found (enumeration n t ms) r₃ p₃)) v.next
-          → Agrees (and_then y (λ ms r₃ p₃. found (enumeration n t ms) r₃ p₃)) a b at x
-      of_values t (found ms r p) g = unfold and_then in field-agrees (enumeration n t ms) r p n false a b at v.next x (enumeration-field n t ms) (unfold PassesTo and_then in g) v.agrees
-      of_values t bad g = unfold and_then Agrees in tt
+        of-names : (t : Datatype) (y : Found (List (List ℕ × ℕ))) → PassesTo (and_then y (λ ns r₂ p₂. and_then (enum_values_at pool ns r₂ p₂) (λ ms r₃ p₃. found (enumeration n t ms) r₃ p₃))) v.next
+            → Agrees (and_then y (λ ns r₂ p₂. and_then (enum_values_at pool ns r₂ p₂) (λ ms r₃ p₃. found (enumeration n t ms) r₃ p₃))) a b at x
+        of-names t (found ns r p) g = unfold and_then in of_values t (enum_values_at pool ns r p) (unfold and_then in g)
+        of-names t bad g = unfold and_then Agrees in tt
 
-      of-names : (t : Datatype) (y : Found (List (List ℕ × ℕ))) → PassesTo (and_then y (λ ns r₂ p₂. and_then (enum_values_at pool ns r₂ p₂) (λ ms r₃ p₃. found (enumeration n t ms) r₃ p₃))) v.next
-          → Agrees (and_then y (λ ns r₂ p₂. and_then (enum_values_at pool ns r₂ p₂) (λ ms r₃ p₃. found (enumeration n t ms) r₃ p₃))) a b at x
-      of-names t (found ns r p) g = unfold and_then in of_values t (enum_values_at pool ns r p) (unfold and_then in g)
-      of-names t bad g = unfold and_then Agrees in tt
+        of_types : (y : Found Datatype)
+            → PassesTo (and_then y (λ t r₁ p₁. and_then (enum_names_at table pool k r₁ p₁) (λ ns r₂ p₂. and_then (enum_values_at pool ns r₂ p₂) (λ ms r₃ p₃. found (enumeration n t ms) r₃ p₃)))) v.next
+            → Agrees (and_then y (λ t r₁ p₁. and_then (enum_names_at table pool k r₁ p₁) (λ ns r₂ p₂. and_then (enum_values_at pool ns r₂ p₂) (λ ms r₃ p₃. found (enumeration n t ms) r₃ p₃)))) a b at x
+        of_types (found t r p) g = unfold and_then in of-names t (enum_names_at table pool k r p) (unfold and_then in g)
+        of_types bad g = unfold and_then Agrees in tt
 
-      of_types : (y : Found Datatype)
-          → PassesTo (and_then y (λ t r₁ p₁. and_then (enum_names_at table pool k r₁ p₁) (λ ns r₂ p₂. and_then (enum_values_at pool ns r₂ p₂) (λ ms r₃ p₃. found (enumeration n t ms) r₃ p₃)))) v.next
-          → Agrees (and_then y (λ t r₁ p₁. and_then (enum_names_at table pool k r₁ p₁) (λ ns r₂ p₂. and_then (enum_values_at pool ns r₂ p₂) (λ ms r₃ p₃. found (enumeration n t ms) r₃ p₃)))) a b at x
-      of_types (found t r p) g = unfold and_then in of-names t (enum_names_at table pool k r p) (unfold and_then in g)
-      of_types bad g = unfold and_then Agrees in tt
+        of-base : (p : ℕ) → PassesTo (from_entry (type_at (32 - depth) table pool) table pool row p (Some (Enumeration n k))) v.next
+            → Agrees (from_entry (type_at (32 - depth) table pool) table pool row p (Some (Enumeration n k))) a b at x
+        of-base p g = of_types (type_at (32 - depth) table pool (suc row) p) g
 
-      of-base : (p : ℕ) → PassesTo (from_entry (type_at (32 - depth) table pool) table pool row p (Enumeration n k)) v.next
-          → Agrees (from_entry (type_at (32 - depth) table pool) table pool row p (Enumeration n k)) a b at x
-      of-base p g = of_types (type_at (32 - depth) table pool (suc row) p) g
+    pub type-array : (x : Agreed) {k : ℕ} → e ≡ Array k → AgreesArray (32 - depth) table pool row k a b at x → AgreesAt (33 - depth) table pool row a b at x
+    type-array x h v = by_row x (i ∙ ap Some h) (λ p q. v.agrees p q)
 
-  pub type-array : (x : Agreed) {k : ℕ} → e ≡ Array k → AgreesArray (32 - depth) table pool row k a b at x → AgreesAt (33 - depth) table pool row a b at x
-  type-array x h v = by_row x h (λ p q. v.agrees p q)
-
-  pub type-compound : (x : Agreed) {n k : ℕ} → e ≡ Compound n k → AgreesMembers (32 - depth) table pool k (row + 1) a b at x → AgreesAt (33 - depth) table pool row a b at x
-  unfolding from_entry
-  type-compound x {n = n} {k = k} h v = by_row x h (λ p q. go (members_at (type_at (32 - depth) table pool) table pool k (suc row) p) (rw (add-one row) at (v.agrees p)))
-    where
-      go : (y : Found Members) → AgreesIn y a b at x → Agrees (and_then y (λ ms r' p'. found (compound n ms) r' p')) a b at x
-      go (found ms r p) w =
-          unfold and_then Agrees AgreesIn fields_of type_size_of in
-          λ d l. w n (unfold first_zero outside heap_held in record { sized = (or_else_none _ _ d.sized).1; inside = d.inside; plain = d.plain }) l
-      go bad w = unfold and_then Agrees in tt
+    pub type-compound : (x : Agreed) {n k : ℕ} → e ≡ Compound n k → AgreesMembers (32 - depth) table pool k (row + 1) a b at x → AgreesAt (33 - depth) table pool row a b at x
+    unfolding from_entry
+    type-compound x {n = n} {k = k} h v = by_row x (i ∙ ap Some h) (λ p q. go (members_at (type_at (32 - depth) table pool) table pool k (suc row) p) (rw (add-one row) at (v.agrees p)))
+      where
+        go : (y : Found Members) → AgreesIn y a b at x → Agrees (and_then y (λ ms r' p'. found (compound n ms) r' p')) a b at x
+        go (found ms r p) w =
+            unfold and_then Agrees AgreesIn fields_of type_size_of in
+            λ d l. w n (unfold first_zero outside heap_held in record { sized = (or_else_none _ _ d.sized).1; inside = d.inside; plain = d.plain }) l
+        go bad w = unfold and_then Agrees in tt
 
 -- ---- an array, by its base
 
@@ -209,19 +211,23 @@ module _ (table pool : List ℕ) (depth row k : ℕ) where
       let j : 32 - depth ≡ 0 = omega arith in
       record { agrees = λ p q. rw j (unfold from_entry type_at and_then Agrees in tt) }
 
-  module _ {y : Based} (g : BaseIn table pool row k (32 - depth) y) where
-    pub array-lost : (a b : List ℕ) (at : ℕ) (x : Agreed) → y ≡ BasedLost → AgreesArray (32 - depth) table pool row k a b at x
+  module _ {y : Option Base} (g : BaseIn table pool row k (32 - depth) y) where
+    pub array-lost : (a b : List ℕ) (at : ℕ) (x : Agreed) → y ≡ None → AgreesArray (32 - depth) table pool row k a b at x
     unfolding BaseIn
     array-lost a b at x u = rw u at g a b at x
 
-    module _ {v : Base} (u : y ≡ BasedAt v) where
+    module _ {v : Base} (u : y ≡ Some v) where
       base-is : BaseIs table pool row k (32 - depth) v
       unfolding BaseIn
       base-is = rw u at g
 
-      pub array-of-field : (a b : List ℕ) (at next : ℕ) (x : Agreed) {c : Bool} (i : Entry) → RowSays table (row + 1) i → c ≡ is_field_of i → c ≡ true → PassesType (32 - depth) table (row + 1) next
+      pub array-of-field : (a b : List ℕ) (at next : ℕ) (x : Agreed) {c : Bool} {o : Option Entry} (i : Entry) → RowSays table (row + 1) o → o ≡ Some i → c ≡ is_field_of i → c ≡ true → PassesType (32 - depth) table (row + 1) next
           → AgreesFields (is_string_of i) v a b at next x → AgreesArray (32 - depth) table pool row k a b at x
-      array-of-field a b at next x i n f w q z = base-is.fields i n (sym f ∙ w) a b at next x q z
+      array-of-field a b at next x i n s f w q z = base-is.fields i (rw s at n) (sym f ∙ w) a b at next x q z
+
+      -- where the base's row is of no type there is no base
+      pub array-unknown : (a b : List ℕ) (at : ℕ) (x : Agreed) {o : Option Entry} → RowSays table (row + 1) o → o ≡ None → AgreesArray (32 - depth) table pool row k a b at x
+      array-unknown a b at x says e = base-is.each a b at x (record { agrees = λ p. rw (untyped table pool (row + 1) (32 - depth) says e p) (unfold AgreesEach in tt) })
 
       pub array-entries : (a b : List ℕ) (at : ℕ) (x : Agreed) {path : Path} (inner : Path) → path.depth ≡ depth → Entered path (row + 1) inner → depth < 32
           → AgreesEntries (33 - inner.depth) table pool (top_of inner) v.stride v.count a b at x → AgreesArray (32 - depth) table pool row k a b at x
@@ -235,20 +241,23 @@ module _ (table pool : List ℕ) (depth row k : ℕ) where
 pub standing-entered : {a b : List ℕ} {at row : ℕ} {path : Path} (inner : Path) → Entered path row inner → path.depth < 32 → at ≤ length a → length b ≡ length a → Standing inner a b at
 standing-entered inner e h s l = let d = e.deeper in record { deep = omega arith; shallow = omega arith; begins = s; lengths = l }
 
-pub says-entered : {table : List ℕ} {row : ℕ} {path : Path} {e : Entry} (inner : Path) → Entered path row inner → RowSays table row e → RowSays table (top_of inner) e
-says-entered inner h s = rw h.top s
+pub says-entered : {table : List ℕ} {row : ℕ} {path : Path} {o : Option Entry} {e : Entry} (inner : Path) → Entered path row inner → RowSays table row o → o ≡ Some e → RowSays table (top_of inner) (Some e)
+says-entered inner h s i = rw h.top (rw i at s)
 
 module _ (table pool : List ℕ) (depth row : ℕ) (a b : List ℕ) (at : ℕ) (x : Agreed) where
-  module _ {e : Entry} (d : depth < 32) (says : RowSays table row e) where
+  module _ {o : Option Entry} {e : Entry} (d : depth < 32) (says : RowSays table row o) (i : o ≡ Some e) where
     pub member-leaf : {k n l y : ℕ} → e ≡ Leaf k n l y → AgreesField n (nul_terminated_of k y) a b at (row + 1) x → AgreesAt (32 - depth) table pool row a b at x
     member-leaf h v =
-        let i : 33 - (depth + 1) ≡ 32 - depth = omega arith in
-        rw i at (type-leaf table pool (depth + 1) row a b at (omega arith) says x h v)
+        let j : 33 - (depth + 1) ≡ 32 - depth = omega arith in
+        rw j at (type-leaf table pool (depth + 1) row a b at (omega arith) says i x h v)
 
     pub member-enumeration : {n k : ℕ} → e ≡ Enumeration n k → AgreesEnumeration (32 - depth) table row n a b at x → AgreesAt (32 - depth) table pool row a b at x
     member-enumeration h v =
-        let i : 33 - (depth + 1) ≡ 32 - depth = omega arith in
-        rw i at (type-enumeration table pool (depth + 1) row a b at (omega arith) says x h (rw i v))
+        let j : 33 - (depth + 1) ≡ 32 - depth = omega arith in
+        rw j at (type-enumeration table pool (depth + 1) row a b at (omega arith) says i x h (rw j v))
+
+  pub member_unknown : {o : Option Entry} → RowSays table row o → o ≡ None → AgreesAt (32 - depth) table pool row a b at x
+  member_unknown says h = record { agrees = λ p. rw (untyped table pool row (32 - depth) says h p) (unfold Agrees in tt) }
 
   pub member-entered : {path : Path} (inner : Path) → path.depth ≡ depth → depth < 32 → Entered path row inner → AgreesAt (33 - inner.depth) table pool (top_of inner) a b at x
       → AgreesAt (32 - depth) table pool row a b at x

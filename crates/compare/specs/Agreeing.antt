@@ -1,27 +1,21 @@
 -- What the walk over fields answers of a type that is found; and the answer of `same`.
-use Rattle.std.specs.Prelude.{ℕ, zero, suc, ◌+◌, ◌*◌, ◌<◌, ◌≤◌, ◌≡◌, Bool, true, false, ◌&&◌, List, [], ◌∷◌, length, get_or, eqb}
+use Rattle.std.specs.Prelude.{ℕ, zero, suc, ◌+◌, ◌*◌, ◌<◌, ◌≤◌, ◌≡◌, Bool, true, false, ◌&&◌, List, [], ◌∷◌, length, get_or, eqb, Option, Some, None, Result, Ok, Err}
 use Rattle.std.proofs.Math.Option.{none}
-use Rattle.refusal.specs.Refusal.{number_of, values_of}
+use Rattle.refusal.specs.declared.Refusal.{Refusal}
 use Rattle.format.specs.Datatype.{Datatype, Members, type_size_of}
-use Rattle.format.specs.Outcome.{Outcome, gives, refuses, outcome_number, outcome_values}
+use Rattle.format.specs.Outcome.{Outcome, gives, Answers}
 use Rattle.format.specs.Image.{Field, move_fields, field_entries, fields_of, member_fields, FieldsAgree, FieldsDiffer}
 use Rattle.format.specs.Ownership.{outside, member_outside, heap_held, member_heap_held}
 use Rattle.format.specs.Slots.{first_zero, member_first_zero}
 use Rattle.format.specs.Table.{Found, found, bad, type_at, type_of, members_at}
 use Rattle.rows.specs.Entries.{entry_at, RowSays, from_entry}
 use Rattle.rows.specs.declared.Entry.{Entry}
-use Rattle.rows.specs.declared.Entry.TheVariants.{Leaf, Compound, Enumeration, VariableLength, Array, Unknown}
+use Rattle.rows.specs.declared.Entry.TheVariants.{Leaf, Compound, Enumeration, VariableLength, Array}
 use Rattle.table.specs.Known.{PassesType}
 use Rattle.table.specs.declared.Path.{Path}
-use Rattle.compare.specs.declared.Admission.{Admission}
-use Rattle.compare.specs.declared.Admission.TheVariants.{Size, Refused as AdmissionRefused}
-use Rattle.compare.specs.declared.Agreed.{Agreed}
-use Rattle.compare.specs.declared.Agreed.TheVariants.{Apart, Together, Lost}
 use Rattle.compare.specs.declared.Base.{Base}
-use Rattle.compare.specs.declared.Based.{Based}
-use Rattle.compare.specs.declared.Based.TheVariants.{At as BasedAt, Lost as BasedLost}
-use Rattle.compare.specs.declared.Comparison.{Comparison}
-use Rattle.compare.specs.declared.Comparison.TheVariants.{Same, Differs, Refused}
+use Rattle.compare.specs.declared.Disagreement.{Disagreement}
+use Rattle.compare.specs.declared.Disagreement.TheVariants.{Apart, Lost}
 
 -- the path has a row at its end, and a record begins within two of the same length
 pub record Standing (path : Path) (a b : List ℕ) (at : ℕ) : Type 0 where
@@ -56,7 +50,6 @@ is_field_of (Compound n k) = false
 is_field_of (Enumeration n k) = true
 is_field_of (VariableLength i p c) = false
 is_field_of (Array k) = false
-is_field_of Unknown = false
 
 -- the row's type is a NUL-terminated string
 unfoldable pub is_string_of : Entry → Bool
@@ -65,7 +58,6 @@ is_string_of (Compound n k) = false
 is_string_of (Enumeration n k) = false
 is_string_of (VariableLength i p c) = false
 is_string_of (Array k) = false
-is_string_of Unknown = false
 
 -- "A type is admitted to comparison": it has no size 0, nothing outside and nothing heap-held
 pub record Admitted (t : Datatype) : Type 0 where
@@ -86,26 +78,30 @@ pub record Admits (table pool : List ℕ) (size : ℕ) : Type 0 where
   pub admitted : Admitted type
   pub size_is : size ≡ type_size_of type
 
+-- what a walk over fields answers: the next row where they agree, or why not
+abbrev pub Agreed : Type 0
+Agreed = Result ℕ Disagreement
+
 -- by what is answered of fields, and the next row; never lost
-pub record Answers (fs : List Field) (a b : List ℕ) (next : ℕ) (x : Agreed) : Type 0 where
-  pub together : (s : ℕ) → x ≡ Together s → FieldsAgree fs a b × (s ≡ next)
-  pub apart : x ≡ Apart → FieldsDiffer fs a b
-  pub kept : x ≡ Lost → ⊥
+pub record AnswersFields (fs : List Field) (a b : List ℕ) (next : ℕ) (x : Agreed) : Type 0 where
+  pub together : (s : ℕ) → x ≡ Ok s → FieldsAgree fs a b × (s ≡ next)
+  pub apart : x ≡ Err Apart → FieldsDiffer fs a b
+  pub kept : x ≡ Err Lost → ⊥
 
 -- of an admitted type whose record lies within both
 unfoldable pub Agrees : Found Datatype → (a b : List ℕ) (at : ℕ) → Agreed → Type 0
-Agrees (found t r p) a b at x = Admitted t → at + type_size_of t ≤ length a → Answers (move_fields at (fields_of t)) a b r x
+Agrees (found t r p) a b at x = Admitted t → at + type_size_of t ≤ length a → AnswersFields (move_fields at (fields_of t)) a b r x
 Agrees bad a b at x = Unit {0}
 
 -- of the members of an admitted compound, whatever its size
 unfoldable pub AgreesIn : Found Members → (a b : List ℕ) (at : ℕ) → Agreed → Type 0
-AgreesIn (found ms r p) a b at x = (n : ℕ) → AdmittedIn n ms → at + n ≤ length a → Answers (move_fields at (member_fields ms)) a b r x
+AgreesIn (found ms r p) a b at x = (n : ℕ) → AdmittedIn n ms → at + n ≤ length a → AnswersFields (move_fields at (member_fields ms)) a b r x
 AgreesIn bad a b at x = Unit {0}
 
 -- of n entries of an admitted base, its size apart
 unfoldable pub AgreesEach : Found Datatype → (stride n : ℕ) (a b : List ℕ) (at : ℕ) → Agreed → Type 0
 AgreesEach (found t r p) stride n a b at x =
-    Admitted t → stride ≡ type_size_of t → 0 < n → at + n * stride ≤ length a → Answers (move_fields at (field_entries stride (fields_of t) 0 n)) a b r x
+    Admitted t → stride ≡ type_size_of t → 0 < n → at + n * stride ≤ length a → AnswersFields (move_fields at (field_entries stride (fields_of t) 0 n)) a b r x
 AgreesEach bad stride n a b at x = Unit {0}
 
 -- The same of what is found at a row, wherever its pool bytes begin.
@@ -120,7 +116,7 @@ pub record AgreesEntries (levels : ℕ) (table pool : List ℕ) (row stride n : 
 
 -- of an array's row, with so many levels left below it
 pub record AgreesArray (levels : ℕ) (table pool : List ℕ) (row rank : ℕ) (a b : List ℕ) (at : ℕ) (x : Agreed) : Type 0 where
-  pub agrees : (p : ℕ) → Array rank ≡ entry_at table pool row p → Agrees (from_entry (type_at levels table pool) table pool row p (Array rank)) a b at x
+  pub agrees : (p : ℕ) → Some (Array rank) ≡ entry_at table pool row p → Agrees (from_entry (type_at levels table pool) table pool row p (Some (Array rank))) a b at x
 
 -- a field of n bytes at a place
 abbrev pub field_at : (at n : ℕ) (ended : Bool) → Field
@@ -128,11 +124,11 @@ field_at at n e = record { place = at; size = n; ended = e }
 
 -- of one field
 unfoldable pub AgreesField : (n : ℕ) (ended : Bool) (a b : List ℕ) (at next : ℕ) → Agreed → Type 0
-AgreesField n e a b at next x = at + n ≤ length a → Answers (field_at at n e ∷ []) a b next x
+AgreesField n e a b at next x = at + n ≤ length a → AnswersFields (field_at at n e ∷ []) a b next x
 
 -- of so many strings of n bytes, one behind the other
 unfoldable pub AgreesStrings : (n count : ℕ) (a b : List ℕ) (at next : ℕ) → Agreed → Type 0
-AgreesStrings n count a b at next x = at + count * n ≤ length a → Answers (move_fields at (field_entries n (field_at 0 n true ∷ []) 0 count)) a b next x
+AgreesStrings n count a b at next x = at + count * n ≤ length a → AnswersFields (move_fields at (field_entries n (field_at 0 n true ∷ []) 0 count)) a b next x
 
 -- of a string of n bytes
 pub record StringSame (a b : List ℕ) (at n : ℕ) (r : Bool) : Type 0 where
@@ -152,43 +148,19 @@ AgreesFields false v a b at next x = AgreesField v.bytes false a b at next x
 
 -- what an array's base, with so many levels left below the array, gives for its fields: at once where it is a field, or entry by entry
 pub record BaseIs (table pool : List ℕ) (row rank levels : ℕ) (v : Base) : Type 0 where
-  pub fields : (e : Entry) → RowSays table (row + 1) e → is_field_of e ≡ true → (a b : List ℕ) (at next : ℕ) (x : Agreed) → PassesType levels table (row + 1) next → AgreesFields (is_string_of e) v a b at next x
+  pub fields : (e : Entry) → RowSays table (row + 1) (Some e) → is_field_of e ≡ true → (a b : List ℕ) (at next : ℕ) (x : Agreed) → PassesType levels table (row + 1) next → AgreesFields (is_string_of e) v a b at next x
       → AgreesArray levels table pool row rank a b at x
   pub each : (a b : List ℕ) (at : ℕ) (x : Agreed) → AgreesEntries levels table pool (row + 1) v.stride v.count a b at x → AgreesArray levels table pool row rank a b at x
 
-unfoldable pub BaseIn : (table pool : List ℕ) (row rank levels : ℕ) → Based → Type 0
-BaseIn table pool row rank levels (BasedAt v) = BaseIs table pool row rank levels v
-BaseIn table pool row rank levels BasedLost = (a b : List ℕ) (at : ℕ) (x : Agreed) → AgreesArray levels table pool row rank a b at x
-
--- the answer of `admit` that the definition's is
-unfoldable pub admission_of : Outcome ℕ → Admission
-admission_of (gives n) = Size n
-admission_of (refuses e) = AdmissionRefused e
-
--- Document 01's number and values of an answer of `same`: 0 and 0 for same, 0 and 1 for differs, or the refusal's
-unfoldable pub comparison_number : Comparison → ℕ
-comparison_number Same = 0
-comparison_number Differs = 0
-comparison_number (Refused e) = number_of e
-
-unfoldable pub comparison_values : Comparison → List ℕ
-comparison_values Same = 0 ∷ []
-comparison_values Differs = 1 ∷ []
-comparison_values (Refused e) = values_of e
-
--- the answer that the definition's is
-unfoldable pub comparison_of : Outcome Bool → Comparison
-comparison_of (gives true) = Same
-comparison_of (gives false) = Differs
-comparison_of (refuses e) = Refused e
+unfoldable pub BaseIn : (table pool : List ℕ) (row rank levels : ℕ) → Option Base → Type 0
+BaseIn table pool row rank levels (Some v) = BaseIs table pool row rank levels v
+BaseIn table pool row rank levels None = (a b : List ℕ) (at : ℕ) (x : Agreed) → AgreesArray levels table pool row rank a b at x
 
 -- 0 for same, 1 for differs
 unfoldable pub same_or_differs : Bool → List ℕ
 same_or_differs true = 0 ∷ []
 same_or_differs false = 1 ∷ []
 
--- `same`: the answer by the definition's outcome
-pub record Compares (o : Outcome Bool) (r : Comparison) : Type 0 where
-  pub answer : r ≡ comparison_of o
-  pub number : comparison_number r ≡ outcome_number o
-  pub values : comparison_values r ≡ outcome_values same_or_differs o
+-- `same`: the answer by the definition's outcome, with Document 01's number and values: 0 and 0 for same, 0 and 1 for differs, or the refusal's
+abbrev pub Compares : Outcome Bool → Result Bool Refusal → Type 0
+Compares o r = Answers (λ x. x) same_or_differs o r

@@ -1,24 +1,23 @@
 // Whether two records are the same: they agree on each byte that a field owns, as it is taken.
 #![tactic(auto)]
 
-ghost use Rattle.std.specs.Prelude.{◌≡◌, true, false, not, ◌+◌, ◌*◌, ◌-◌, ◌≤◌, ◌<◌, length};
+ghost use Rattle.std.specs.Prelude.{◌≡◌, true, false, not, ℕ, ◌+◌, ◌*◌, ◌-◌, ◌≤◌, ◌<◌, length};
 ghost use Rattle.format.specs.Image.{no_nul_between};
-ghost use Rattle.format.specs.Outcome.{gives};
+ghost use Rattle.format.specs.Outcome.{gives, answer_of};
 ghost use Rattle.format.specs.Ownership.{admission, comparing};
 ghost use Rattle.rows.specs.Entries.{RowSays};
 ghost use Rattle.table.specs.Path.{top_of};
 ghost use Rattle.table.specs.Survey.{Sets};
-ghost use Rattle.compare.specs.Agreeing.{equal_range_of, Equal, Common, nul_terminated_of, is_field_of, is_string_of, Standing, AgreesAt, AgreesArray, AgreesMembers, AgreesEntries, AgreesEnumeration, AgreesField, AgreesStrings, AgreesFields, StringSame, BaseIn, Admits, admission_of, Compares};
+ghost use Rattle.compare.specs.Agreeing.{equal_range_of, Equal, Common, nul_terminated_of, is_field_of, is_string_of, Standing, AgreesAt, AgreesArray, AgreesMembers, AgreesEntries, AgreesEnumeration, AgreesField, AgreesStrings, AgreesFields, StringSame, BaseIn, Admits, Compares};
 
 use refusal::Refusal;
-use rows::{Entry, Member, row_entry, row_member};
-use table::{Checked, Path, Survey, array_total, check, enter, next_row, size_at};
+use rows::{Entry, row_entry, row_member};
+use table::{Path, Survey, array_total, check, enter, next_row, size_at};
 
-// What a walk over a type's fields finds: two bytes of a field differ, or none do, with the next row.
-#[derive(Clone, Copy)]
-pub enum Agreed {
+// Why a walk over a type's fields stops: two bytes of a field differ, or the table has no type there, or the records no room for it.
+#[derive(Clone, Copy, Debug, PartialEq, Eq)]
+pub enum Disagreement {
     Apart,
-    Together(usize),
     Lost,
 }
 
@@ -30,78 +29,25 @@ pub struct Base {
     pub count: usize,
 }
 
-// What is found of an array's base; Lost where there is none, or one of size 0.
-#[derive(Clone, Copy)]
-pub enum Based {
-    At(Base),
-    Lost,
-}
-
-// Whether a type is admitted to comparison: its size, or why not.
-#[derive(Clone, Copy)]
-pub enum Admission {
-    Size(u32),
-    Refused(Refusal),
-}
-
-// The answer of `same`.
-#[derive(Clone, Copy)]
-pub enum Comparison {
-    Same,
-    Differs,
-    Refused(Refusal),
-}
-
-// Whether the 128 bytes from `at` on are equal: without leaving early, so that they are compared side by side.
-fn equal_block(a: &[u8], b: &[u8], at: usize) -> bool
-    requires { (at + 128 ≤ length a.now) × (at + 128 ≤ length b.now) }
-    ensures { result ≡ equal_range_of a.now b.now at 128 }
-{
-    let mut all: u8 = 0;
-    let mut i = 0;
-    while i < 128 {
-        all = all | (a[at + i] ^ b[at + i]);
-        i += 1;
-    }
-    all == 0
-}
-
 // Whether n bytes from `at` on are equal.
 pub fn equal_range(a: &[u8], b: &[u8], at: usize, n: usize) -> bool
     requires { (at + n ≤ length a.now) × (at + n ≤ length b.now) }
     ensures { result ≡ equal_range_of a.now b.now at n }
 {
-    let mut i = 0;
-    while 128 <= n - i {
-        if equal_block(a, b, at + i) {
-            i += 128;
-        } else {
-            return false;
-        }
-    }
-    while i < n {
-        if a[at + i] != b[at + i] {
-            return false;
-        }
-        i += 1;
-    }
-    true
+    a[at..at + n] == b[at..at + n]
 }
 
-// How many of n bytes from `at` on are equal, looking at whole blocks only: the first that is not ends it.
+// How many of n bytes from `at` on are equal, looking at whole blocks of 128 bytes only: the first that is not ends it.
 fn equal_blocks(a: &[u8], b: &[u8], at: usize, n: usize) -> usize
     requires { (at + n ≤ length a.now) × (at + n ≤ length b.now) }
     ensures { Equal a.now b.now at n result }
 {
-    let mut i = 0;
-    while 128 <= n - i {
-        if equal_block(a, b, at + i) {
-            i += 128;
-        } else {
-            return i;
+    for i in 0..n / 128 {
+        if !equal_range(a, b, at + i * 128, 128) {
+            return i * 128;
         }
     }
-    i
+    n / 128 * 128
 }
 
 // How many of n bytes from `at` on are equal, up to the first that differs.
@@ -109,12 +55,10 @@ fn common(a: &[u8], b: &[u8], at: usize, n: usize) -> usize
     requires { (at + n ≤ length a.now) × (at + n ≤ length b.now) }
     ensures { Common a.now b.now at n result }
 {
-    let mut i = equal_blocks(a, b, at, n);
-    while i < n {
+    for i in equal_blocks(a, b, at, n)..n {
         if a[at + i] != b[at + i] {
             return i;
         }
-        i += 1;
     }
     n
 }
@@ -124,9 +68,7 @@ pub fn has_nul(s: &[u8], at: usize, n: usize) -> bool
     requires { at + n ≤ length s.now }
     ensures { result ≡ not (no_nul_between s.now at (at + n)) }
 {
-    let mut i = at + n;
-    while i > at {
-        i -= 1;
+    for i in (at..at + n).rev() {
         if s[i] == 0 {
             return true;
         }
@@ -147,17 +89,17 @@ pub fn equal_string(a: &[u8], b: &[u8], at: usize, n: usize) -> bool
 }
 
 // A field of n bytes from `at` on that counts whole.
-fn agree_field(a: &[u8], b: &[u8], at: usize, n: usize, next: usize) -> Agreed
+fn agree_field(a: &[u8], b: &[u8], at: usize, n: usize, next: usize) -> Result<usize, Disagreement>
     requires { (at ≤ length a.now) × (length b.now ≡ length a.now) }
     ensures { AgreesField n false a.now b.now at next result }
 {
     if a.len() - at < n {
-        return Agreed::Lost;
+        return Err(Disagreement::Lost);
     }
     if equal_range(a, b, at, n) {
-        Agreed::Together(next)
+        Ok(next)
     } else {
-        Agreed::Apart
+        Err(Disagreement::Apart)
     }
 }
 
@@ -165,10 +107,7 @@ fn agree_field(a: &[u8], b: &[u8], at: usize, n: usize, next: usize) -> Agreed
 pub fn nul_terminated(class: u32, code: u32) -> bool
     ensures { result ≡ nul_terminated_of class code }
 {
-    if class != 3 {
-        return false;
-    }
-    code == 0
+    class == 3 && code == 0
 }
 
 // A leaf of a size, a class and a code, from `at` on. What it is matters only where its bytes differ.
@@ -180,45 +119,47 @@ fn agree_leaf(
     class: u32,
     code: u32,
     next: usize,
-) -> Agreed
+) -> Result<usize, Disagreement>
     requires { (at ≤ length a.now) × (length b.now ≡ length a.now) }
     ensures { AgreesField size (nul_terminated_of class code) a.now b.now at next result }
 {
     let n = size as usize;
     if a.len() - at < n {
-        return Agreed::Lost;
+        return Err(Disagreement::Lost);
     }
     let equal = common(a, b, at, n);
     if equal == n {
-        return Agreed::Together(next);
+        return Ok(next);
     }
-    if nul_terminated(class, code) {
-        if has_nul(a, at, equal) {
-            return Agreed::Together(next);
-        }
+    if nul_terminated(class, code) && has_nul(a, at, equal) {
+        return Ok(next);
     }
-    Agreed::Apart
+    Err(Disagreement::Apart)
 }
 
 // So many strings of n bytes, one behind the other from `at` on, each of which ends at its own first NUL.
-fn agree_strings(a: &[u8], b: &[u8], at: usize, n: usize, count: usize, next: usize) -> Agreed
+fn agree_strings(
+    a: &[u8],
+    b: &[u8],
+    at: usize,
+    n: usize,
+    count: usize,
+    next: usize,
+) -> Result<usize, Disagreement>
     requires { (at ≤ length a.now) × (length b.now ≡ length a.now) }
     ensures { AgreesStrings n count a.now b.now at next result }
 {
     let mut start = at;
-    let mut done: usize = 0;
-    while done < count {
+    for _ in 0..count {
         if a.len() - start < n {
-            return Agreed::Lost;
+            return Err(Disagreement::Lost);
         }
-        if equal_string(a, b, start, n) {
-            start += n;
-            done += 1;
-        } else {
-            return Agreed::Apart;
+        if !equal_string(a, b, start, n) {
+            return Err(Disagreement::Apart);
         }
+        start += n;
     }
-    Agreed::Together(next)
+    Ok(next)
 }
 
 // An enumeration's row, with so many levels left: its own size counts, and its members are passed by their number.
@@ -230,7 +171,7 @@ fn agree_enumeration(
     a: &[u8],
     b: &[u8],
     at: usize,
-) -> Agreed
+) -> Result<usize, Disagreement>
     requires { (at ≤ length a.now) × (length b.now ≡ length a.now) }
     ensures { AgreesEnumeration levels table.now row size a.now b.now at result }
 {
@@ -242,14 +183,7 @@ fn agree_enumeration(
 pub fn is_field(entry: Entry) -> bool
     ensures { result ≡ is_field_of entry }
 {
-    match entry {
-        Entry::Leaf(_, _, _, _) => true,
-        Entry::Enumeration(_, _) => true,
-        Entry::Compound(_, _) => false,
-        Entry::VariableLength(_, _, _) => false,
-        Entry::Array(_) => false,
-        Entry::Unknown => false,
-    }
+    matches!(entry, Entry::Leaf(_, _, _, _) | Entry::Enumeration(_, _))
 }
 
 // Whether a row's type is a NUL-terminated string.
@@ -258,16 +192,19 @@ pub fn is_string(entry: Entry) -> bool
 {
     match entry {
         Entry::Leaf(class, _, _, code) => nul_terminated(class, code),
-        Entry::Enumeration(_, _) => false,
-        Entry::Compound(_, _) => false,
-        Entry::VariableLength(_, _, _) => false,
-        Entry::Array(_) => false,
-        Entry::Unknown => false,
+        _ => false,
     }
 }
 
 // An array of a field, of which `entry` is the row: strings each by itself, every other field as one range.
-fn agree_fields(a: &[u8], b: &[u8], at: usize, base: Base, entry: Entry, next: usize) -> Agreed
+fn agree_fields(
+    a: &[u8],
+    b: &[u8],
+    at: usize,
+    base: Base,
+    entry: Entry,
+    next: usize,
+) -> Result<usize, Disagreement>
     requires { (at ≤ length a.now) × (length b.now ≡ length a.now) }
     ensures { AgreesFields (is_string_of entry) base a.now b.now at next result }
 {
@@ -277,17 +214,17 @@ fn agree_fields(a: &[u8], b: &[u8], at: usize, base: Base, entry: Entry, next: u
     agree_field(a, b, at, base.bytes, next)
 }
 
-// The base of an array at a row, with so many levels left below it: Lost where there is none, or one of size 0.
-fn array_base(table: &[u32], pool: &[u8], row: usize, rank: u32, levels: usize) -> Based
+// The base of an array at a row, with so many levels left below it: None where there is none, or one of size 0.
+fn array_base(table: &[u32], pool: &[u8], row: usize, rank: u32, levels: usize) -> Option<Base>
     requires { row * 16 + 16 ≤ length table.now }
     ensures { BaseIn table.now pool.now row rank levels result }
 {
     let size = size_at(table, pool, row + 1, levels);
     if size == 0 {
-        return Based::Lost;
+        return None;
     }
     let total = array_total(table, pool, row, rank, size);
-    Based::At(Base {
+    Some(Base {
         stride: size as usize,
         bytes: total as usize,
         count: (total / size as u64) as usize,
@@ -304,8 +241,8 @@ fn agree_type(
     a: &[u8],
     b: &[u8],
     at: usize,
-) -> Agreed
-    requires { Standing path a.now b.now at × RowSays table.now (top_of path) entry }
+) -> Result<usize, Disagreement>
+    requires { Standing path a.now b.now at × RowSays table.now (top_of path) (Some entry) }
     ensures { AgreesAt (33 - path.depth) table.now pool.now (top_of path) a.now b.now at result }
 {
     let depth = path.depth;
@@ -313,8 +250,7 @@ fn agree_type(
     let rows = path.rows;
     let row = rows[depth - 1];
     match entry {
-        Entry::Unknown => Agreed::Lost,
-        Entry::VariableLength(_, _, _) => Agreed::Lost,
+        Entry::VariableLength(_, _, _) => Err(Disagreement::Lost),
         Entry::Leaf(class, size, _, code) => agree_leaf(a, b, at, size, class, code, row + 1),
         Entry::Enumeration(size, _) => agree_enumeration(table, row, 33 - depth, size, a, b, at),
         Entry::Compound(_, count) => agree_members(table, pool, path, row + 1, count, a, b, at),
@@ -334,37 +270,27 @@ fn agree_array(
     a: &[u8],
     b: &[u8],
     at: usize,
-) -> Agreed
+) -> Result<usize, Disagreement>
     requires { Standing path a.now b.now at × (row * 16 + 16 ≤ length table.now) }
     ensures { AgreesArray (32 - path.depth) table.now pool.now row rank a.now b.now at result }
 {
     let depth = path.depth;
     if depth >= 32 {
-        return Agreed::Lost;
+        return Err(Disagreement::Lost);
     }
-    let based = array_base(table, pool, row, rank, 32 - depth);
-    match based {
-        Based::Lost => Agreed::Lost,
-        Based::At(base) => {
-            let below = row + 1;
-            let entry = row_entry(table, below);
-            if is_field(entry) {
-                let next = next_row(table, below, 32 - depth);
-                return agree_fields(a, b, at, base, entry, next);
-            }
-            agree_entries(
-                table,
-                pool,
-                enter(path, below),
-                entry,
-                a,
-                b,
-                at,
-                base.stride,
-                base.count,
-            )
-        }
+    let Some(base) = array_base(table, pool, row, rank, 32 - depth) else {
+        return Err(Disagreement::Lost);
+    };
+    let below = row + 1;
+    let Some(entry) = row_entry(table, below) else {
+        return Err(Disagreement::Lost);
+    };
+    if is_field(entry) {
+        let next = next_row(table, below, 32 - depth);
+        return agree_fields(a, b, at, base, entry, next);
     }
+    let inner = enter(path, below);
+    agree_entries(table, pool, inner, entry, a, b, at, base.stride, base.count)
 }
 
 // The members of a compound whose record begins at `at`.
@@ -374,43 +300,30 @@ fn agree_members(
     pool: &[u8],
     path: Path,
     row: usize,
-    count: u32,
+    members: u32,
     a: &[u8],
     b: &[u8],
     at: usize,
-) -> Agreed
+) -> Result<usize, Disagreement>
     requires { Standing path a.now b.now at }
-    ensures { AgreesMembers (32 - path.depth) table.now pool.now count row a.now b.now at result }
+    ensures { AgreesMembers (32 - path.depth) table.now pool.now members row a.now b.now at result }
 {
     let depth = path.depth;
     let mut r = row;
-    let mut left = count;
-    while left > 0 {
+    for _ in 0..members {
         if depth >= 32 {
-            return Agreed::Lost;
+            return Err(Disagreement::Lost);
         }
-        let member = row_member(table, r);
-        let Member::Named(offset, _) = member else {
-            return Agreed::Lost;
+        let Some(member) = row_member(table, r) else {
+            return Err(Disagreement::Lost);
         };
-        if a.len() - at < offset as usize {
-            return Agreed::Lost;
+        let offset = member.number as usize;
+        if a.len() - at < offset {
+            return Err(Disagreement::Lost);
         }
-        let got = agree_member(table, pool, path, r + 1, a, b, at + offset as usize);
-        match got {
-            Agreed::Lost => {
-                return Agreed::Lost;
-            }
-            Agreed::Apart => {
-                return Agreed::Apart;
-            }
-            Agreed::Together(next) => {
-                r = next;
-                left -= 1;
-            }
-        }
+        r = agree_member(table, pool, path, r + 1, a, b, at + offset)?;
     }
-    Agreed::Together(r)
+    Ok(r)
 }
 
 // The fields of a member's type at a row, whose record begins at `at`. A field is compared here; only a type with fields below it is entered,
@@ -424,12 +337,14 @@ fn agree_member(
     a: &[u8],
     b: &[u8],
     at: usize,
-) -> Agreed
+) -> Result<usize, Disagreement>
     requires { (path.depth < 32) × ((at ≤ length a.now) × (length b.now ≡ length a.now)) }
     ensures { AgreesAt (32 - path.depth) table.now pool.now row a.now b.now at result }
 {
     let depth = path.depth;
-    let entry = row_entry(table, row);
+    let Some(entry) = row_entry(table, row) else {
+        return Err(Disagreement::Lost);
+    };
     match entry {
         Entry::Leaf(class, size, _, code) => agree_leaf(a, b, at, size, class, code, row + 1),
         Entry::Enumeration(size, _) => agree_enumeration(table, row, 32 - depth, size, a, b, at),
@@ -449,26 +364,20 @@ fn agree_entries(
     at: usize,
     stride: usize,
     count: usize,
-) -> Agreed
-    requires { Standing path a.now b.now at × RowSays table.now (top_of path) entry }
+) -> Result<usize, Disagreement>
+    requires { Standing path a.now b.now at × RowSays table.now (top_of path) (Some entry) }
     ensures { AgreesEntries (33 - path.depth) table.now pool.now (top_of path) stride count a.now b.now at result }
 {
     let mut start = at;
-    let mut done: usize = 0;
     let mut next: usize = 0;
-    while done < count {
+    for _ in 0..count {
         if a.len() - start < stride {
-            return Agreed::Lost;
+            return Err(Disagreement::Lost);
         }
-        let got = agree_type(table, pool, path, entry, a, b, start);
-        let Agreed::Together(row) = got else {
-            return got;
-        };
-        next = row;
+        next = agree_type(table, pool, path, entry, a, b, start)?;
         start += stride;
-        done += 1;
     }
-    Agreed::Together(next)
+    Ok(next)
 }
 
 // Whether two records are the same, of the size of a type that is admitted to comparison: the walk behind the check, for calls that compare many
@@ -485,71 +394,58 @@ pub fn same_records(table: &[u32], pool: &[u8], a: &[u8], b: &[u8]) -> bool
         rows: [0; 32],
         depth: 1,
     };
-    let entry = row_entry(table, 0);
-    let got = agree_type(table, pool, path, entry, a, b, 0);
-    match got {
-        Agreed::Together(_) => true,
-        Agreed::Apart => false,
-        Agreed::Lost => false,
-    }
+    let Some(entry) = row_entry(table, 0) else {
+        return false;
+    };
+    agree_type(table, pool, path, entry, a, b, 0).is_ok()
 }
 
 // The admission of a type that the check has surveyed.
-fn admit_surveyed(table: &[u32], pool: &[u8], s: Survey) -> Admission
+fn admit_surveyed(table: &[u32], pool: &[u8], s: Survey) -> Result<u32, Refusal>
     requires { Sets table.now pool.now s }
-    ensures { result ≡ admission_of (admission table.now pool.now) }
+    ensures { result ≡ answer_of (λ n. n) (admission table.now pool.now) }
 {
-    if s.zero != 0 {
-        return Admission::Refused(Refusal::ZeroSize((s.zero - 1) as u8));
+    if let Some(class) = s.zero {
+        return Err(Refusal::ZeroSize(class));
     }
     if s.outside {
-        return Admission::Refused(Refusal::OutsideRecord);
+        return Err(Refusal::OutsideRecord);
     }
     if s.heap {
-        return Admission::Refused(Refusal::HeapHeld);
+        return Err(Refusal::HeapHeld);
     }
-    Admission::Size(s.size)
+    Ok(s.size)
 }
 
 // Whether the type that a table and pool set out is admitted to comparison, and its size. Refused, in this order: BadTable, ZeroSize,
 // OutsideRecord, HeapHeld. Cost: the check, which tests each row and looks at the whole of the lent table and pool.
-pub fn admit(table: &[u32], pool: &[u8]) -> Admission
-    ensures { result ≡ admission_of (admission table.now pool.now) }
+pub fn admit(table: &[u32], pool: &[u8]) -> Result<u32, Refusal>
+    ensures { result ≡ answer_of (λ n. n) (admission table.now pool.now) }
 {
-    let checked = check(table, pool);
-    match checked {
-        Checked::Bad => Admission::Refused(Refusal::BadTable),
-        Checked::Good(s) => admit_surveyed(table, pool, s),
-    }
+    let Some(s) = check(table, pool) else {
+        return Err(Refusal::BadTable);
+    };
+    admit_surveyed(table, pool, s)
 }
 
 // Two records of an admitted type that has a size.
-fn same_sized(table: &[u32], pool: &[u8], a: &[u8], b: &[u8], size: u32) -> Comparison
+fn same_sized(table: &[u32], pool: &[u8], a: &[u8], b: &[u8], size: u32) -> Result<bool, Refusal>
     requires { Admits table.now pool.now size }
     ensures { Compares (comparing table.now pool.now a.now b.now) result }
 {
     let size = size as usize;
-    if a.len() != size {
-        return Comparison::Refused(Refusal::WrongLength);
+    if a.len() != size || b.len() != size {
+        return Err(Refusal::WrongLength);
     }
-    if b.len() != size {
-        return Comparison::Refused(Refusal::WrongLength);
-    }
-    if same_records(table, pool, a, b) {
-        return Comparison::Same;
-    }
-    Comparison::Differs
+    Ok(same_records(table, pool, a, b))
 }
 
 // Whether two records of the type that a table and pool set out agree on each byte that a field owns; behind the first NUL of a
 // NUL-terminated string a byte counts only if another field counts it. Refused, in this order: BadTable, ZeroSize, OutsideRecord, HeapHeld,
 // WrongLength. Cost: the check, which tests each row and looks at the whole of the lent table and pool, and then `same_records`.
-pub fn same(table: &[u32], pool: &[u8], a: &[u8], b: &[u8]) -> Comparison
+pub fn same(table: &[u32], pool: &[u8], a: &[u8], b: &[u8]) -> Result<bool, Refusal>
     ensures { Compares (comparing table.now pool.now a.now b.now) result }
 {
-    let admission = admit(table, pool);
-    match admission {
-        Admission::Refused(e) => Comparison::Refused(e),
-        Admission::Size(size) => same_sized(table, pool, a, b, size),
-    }
+    let size = admit(table, pool)?;
+    same_sized(table, pool, a, b, size)
 }

@@ -1,4 +1,5 @@
 -- `duplicates` and `duplicates_words`: one law for each way out.
+use Rattle.firsts.specs.declared.records.Records.{Records}
 use Prim.Native.Nat.{ℕ, ◌*◌, ◌/◌, ◌%◌, ◌<◌, ◌≤◌, min}
 use mathlib.Core.Path.{◌≡◌, refl, sym, ap, ◌∙◌}
 use mathlib.Core.Logic.{⊎_elim}
@@ -11,86 +12,97 @@ use lib.Dec.{ltb}
 use borrow.Author.Tests.{ltb-true, ltb-false}
 use Rattle.refusal.specs.declared.Refusal.{Refusal}
 use Rattle.refusal.specs.declared.Refusal.TheVariants.{WrongLength, NoRoom}
-use Rattle.format.specs.Outcome.{Outcome, gives, refuses, when_given, needed, output_after, outcome_number, outcome_values}
+use Rattle.format.specs.Outcome.{Outcome, gives, refuses, when_given, needed, output_after, answer_of}
 use Rattle.format.specs.Ownership.{admission}
 use Rattle.format.proofs.Booleans.{true_or_false}
-use Rattle.compare.specs.Agreeing.{Admits, admission_of}
-use Rattle.compare.specs.declared.Admission.{Admission}
-use Rattle.compare.specs.declared.Admission.TheVariants.{Refused as AdmissionRefused}
+use Rattle.format.proofs.Outcomes.{answers}
+use Rattle.compare.specs.Agreeing.{Admits}
 use Rattle.compare.proofs.Comparing.{refused-admission}
 use Rattle.groups.specs.Groups.{numbers_of, firsts_of, distinct_of, sizes_of}
-use Rattle.groups.specs.Duplicates.{Groups, keys_of, fields_in_of, groups_of, duplicating}
+use Rattle.groups.specs.Duplicates.{Groups as GroupLists, keys_of, fields_in_of, groups_of, duplicating}
 use Rattle.groups.proofs.Outcomes.{duplicating-refused, duplicating-length, duplicating-numbers, duplicating-sizes, duplicating-given}
 use Rattle.groups.proofs.Firsts.{length-numbers}
 use Rattle.groups.proofs.Keys.{length-keys}
 use Rattle.groups.proofs.Counts.{length-sizes, firsts_le}
-use Rattle.duplicates.specs.Answers.{duplicates_number, duplicates_values, groups_values, answer_of, numbers_given, sizes_given, fitting_answer, written, Listed, Answered, DuplicatesAre}
-use Rattle.firsts.specs.Records.{keys_in, Comparable}
-use Rattle.duplicates.specs.declared.outcome.Duplicates.{Duplicates}
-use Rattle.duplicates.specs.declared.outcome.Duplicates.TheVariants.{Found, Refused}
+use Rattle.duplicates.specs.Answers.{groups_told, groups_values, numbers_given, sizes_given, fitting_answer, written, Listed, Answered, DuplicatesAre}
+use Rattle.firsts.specs.Records.{both, keys_in, Comparable}
+use Rattle.duplicates.specs.declared.Groups.{Groups}
+use Rattle.std.specs.Prelude.{Result, Ok, Err}
 use Rattle.firsts.proofs.Compiling.{all_cleared}
 use Rattle.firsts.proofs.KeyLaws.{admits-some, admits-admission}
 
 -- ---- a refusal leaves both lists as they are
 
-pub record_refused : (o : Outcome Groups) (e : Refusal) (m s : List ℕ) → o ≡ refuses e → Answered o (Refused e) m m s s
-unfolding answer_of numbers_given sizes_given when_given output_after
+pub record_refused : (o : Outcome GroupLists) (e : Refusal) (m s : List ℕ) → o ≡ refuses e → Answered o (Err e) m m s s
+unfolding answer_of groups_told numbers_given sizes_given when_given output_after
 record_refused o e m s h = rw h (record { answer = refl; numbers-are = refl; sizes-are = refl })
 
-pub answer-refused : (table pool block m s : List ℕ) {x : Admission} → x ≡ admission_of (admission table pool) → (e : Refusal) → x ≡ AdmissionRefused e
-    → Answered (duplicating table pool block (length m) (length s)) (Refused e) m m s s
+pub answer-refused : (table pool block m s : List ℕ) {x : Result ℕ Refusal} → x ≡ answer_of (λ (n : ℕ). n) (admission table pool) → (e : Refusal) → x ≡ Err e
+    → Answered (duplicating table pool block (length m) (length s)) (Err e) m m s s
 answer-refused table pool block m s h e q =
     record_refused (duplicating table pool block (length m) (length s)) e m s (duplicating-refused table pool e (refused-admission table pool h e q) block (length m) (length s))
 
 -- ---- what is written, by the answer
 
-written-refused : (r : Duplicates) (e : Refusal) (x y : List ℕ) → r ≡ Refused e → written r x y ≡ y
+written-refused : (r : Result Groups Refusal) (e : Refusal) (x y : List ℕ) → r ≡ Err e → written r x y ≡ y
 unfolding written
 written-refused r e x y h = rw h
 
-written-found : (r : Duplicates) (n d : ℕ) (x y : List ℕ) → r ≡ Found n d → written r x y ≡ x ++ drop (length x) y
+written-found : (r : Result Groups Refusal) (n d : ℕ) (x y : List ℕ) → r ≡ Ok (record { records = n; distinct = d }) → written r x y ≡ x ++ drop (length x) y
 unfolding written
 written-found r n d x y h = rw h
 
-fits_not : (n d places : ℕ) → ltb places d ≡ true → fitting_answer n d places ≡ Refused (NoRoom d)
+fits_not : (n d places : ℕ) → ltb places d ≡ true → fitting_answer n d places ≡ Err (NoRoom d)
 unfolding fitting_answer
 fits_not n d places q = rw q
 
-fits_all : (n d places : ℕ) → ltb places d ≡ false → fitting_answer n d places ≡ Found n d
+fits_all : (n d places : ℕ) → ltb places d ≡ false → fitting_answer n d places ≡ Ok (record { records = n; distinct = d })
 unfolding fitting_answer
 fits_all n d places q = rw q
 
 -- ---- an admitted type
 
-module _ (table pool block : List ℕ) (size : ℕ) (g : Admits table pool size) where
+module _ (table pool block : List ℕ) (size : ℕ) (g : Admits table pool size) (m s : List ℕ) where
+  pub sized-length : (length block % size ≡ 0 → ⊥) → Answered (duplicating table pool block (length m) (length s)) (Err WrongLength) m m s s
+  sized-length d = record_refused _ WrongLength m s (duplicating-length table pool block (length m) (length s) size (admits-admission table pool size g) d)
+
+  module _ (h : length block % size ≡ 0) (n : ℕ) (e : n ≡ length block / size) (low : length block * 1 < 9223372036854775808) where
+    low-number : n < 9223372036854775808
+    low-number = omega (arith, div-le_self (length block) size)
+
+    pub sized-room : length m < n → Answered (duplicating table pool block (length m) (length s)) (Err (NoRoom n)) m m s s
+    unfolding needed
+    sized-room l =
+        let c : min (length block / size) 18446744073709551615 ≡ n = omega (arith, low-number) in
+        record_refused _ (NoRoom n) m s (duplicating-numbers table pool block (length m) (length s) size (admits-admission table pool size g) h (omega arith) ∙ rw c)
+
+-- the block's records, with a second block that is empty
+module _ (table pool : List ℕ) (rs : Records) (g : Admits table pool rs.size) (z : rs.b.now ≡ []) where
+  abbrev block : List ℕ
+  block = rs.a.now
+
+  abbrev size : ℕ
+  size = rs.size
+
   abbrev keys : List (List ℕ)
-  keys = keys_in table pool block [] size
+  keys = keys_in table pool rs
+
+  alone : both rs ≡ block
+  alone = ap (λ (x : List ℕ). rs.a.now ++ x) z ∙ append-nil rs.a.now
 
   keys-are : keys_of (fields_in_of table pool) block size ≡ keys
   unfolding keys_in
-  keys-are = rw (append-nil block)
+  keys-are = ap (λ (x : List ℕ). keys_of (fields_in_of table pool) x rs.size) (sym alone)
 
   pub keys-count : (n : ℕ) → n ≡ length block / size → n ≡ length keys
   unfolding keys_in
-  keys-count n e = e ∙ sym (length-keys (fields_in_of table pool) (block ++ []) size ∙ ap (λ (x : List ℕ). length x / size) (append-nil block))
+  keys-count n e = e ∙ sym (length-keys (fields_in_of table pool) (both rs) size ∙ ap (λ (x : List ℕ). length x / size) alone)
 
-  pub keys_comparable : length block % size ≡ 0 → Comparable table pool block [] size
-  keys_comparable h = record { admits = g; whole = record { some = admits-some table pool size g; first = h; second = zero-mod size } }
+  pub keys_comparable : length block % size ≡ 0 → Comparable table pool rs
+  keys_comparable h = record { admits = g; whole = record { some = admits-some table pool size g; first = h; second = rw z (zero-mod size) } }
 
   module _ (m s : List ℕ) where
-    pub sized-length : (length block % size ≡ 0 → ⊥) → Answered (duplicating table pool block (length m) (length s)) (Refused WrongLength) m m s s
-    sized-length d = record_refused _ WrongLength m s (duplicating-length table pool block (length m) (length s) size (admits-admission table pool size g) d)
-
     module _ (h : length block % size ≡ 0) (n : ℕ) (e : n ≡ length block / size) (low : length block * 1 < 9223372036854775808) where
-      low-number : n < 9223372036854775808
-      low-number = omega (arith, div-le_self (length block) size)
-
-      pub sized-room : length m < n → Answered (duplicating table pool block (length m) (length s)) (Refused (NoRoom n)) m m s s
-      unfolding needed
-      sized-room l =
-          let c : min (length block / size) 18446744073709551615 ≡ n = omega (arith, low-number) in
-          record_refused _ (NoRoom n) m s (duplicating-numbers table pool block (length m) (length s) size (admits-admission table pool size g) h (omega arith) ∙ rw c)
-
       module _ (l : n ≤ length m) where
         few : distinct_of keys ≤ n
         unfolding distinct_of firsts_of
@@ -102,10 +114,10 @@ module _ (table pool block : List ℕ) (size : ℕ) (g : Admits table pool size)
         short : length s < distinct_of keys → duplicating table pool block (length m) (length s) ≡ refuses (NoRoom (distinct_of keys))
         unfolding needed
         short q =
-            let c : min (distinct_of keys) 18446744073709551615 ≡ distinct_of keys = omega (arith, few, low-number) in
+            let c : min (distinct_of keys) 18446744073709551615 ≡ distinct_of keys = omega (arith, few, low-number table pool block size g m s h n e low) in
             duplicating-sizes table pool block (length m) (length s) size (admits-admission table pool size g) h (omega arith) (rw keys-are q) ∙ rw (keys-are, c)
 
-        module _ (r : Duplicates) (m' s' : List ℕ) (v : Listed (numbers_of keys) r m m' s s') where
+        module _ (r : Result Groups Refusal) (m' s' : List ℕ) (v : Listed (numbers_of keys) r m m' s s') where
           answer-is : r ≡ fitting_answer (length keys) (distinct_of keys) (length s)
           unfolding distinct_of firsts_of
           answer-is = rw (length-numbers keys) at v.answer
@@ -120,15 +132,15 @@ module _ (table pool block : List ℕ) (size : ℕ) (g : Admits table pool size)
 
           listed-short : ltb (length s) (distinct_of keys) ≡ true → Answered (duplicating table pool block (length m) (length s)) r m m' s s'
           listed-short q =
-              let a : r ≡ Refused (NoRoom (distinct_of keys)) = answer-is ∙ fits_not (length keys) (distinct_of keys) (length s) q in
+              let a : r ≡ Err (NoRoom (distinct_of keys)) = answer-is ∙ fits_not (length keys) (distinct_of keys) (length s) q in
               let u : m' ≡ m = v.numbers-are ∙ written-refused r (NoRoom (distinct_of keys)) (numbers_of keys) m a in
               let x : s' ≡ s = sizes-is ∙ written-refused r (NoRoom (distinct_of keys)) (sizes_of keys) s a in
               rw (a, u, x) (record_refused _ (NoRoom (distinct_of keys)) m s (short (ltb-true (length s) (distinct_of keys) q)))
 
           listed-full : ltb (length s) (distinct_of keys) ≡ false → Answered (duplicating table pool block (length m) (length s)) r m m' s s'
-          unfolding answer_of numbers_given sizes_given when_given output_after groups_of
+          unfolding answer_of groups_told numbers_given sizes_given when_given output_after groups_of
           listed-full q =
-              let a : r ≡ Found (length keys) (distinct_of keys) = answer-is ∙ fits_all (length keys) (distinct_of keys) (length s) q in
+              let a : r ≡ Ok (record { records = length keys; distinct = distinct_of keys }) = answer-is ∙ fits_all (length keys) (distinct_of keys) (length s) q in
               let u : m' ≡ numbers_of keys ++ drop (length (numbers_of keys)) m = v.numbers-are ∙ written-found r (length keys) (distinct_of keys) (numbers_of keys) m a in
               let x : s' ≡ sizes_of keys ++ drop (length (sizes_of keys)) s = sizes-is ∙ written-found r (length keys) (distinct_of keys) (sizes_of keys) s a in
               rw (full (ltb-false (length s) (distinct_of keys) q))
@@ -137,33 +149,13 @@ module _ (table pool block : List ℕ) (size : ℕ) (g : Admits table pool size)
           pub sized-listed : Answered (duplicating table pool block (length m) (length s)) r m m' s s'
           sized-listed = ⊎_elim listed-short listed-full (true_or_false (ltb (length s) (distinct_of keys)))
 
--- the same with a second block that is empty
-module _ (table pool block : List ℕ) (size : ℕ) (g : Admits table pool size) {none : List ℕ} (z : none ≡ []) where
-  pub none_comparable : length block % size ≡ 0 → Comparable table pool block none size
-  none_comparable h = rw z (keys_comparable table pool block size g h)
-
-  pub none-count : (n : ℕ) → n ≡ length block / size → n ≡ length (keys_in table pool block none size)
-  none-count n e = rw z (keys-count table pool block size g n e)
-
-  pub none-listed : (m s : List ℕ) (n : ℕ) (r : Duplicates) (m' s' : List ℕ) → Listed (numbers_of (keys_in table pool block none size)) r m m' s s' → length block % size ≡ 0 → n ≡ length block / size
-      → length block * 1 < 9223372036854775808 → n ≤ length m → Answered (duplicating table pool block (length m) (length s)) r m m' s s'
-  none-listed m s n r m' s' v h e low l = sized-listed table pool block size g m s h n e low l r m' s' (rw z at v)
-
 -- ---- the whole call
 
-told : (o : Outcome Groups) (r : Duplicates) → r ≡ answer_of o → (duplicates_number r ≡ outcome_number o) × (duplicates_values r ≡ outcome_values groups_values o)
-unfolding answer_of duplicates_number duplicates_values outcome_number outcome_values groups_values
-told (gives g) r e = (ap duplicates_number e, ap duplicates_values e)
-told (refuses x) r e = (ap duplicates_number e, ap duplicates_values e)
-
-pub all_told : (o : Outcome Groups) (r : Duplicates) (m m' s s' w w' w'' : List ℕ) → Answered o r m m' s s' → length w' ≡ length w
-    → w'' ≡ replicate (length w') 0 ++ drop (length w') w' → DuplicatesAre o r m m' s s' w w''
+pub all_told : (o : Outcome GroupLists) (r : Result Groups Refusal) (m m' s s' w w' w'' : List ℕ) → Answered o r m m' s s' → length w' ≡ length w
+    → w'' ≡ replicate (length w') 0 → DuplicatesAre o r m m' s s' w w''
 all_told o r m m' s s' w w' w'' a l z =
-    let t = told o r a.answer in
     record {
-      answer = a.answer;
-      number = t.0;
-      values = t.1;
+      answers = answers groups_told groups_values o r a.answer;
       numbers-are = a.numbers-are;
       sizes-are = a.sizes-are;
       work_is = all_cleared w w' w'' l z;

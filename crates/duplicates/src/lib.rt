@@ -2,92 +2,80 @@
 #![tactic(auto)]
 
 mod lists;
-pub mod outcome;
 
 ghost use Rattle.std.specs.Prelude.{◌≡◌, [], ◌≤◌, length};
 ghost use Rattle.groups.specs.Duplicates.{duplicating};
-ghost use Rattle.groups.specs.Groups.{numbers_of, distinct_of};
+ghost use Rattle.groups.specs.Groups.{numbers_of};
 ghost use Rattle.compare.specs.Agreeing.{Admits};
 ghost use Rattle.duplicates.specs.Answers.{Listed, Answered, DuplicatesAre};
-ghost use Rattle.firsts.specs.Finding.{Known};
+ghost use Rattle.firsts.specs.Finding.{FirstsAre};
 ghost use Rattle.firsts.specs.Records.{keys_in, Comparable};
 ghost use Rattle.duplicates.specs.WordCount.{words_needed, most_words_of, WordsAre};
 
-use compare::{Admission, admit};
-use firsts::counts::clear;
-use firsts::find_firsts;
+use compare::admit;
+use firsts::records::Records;
+use firsts::{Firsts, find_firsts};
 use lists::{list_sizes, put_numbers};
-use outcome::{Duplicates, Words};
 use refusal::Refusal;
 use runs::list_runs;
 
-// The groups of the n records of two blocks, d of them, with room for n numbers.
+// How many records a block has, and how many distinct ones.
+#[derive(Clone, Copy)]
+pub struct Groups {
+    pub records: u64,
+    pub distinct: u64,
+}
+
+// The groups of the n records of two blocks, by their firsts, with room for n numbers.
 fn list_groups<'a>(
     table: &[u32],
     pool: &[u8],
-    a: &'a [u8],
-    b: &'a [u8],
-    size: usize,
+    records: Records<'a>,
     n: usize,
-    d: usize,
-    buckets: usize,
+    found: Firsts,
     work: &[u64],
     numbers: &mut [u64],
     sizes: &mut [u64],
-) -> Duplicates
-    requires comparable { Comparable table.now pool.now a.now b.now size }
-    requires n_value { (n ≡ length (keys_in table.now pool.now a.now b.now size)) × (n ≤ length numbers.old) }
-    requires d_value { d ≡ distinct_of (keys_in table.now pool.now a.now b.now size) }
-    requires known { Known (numbers_of (keys_in table.now pool.now a.now b.now size)) n buckets work.now }
-    ensures { Listed (numbers_of (keys_in table.now pool.now a.now b.now size)) result numbers.old numbers.new sizes.old sizes.new }
+) -> Result<Groups, Refusal>
+    requires comparable { Comparable table.now pool.now records }
+    requires n_value { (n ≡ length (keys_in table.now pool.now records)) × (n ≤ length numbers.old) }
+    requires firsts { FirstsAre (keys_in table.now pool.now records) n found work.now }
+    ensures { Listed (numbers_of (keys_in table.now pool.now records.entry)) result numbers.old numbers.new sizes.old sizes.new }
 {
+    let d = found.distinct;
     if sizes.len() < d {
-        return Duplicates::Refused(Refusal::NoRoom(d as u64));
+        return Err(Refusal::NoRoom(d as u64));
     }
-    put_numbers(table, pool, a, b, size, n, buckets, work, numbers);
-    list_sizes(n, buckets, work, numbers, sizes);
-    Duplicates::Found(n as u64, d as u64)
+    put_numbers(table, pool, records, n, found.buckets, work, numbers);
+    list_sizes(n, found.buckets, work, numbers, sizes);
+    Ok(Groups {
+        records: n as u64,
+        distinct: d as u64,
+    })
 }
 
 fn grouped<'a>(
     table: &[u32],
     pool: &[u8],
-    a: &'a [u8],
-    b: &'a [u8],
-    size: u32,
+    records: Records<'a>,
     n: usize,
     numbers: &mut [u64],
     sizes: &mut [u64],
     work: &mut [u64],
-) -> Duplicates
-    requires comparable { Comparable table.now pool.now a.now b.now size }
-    requires n_value { (n ≡ length (keys_in table.now pool.now a.now b.now size)) × (n ≤ length numbers.old) }
-    ensures { Listed (numbers_of (keys_in table.now pool.now a.now b.now size)) result numbers.old numbers.new sizes.old sizes.new }
+) -> Result<Groups, Refusal>
+    requires comparable { Comparable table.now pool.now records }
+    requires n_value { (n ≡ length (keys_in table.now pool.now records)) × (n ≤ length numbers.old) }
+    ensures { Listed (numbers_of (keys_in table.now pool.now records.entry)) result numbers.old numbers.new sizes.old sizes.new }
 {
-    let found = find_firsts(table, pool, a, b, size, n, work);
-    let buckets = found.buckets;
-    let d = found.distinct;
-    list_groups(
-        table,
-        pool,
-        a,
-        b,
-        size as usize,
-        n,
-        d,
-        buckets,
-        work,
-        numbers,
-        sizes,
-    )
+    let found = find_firsts(table, pool, records, n, work);
+    list_groups(table, pool, records, n, found, work, numbers, sizes)
 }
 
 // No bytes of a block.
 fn no_bytes(block: &[u8]) -> &[u8]
     ensures { result.now ≡ [] }
 {
-    let none: usize = 0;
-    &block[none..none]
+    &block[..0]
 }
 
 // The answer for a type that is admitted and has a size.
@@ -99,19 +87,23 @@ fn sized(
     numbers: &mut [u64],
     sizes: &mut [u64],
     work: &mut [u64],
-) -> Duplicates
+) -> Result<Groups, Refusal>
     requires { Admits table.now pool.now size }
     ensures { Answered (duplicating table.now pool.now block.now (length numbers.old) (length sizes.old)) result numbers.old numbers.new sizes.old sizes.new }
 {
     if block.len() % (size as usize) != 0 {
-        return Duplicates::Refused(Refusal::WrongLength);
+        return Err(Refusal::WrongLength);
     }
     let n = block.len() / (size as usize);
     if numbers.len() < n {
-        return Duplicates::Refused(Refusal::NoRoom(n as u64));
+        return Err(Refusal::NoRoom(n as u64));
     }
-    let none = no_bytes(block);
-    grouped(table, pool, block, none, size, n, numbers, sizes, work)
+    let records = Records {
+        a: block,
+        b: no_bytes(block),
+        size,
+    };
+    grouped(table, pool, records, n, numbers, sizes, work)
 }
 
 fn answer(
@@ -121,14 +113,11 @@ fn answer(
     numbers: &mut [u64],
     sizes: &mut [u64],
     work: &mut [u64],
-) -> Duplicates
+) -> Result<Groups, Refusal>
     ensures { Answered (duplicating table.now pool.now block.now (length numbers.old) (length sizes.old)) result numbers.old numbers.new sizes.old sizes.new }
 {
-    let admission = admit(table, pool);
-    match admission {
-        Admission::Refused(e) => Duplicates::Refused(e),
-        Admission::Size(size) => sized(table, pool, block, size, numbers, sizes, work),
-    }
+    let size = admit(table, pool)?;
+    sized(table, pool, block, size, numbers, sizes, work)
 }
 
 // For each record of a block the number, from 0, of the earliest record that is the same, into the front of `numbers`; the sizes of the groups,
@@ -145,11 +134,11 @@ pub fn duplicates(
     numbers: &mut [u64],
     sizes: &mut [u64],
     work: &mut [u64],
-) -> Duplicates
+) -> Result<Groups, Refusal>
     ensures { DuplicatesAre (duplicating table.now pool.now block.now (length numbers.old) (length sizes.old)) result numbers.old numbers.new sizes.old sizes.new work.old work.new }
 {
     let r = answer(table, pool, block, numbers, sizes, work);
-    clear(work, work.len());
+    work.fill(0);
     r
 }
 
@@ -157,29 +146,20 @@ pub fn duplicates(
 fn most_words(records: u64, runs: u64) -> u64
     ensures { result ≡ most_words_of records runs }
 {
-    if runs >= 9223372036854775808 {
-        return 18446744073709551615;
-    }
-    if records > (18446744073709551615 - 2 * runs) / 3 {
-        return 18446744073709551615;
-    }
-    3 * records + 2 * runs
+    records
+        .saturating_mul(3)
+        .saturating_add(runs.saturating_mul(2))
 }
 
 // The words of workspace with which `duplicates` is near-linear on so many records of a type: 3 a record and 2 a run. Refused, in this order:
 // BadTable, ZeroSize, OutsideRecord, HeapHeld. Cost: as a comparison of two records.
-pub fn duplicates_words(table: &[u32], pool: &[u8], records: u64) -> Words
+pub fn duplicates_words(table: &[u32], pool: &[u8], records: u64) -> Result<u64, Refusal>
     ensures { WordsAre (words_needed table.now pool.now records) result }
 {
-    let admission = admit(table, pool);
-    match admission {
-        Admission::Refused(e) => Words::Refused(e),
-        Admission::Size(size) => {
-            let mut none: [u64; 1] = [0; 1];
-            // Above its greatest answer, so that it never stops.
-            let most: usize = 9223372036854775809;
-            let runs = list_runs(table, pool, size, most, &mut none);
-            Words::Needed(most_words(records, runs))
-        }
-    }
+    let size = admit(table, pool)?;
+    let mut none: [u64; 1] = [0; 1];
+    // Above its greatest answer, so that it never stops.
+    let most: usize = 9223372036854775809;
+    let runs = list_runs(table, pool, size, most, &mut none);
+    Ok(most_words(records, runs))
 }

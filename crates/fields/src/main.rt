@@ -4,45 +4,34 @@
 
 ghost use Rattle.io.specs.Counts.{IsPrefixLen};
 
-use listing::{Listing, list_fields, list_refusal};
+use listing::{list_fields, list_refusal};
 use reader::read;
-use reading::Reading;
 use refusal::Refusal;
+use show::shown_text;
 use std::io::{Error, ErrorKind};
-
-// The first bytes of a text, if there are so many.
-fn show(text: &[u8], length: usize) {
-    if length <= text.len() {
-        io::write_all(1, &text[..length]);
-    }
-}
 
 fn show_refusal(refusal: Refusal) {
     let mut line = [0u8; 64];
-    let listed = list_refusal(refusal, &mut line);
-    match listed {
-        Listing::Refused(_) => {}
-        Listing::Listed(length) => show(&line, length),
+    if let Ok(length) = list_refusal(refusal, &mut line) {
+        shown_text(&line, length);
     }
 }
 
 // 1,024 rows have at most 1,024 lines of 30 bytes, and their names at most twice 65,536 digits.
 fn show_fields(table: &[u32], pool: &[u8]) {
     let mut text = [0u8; 163840];
-    let listed = list_fields(table, pool, &mut text);
-    match listed {
-        Listing::Refused(refusal) => show_refusal(refusal),
-        Listing::Listed(length) => show(&text, length),
+    match list_fields(table, pool, &mut text) {
+        Err(refusal) => show_refusal(refusal),
+        Ok(length) => shown_text(&text, length),
     }
 }
 
 fn read_and_show(message: &[u8]) {
     let mut table = [0u32; 16384];
     let mut pool = [0u8; 65536];
-    let got = read(message, 15, &mut table, &mut pool);
-    match got {
-        Reading::Refused(refusal) => show_refusal(refusal),
-        Reading::Read(_) => show_fields(&table, &pool),
+    match read(message, 15, &mut table, &mut pool) {
+        Err(refusal) => show_refusal(refusal),
+        Ok(_) => show_fields(&table, &pool),
     }
 }
 

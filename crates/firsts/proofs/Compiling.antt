@@ -1,9 +1,10 @@
 -- A type's runs in a workspace, and the records by them.
+use Rattle.firsts.specs.declared.records.Records.{Records}
 use Prim.Native.Nat.{ℕ, zero, suc, ◌+◌, ◌-◌, ◌*◌, ◌/◌, ◌<◌, ◌≤◌}
 use mathlib.Core.Path.{◌≡◌, refl, sym, ap, ◌∙◌}
-use mathlib.Core.List.{List, [], ◌∷◌, ◌++◌, append-nil}
+use mathlib.Core.List.{List}
 use native.Mathlib.Omega.{arith}
-use lib.ListN.{length, get_or, drop, replicate, drop_of_length-le}
+use lib.ListN.{length, get_or, drop, replicate}
 use Rattle.format.specs.Bytes.{zeros}
 use Rattle.format.specs.Image.{Field}
 use Rattle.groups.specs.Chains.{names_in, Named}
@@ -17,14 +18,16 @@ use Rattle.keys.specs.declared.Multipliers.{Multipliers}
 use Rattle.runs.specs.Listing.{RunsListed}
 use Rattle.firsts.specs.Finding.{Heads, Known, FirstsAre}
 use Rattle.firsts.specs.Chaining.{keys_by, Compiled, Counted}
-use Rattle.firsts.specs.Records.{keys_in, Comparable}
+use Rattle.firsts.specs.Records.{both, keys_in, Comparable}
 use Rattle.firsts.proofs.KeyLaws.{fields_in}
+use Rattle.std.specs.Prelude.{Option, Some, None}
+use Rattle.std.proofs.lemmas.Option.{same_Some, none-some}
 
 -- ---- the runs of a list of fields stand at the end
 
 module _ (rs : List Field) (n : ℕ) where
-  pub heads-none : (w : List ℕ) → Heads rs n 0 w
-  heads-none w = record { room = λ l. absurd (omega arith); words = λ l. absurd (omega arith) }
+  pub heads-none : (w : List ℕ) → Heads rs n None w
+  heads-none w = record { some = λ k e. absurd (cc); room = λ k e. absurd (cc); words = λ k e. absurd (cc) }
 
   module _ (k : ℕ) (w w' : List ℕ) (g : RunsListed ((length w - 2 * n - 1) / 2 + 1) rs k w w') (h : n < length w / 2) (f : k < (length w - 2 * n - 1) / 2 + 1) (low : length w * 8 < 9223372036854775808) where
     all-counted : k ≡ length rs
@@ -33,11 +36,12 @@ module _ (rs : List Field) (n : ℕ) where
     behind : length w - 2 * n - 2 * k + n + n ≡ length w - 2 * length rs
     behind = omega (arith, all-counted)
 
-    pub heads-some : Heads rs n (length w - 2 * n - 2 * k) w'
+    pub heads-some : Heads rs n (Some (length w - 2 * n - 2 * k)) w'
     heads-some =
         record {
-          room = λ z. omega (arith, behind, g.long);
-          words = λ z. rw behind ((g.stored f).words (omega (arith, all-counted)));
+          some = λ r e. let q : length w - 2 * n - 2 * k ≡ r = cc in rw (← q) (omega arith);
+          room = λ r e. let q : length w - 2 * n - 2 * k ≡ r = cc in rw (← q) (omega (arith, behind, g.long));
+          words = λ r e. let q : length w - 2 * n - 2 * k ≡ r = cc in rw (← q, behind) ((g.stored f).words (omega (arith, all-counted)));
         }
 
 -- ---- keys by runs are keys by fields
@@ -51,64 +55,58 @@ keys_runs : (fs : List Field) (block : List ℕ) (size : ℕ) → keys_of (runs_
 unfolding keys_of
 keys_runs fs block size = listed_same (key_of (runs_of fs) block size) (key_of fs block size) (λ k. unfold key_of in runs_image fs (record_at_of block size k) 0 size) (length block / size)
 
-module _ (table pool a b : List ℕ) (size n buckets : ℕ) (w : List ℕ) (g : Comparable table pool a b size) (h : Heads (runs_of (fields_in_of table pool)) n buckets w) (z : buckets ≡ 0 → ⊥) where
+module _ (table pool : List ℕ) (rs : Records) (n buckets : ℕ) (w : List ℕ) (g : Comparable table pool rs) (r : Option ℕ) (h : Heads (runs_of (fields_in_of table pool)) n r w) (q : r ≡ Some buckets) where
   words_are : drop (buckets + n + n) w ≡ words_of (runs_of (fields_in_of table pool))
-  words_are = h.words (omega arith)
+  words_are = h.words buckets q
 
   runs_are : runs_in (drop (buckets + n + n) w) ≡ runs_of (fields_in_of table pool)
   runs_are = rw words_are (runs_in_words (runs_of (fields_in_of table pool)))
 
-  keys-are : keys_by (drop (buckets + n + n) w) a b size ≡ keys_in table pool a b size
+  keys-are : keys_by (drop (buckets + n + n) w) rs ≡ keys_in table pool rs
   unfolding keys_by keys_in
-  keys-are = rw runs_are (keys_runs (fields_in_of table pool) (a ++ b) size)
+  keys-are = rw runs_are (keys_runs (fields_in_of table pool) (both rs) rs.size)
 
-  all-inside : Inside size (runs_of (fields_in_of table pool))
+  all-inside : Inside rs.size (runs_of (fields_in_of table pool))
   all-inside =
       let d = g.admits.admitted in
-      runs_inside size (fields_in_of table pool) (rw (fields_in table pool size g.admits, g.admits.size_is) (fields-inside g.admits.type d.inside d.sized))
+      runs_inside rs.size (fields_in_of table pool) (rw (fields_in table pool rs.size g.admits, g.admits.size_is) (fields-inside g.admits.type d.inside d.sized))
 
-  pub compiled : (m : Multipliers) → n ≡ length (keys_in table pool a b size) → Small m → Compiled m a b size n buckets w
+  pub compiled : (m : Multipliers) → n ≡ length (keys_in table pool rs) → Small m → Compiled m rs n buckets w
   compiled m e s =
       record {
         by_runs = record { whole = g.whole; inside = rw runs_are all-inside };
         small = s;
         count = rw keys-are e;
-        some = omega arith;
-        room = h.room (omega arith);
+        some = h.some buckets q;
+        room = h.room buckets q;
       }
 
   -- the firsts by the runs are those by the fields
-  pub compiled-firsts : (d : ℕ) (w' : List ℕ) → Counted (keys_by (drop (buckets + n + n) w) a b size) n buckets d w' → FirstsAre (keys_in table pool a b size) n (record { buckets = buckets; distinct = d }) w'
-  compiled-firsts d w' c = let v = rw keys-are at c in record { distinct = v.distinct; known = record { tallied = λ l. v.tallied } }
+  pub compiled-firsts : (d : ℕ) (w' : List ℕ) → Counted (keys_by (drop (buckets + n + n) w) rs) n buckets d w' → FirstsAre (keys_in table pool rs) n (record { buckets = Some buckets; distinct = d }) w'
+  compiled-firsts d w' c =
+      let v = rw keys-are at c in
+      record { distinct = v.distinct; known = record { tallied = λ k e. let f : buckets ≡ k = same_Some buckets k e in rw (← f) v.tallied } }
 
 -- without heads
-pub plain-firsts : (keys : List (List ℕ)) (n d : ℕ) (w : List ℕ) → d ≡ distinct_of keys → FirstsAre keys n (record { buckets = 0; distinct = d }) w
-plain-firsts keys n d w e = record { distinct = e; known = record { tallied = λ l. absurd (omega arith) } }
-
--- a workspace of no words
-pub word_none : (w : List ℕ) → length w ≡ 0 → 0 ≡ get_or w 0 0
-word_none [] e = refl
-word_none (x ∷ w) e = absurd (omega arith)
+pub plain-firsts : (keys : List (List ℕ)) (n d : ℕ) (w : List ℕ) (r : Option ℕ) → r ≡ None → d ≡ distinct_of keys → FirstsAre keys n (record { buckets = r; distinct = d }) w
+plain-firsts keys n d w r q e = record { distinct = e; known = record { tallied = λ k f. absurd (none-some k (sym q ∙ f)) } }
 
 -- ---- the first of one record
 
 pub first-sought : (keys : List (List ℕ)) (n k r : ℕ) → r ≡ first_of keys k → n ≡ length keys → k < n → r ≡ get_or (numbers_of keys) k 0
 first-sought keys n k r e l h = e ∙ sym (number_at keys k (omega arith))
 
-module _ (ns : List ℕ) (n buckets : ℕ) (w : List ℕ) (g : Known ns n buckets w) (z : buckets ≡ 0 → ⊥) where
+module _ (ns : List ℕ) (n : ℕ) (r : Option ℕ) (w : List ℕ) (g : Known ns n r w) (buckets : ℕ) (q : r ≡ Some buckets) where
   pub tallied-room : buckets + n + n ≤ length w
-  tallied-room = (g.tallied (omega arith)).room
+  tallied-room = (g.tallied buckets q).room
 
   pub tallied-low : (k : ℕ) → k < n → get_or (names_in n buckets w) k 0 ≤ k
-  tallied-low k h = let v = g.tallied (omega arith) in rw v.names (v.low k h)
+  tallied-low k h = let v = g.tallied buckets q in rw v.names (v.low k h)
 
-  pub tallied-first : (k r : ℕ) → Named (names_in n buckets w) k r → r ≡ get_or ns k 0
-  tallied-first k r e = let v = g.tallied (omega arith) in e.name ∙ ap (λ (l : List ℕ). get_or l k 0) v.names
+  pub tallied-first : (k f : ℕ) → Named (names_in n buckets w) k f → f ≡ get_or ns k 0
+  tallied-first k f e = let v = g.tallied buckets q in e.name ∙ ap (λ (l : List ℕ). get_or l k 0) v.names
 
--- a workspace zeroed up to its end
-pub all_cleared : (w w' w'' : List ℕ) → length w' ≡ length w → w'' ≡ replicate (length w') 0 ++ drop (length w') w' → w'' ≡ zeros (length w)
+-- a workspace zeroed
+pub all_cleared : (w w' w'' : List ℕ) → length w' ≡ length w → w'' ≡ replicate (length w') 0 → w'' ≡ zeros (length w)
 unfolding zeros
-all_cleared w w' w'' l z =
-    let m : length w' ≤ length w' = omega arith in
-    let d : drop (length w') w' ≡ [] = drop_of_length-le w' m in
-    z ∙ rw (d, append-nil, l)
+all_cleared w w' w'' l z = z ∙ rw l

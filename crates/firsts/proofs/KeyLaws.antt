@@ -1,8 +1,9 @@
 -- The records of two blocks as they are compared, behind the check of their type.
+use Rattle.firsts.specs.declared.records.Records.{Records}
 use Prim.Native.Nat.{ℕ, ◌/◌, ◌<◌}
 use mathlib.Core.Path.{◌≡◌, sym, ◌∙◌}
 use mathlib.Core.Bool.{Bool}
-use mathlib.Core.List.{List, ◌++◌}
+use mathlib.Core.List.{List}
 use native.Mathlib.Omega.{arith}
 use lib.ListN.{length}
 use Rattle.format.specs.Datatype.{type_size_of}
@@ -16,7 +17,7 @@ use Rattle.compare.specs.Agreeing.{Admits}
 use Rattle.groups.specs.Groups.{key_at}
 use Rattle.groups.specs.Duplicates.{keys_of, fields_given, fields_in_of}
 use Rattle.groups.proofs.Keys.{length-keys, key_at_lem}
-use Rattle.firsts.specs.Records.{IsRecord, keys_in, Comparable}
+use Rattle.firsts.specs.Records.{both, IsRecord, keys_in, Comparable}
 
 -- ---- by any fields
 
@@ -38,28 +39,28 @@ pub fields_in : (table pool : List ℕ) (size : ℕ) (g : Admits table pool size
 unfolding fields_in_of fields_given
 fields_in table pool size g = rw g.is
 
-module _ (table pool a b : List ℕ) (size : ℕ) (g : Comparable table pool a b size) where
-  pub length_in : length (keys_in table pool a b size) ≡ length (a ++ b) / size
+module _ (table pool : List ℕ) (rs : Records) (g : Comparable table pool rs) where
+  pub length_in : length (keys_in table pool rs) ≡ length (both rs) / rs.size
   unfolding keys_in
-  length_in = length-keys (fields_in_of table pool) (a ++ b) size
+  length_in = length-keys (fields_in_of table pool) (both rs) rs.size
 
-  pub key_inside : (k : ℕ) → k < length (keys_in table pool a b size) → k < length (a ++ b) / size
+  pub key_inside : (k : ℕ) → k < length (keys_in table pool rs) → k < length (both rs) / rs.size
   key_inside k h = omega (arith, length_in)
 
-  module _ (j k : ℕ) (hj : j < length (keys_in table pool a b size)) (hk : k < length (keys_in table pool a b size)) {x y : List ℕ} (rx : IsRecord (a ++ b) size j x) (ry : IsRecord (a ++ b) size k y) where
+  module _ (j k : ℕ) (hj : j < length (keys_in table pool rs)) (hk : k < length (keys_in table pool rs)) {x y : List ℕ} (rx : IsRecord (both rs) rs.size j x) (ry : IsRecord (both rs) rs.size k y) where
     pub record_admits : Admits table pool (length x)
     record_admits = rw rx.long g.admits
 
     pub record_lengths : length y ≡ length x
     record_lengths = ry.long ∙ sym rx.long
 
-    key_image : (i : ℕ) {z : List ℕ} → i < length (keys_in table pool a b size) → IsRecord (a ++ b) size i z → image g.admits.type z ≡ key_at (keys_in table pool a b size) i
+    key_image : (i : ℕ) {z : List ℕ} → i < length (keys_in table pool rs) → IsRecord (both rs) rs.size i z → image g.admits.type z ≡ key_at (keys_in table pool rs) i
     unfolding keys_in image
     key_image i {z = z} h r =
         let e : type_size_of g.admits.type ≡ length z = sym g.admits.size_is ∙ sym r.long in
-        rw (e, ← fields_in table pool size g.admits) (key_of_lem (fields_in_of table pool) (a ++ b) size i h r)
+        rw (e, ← fields_in table pool rs.size g.admits) (key_of_lem (fields_in_of table pool) (both rs) rs.size i h r)
 
-    pub key_compared : (c : Bool) → comparing table pool x y ≡ gives c → c ≡ same_words (key_at (keys_in table pool a b size) j) (key_at (keys_in table pool a b size) k)
+    pub key_compared : (c : Bool) → comparing table pool x y ≡ gives c → c ≡ same_words (key_at (keys_in table pool rs) j) (key_at (keys_in table pool rs) k)
     unfolding agree
     key_compared c h =
         let t = g.admits.type in

@@ -1,5 +1,5 @@
 -- Where a record of two blocks lies.
-use Prim.Native.Nat.{ℕ, ◌+◌, ◌-◌, ◌*◌, ◌/◌, ◌<◌, ◌≤◌}
+use Prim.Native.Nat.{ℕ, ◌+◌, ◌-◌, ◌*◌, ◌/◌, ◌%◌, ◌<◌, ◌≤◌}
 use mathlib.Core.Path.{◌≡◌, sym, ◌∙◌}
 use mathlib.Core.List.{List, ◌++◌}
 use native.Mathlib.Omega.{arith}
@@ -8,9 +8,9 @@ use Rattle.format.proofs.Lists.{length_part}
 use Rattle.groups.specs.Duplicates.{record_at_of}
 use Rattle.groups.proofs.Keys.{record_ends}
 use Rattle.groups.proofs.Records.{record_first, record_second, records-of_both}
-use Rattle.firsts.specs.Records.{Whole, IsRecord}
+use Rattle.firsts.specs.Records.{IsRecord}
 
-module _ (a b : List ℕ) (size k : ℕ) (w : Whole a b size) (h : k < length (a ++ b) / size) where
+module _ (a b : List ℕ) (size k : ℕ) (w : 0 < size) (u : length a % size ≡ 0) (h : k < length (a ++ b) / size) where
   module _ (l : k < length a / size) where
     pub first-within : k * size + size ≤ length a
     first-within = record_ends a size k l
@@ -21,14 +21,14 @@ module _ (a b : List ℕ) (size k : ℕ) (w : Whole a b size) (h : k < length (a
 
   module _ (l : length a / size ≤ k) where
     pub second-within : (k - length a / size) * size + size ≤ length b
-    second-within = record_ends b size (k - length a / size) (omega (arith, records-of_both a b size w.first w.some))
+    second-within = record_ends b size (k - length a / size) (omega (arith, records-of_both a b size u w))
 
     pub second_is : {x : List ℕ} → x ≡ take size (drop ((k - length a / size) * size) b) → IsRecord (a ++ b) size k x
     unfolding record_at_of
     second_is e =
         let s : length a / size + (k - length a / size) ≡ k = omega arith in
         record {
-          is = e ∙ sym (rw s at (record_second a b size w.first (k - length a / size)));
+          is = e ∙ sym (rw s at (record_second a b size u (k - length a / size)));
           long = rw e (length_part b ((k - length a / size) * size) size second-within);
         }
 

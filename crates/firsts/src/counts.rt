@@ -1,19 +1,7 @@
-// A workspace of heads, then n links, then n firsts: zeroed, and the firsts counted. Nothing here knows what a record is.
-ghost use Rattle.std.specs.Prelude.{◌≡◌, ◌++◌, ◌+◌, ◌≤◌, ◌<◌, length, get_or, drop, replicate};
+// A workspace of heads, then n links, then n firsts: the firsts counted. Nothing here knows what a record is.
+ghost use Rattle.std.specs.Prelude.{◌≡◌, ◌+◌, ◌≤◌, ◌<◌, length, get_or};
 ghost use Rattle.groups.specs.Groups.{firsts_to};
 ghost use Rattle.groups.specs.Chains.{names_in, Named, Tallied};
-
-// The words before a place are zeroed.
-pub fn clear(work: &mut [u64], end: usize)
-    requires { end ≤ length work.old }
-    ensures { work.new ≡ replicate end 0 ++ drop end work.old }
-{
-    let mut i = 0;
-    while i < end {
-        work[i] = 0;
-        i += 1;
-    }
-}
 
 // The first of record k, as the workspace has it.
 pub fn name_of(n: usize, buckets: usize, k: usize, work: &[u64]) -> usize
@@ -43,13 +31,11 @@ pub fn tally(n: usize, buckets: usize, work: &mut [u64]) -> usize
     ensures { (result ≡ length (firsts_to (names_in n buckets work.old) n)) × Tallied (names_in n buckets work.old) n buckets n work.new }
 {
     let mut d = 0;
-    let mut k = 0;
-    while k < n {
+    for k in 0..n {
         let f = tally_one(n, buckets, k, work);
         if f == k {
             d += 1;
         }
-        k += 1;
     }
     d
 }

@@ -18,12 +18,13 @@ use chains::count_all;
 use counts::name_of;
 use keys::seeded;
 use plain::{count_firsts, first_of};
+use records::Records;
 use runs::list_runs;
 
-// How many records are distinct, and how many heads stand in the workspace before the links and firsts; 0 where it was too short for them.
+// How many records are distinct, and how many heads stand in the workspace before the links and firsts; none where it was too short for them.
 #[derive(Clone, Copy)]
 pub struct Firsts {
-    pub buckets: usize,
+    pub buckets: Option<usize>,
     pub distinct: usize,
 }
 
@@ -31,32 +32,29 @@ pub struct Firsts {
 fn first_word(work: &[u64]) -> u64
     ensures { result ≡ get_or work.now 0 0 }
 {
-    if work.len() == 0 {
-        return 0;
-    }
-    work[0]
+    work.first().copied().unwrap_or(0)
 }
 
 // Lists the runs of the type at the workspace's end. The answer is how many heads it has room for before the links and firsts of n records and
-// the runs; 0 where it is too short, or where there are too few records for it to be of use.
-fn list_type(table: &[u32], pool: &[u8], size: u32, n: usize, work: &mut [u64]) -> usize
+// the runs; none where it is too short, or where there are too few records for it to be of use.
+fn list_type(table: &[u32], pool: &[u8], size: u32, n: usize, work: &mut [u64]) -> Option<usize>
     requires { Admits table.now pool.now size }
     ensures { Heads (runs_of (fields_in_of table.now pool.now)) n result work.new }
 {
     if n < 2 {
-        return 0;
+        return None;
     }
     if work.len() / 2 <= n {
-        return 0;
+        return None;
     }
     let room = work.len() - 2 * n;
     // One run more than fit beside a head.
     let most = (room - 1) / 2 + 1;
     let runs = list_runs(table, pool, size, most, work);
     if runs >= most as u64 {
-        return 0;
+        return None;
     }
-    room - 2 * (runs as usize)
+    Some(room - 2 * (runs as usize))
 }
 
 // How many of the n records of two blocks are distinct, with the first of each in the workspace where it has the room: by chains there, else each
@@ -64,51 +62,40 @@ fn list_type(table: &[u32], pool: &[u8], size: u32, n: usize, work: &mut [u64]) 
 pub fn find_firsts<'a>(
     table: &[u32],
     pool: &[u8],
-    a: &'a [u8],
-    b: &'a [u8],
-    size: u32,
+    records: Records<'a>,
     n: usize,
     work: &mut [u64],
 ) -> Firsts
-    requires comparable { Comparable table.now pool.now a.now b.now size }
-    requires n_value { n ≡ length (keys_in table.now pool.now a.now b.now size) }
-    ensures { FirstsAre (keys_in table.now pool.now a.now b.now size) n result work.new }
+    requires comparable { Comparable table.now pool.now records }
+    requires n_value { n ≡ length (keys_in table.now pool.now records) }
+    ensures { FirstsAre (keys_in table.now pool.now records.entry) n result work.new }
 {
     let m = seeded(first_word(work));
-    let buckets = list_type(table, pool, size, n, work);
-    if buckets == 0 {
-        let d = count_firsts(table, pool, a, b, size as usize, n);
-        return Firsts {
-            buckets: 0,
-            distinct: d,
-        };
-    }
-    let d = count_all(a, b, size as usize, n, m, buckets, work);
-    Firsts {
-        buckets: buckets,
-        distinct: d,
-    }
+    let buckets = list_type(table, pool, records.size, n, work);
+    let distinct = match buckets {
+        None => count_firsts(table, pool, records, n),
+        Some(heads) => count_all(records, n, m, heads, work),
+    };
+    Firsts { buckets, distinct }
 }
 
 // The first of record k: out of the workspace, or sought where that has no heads.
 pub fn first_at<'a>(
     table: &[u32],
     pool: &[u8],
-    a: &'a [u8],
-    b: &'a [u8],
-    size: usize,
+    records: Records<'a>,
     n: usize,
-    buckets: usize,
+    buckets: Option<usize>,
     work: &[u64],
     k: usize,
 ) -> usize
-    requires comparable { Comparable table.now pool.now a.now b.now size }
-    requires n_value { (n ≡ length (keys_in table.now pool.now a.now b.now size)) × (k < n) }
-    requires known { Known (numbers_of (keys_in table.now pool.now a.now b.now size)) n buckets work.now }
-    ensures { result ≡ get_or (numbers_of (keys_in table.now pool.now a.now b.now size)) k 0 }
+    requires comparable { Comparable table.now pool.now records }
+    requires n_value { (n ≡ length (keys_in table.now pool.now records)) × (k < n) }
+    requires known { Known (numbers_of (keys_in table.now pool.now records)) n buckets work.now }
+    ensures { result ≡ get_or (numbers_of (keys_in table.now pool.now records.entry)) k 0 }
 {
-    if buckets == 0 {
-        return first_of(table, pool, a, b, size, k);
+    match buckets {
+        None => first_of(table, pool, records, k),
+        Some(heads) => name_of(n, heads, k, work),
     }
-    name_of(n, buckets, k, work)
 }

@@ -1,6 +1,14 @@
 // The records of two blocks, one behind the other.
 ghost use Rattle.std.specs.Prelude.{◌≡◌, ◌++◌, ◌+◌, ◌*◌, ◌/◌, ◌≤◌, ◌<◌, length, take, drop};
-ghost use Rattle.firsts.specs.Records.{Whole, IsRecord};
+ghost use Rattle.firsts.specs.Records.{both, Whole, IsRecord};
+
+// Two blocks of records of one size.
+#[derive(Clone, Copy)]
+pub struct Records<'a> {
+    pub a: &'a [u8],
+    pub b: &'a [u8],
+    pub size: u32,
+}
 
 // Record k of a block.
 fn part_of(block: &[u8], size: usize, k: usize) -> &[u8]
@@ -22,4 +30,14 @@ pub fn record_of<'a>(a: &'a [u8], b: &'a [u8], size: usize, k: usize) -> &'a [u8
         return part_of(a, size, k);
     }
     part_of(b, size, k - first)
+}
+
+impl<'a> Records<'a> {
+    // Record k.
+    pub fn get(self, k: usize) -> &'a [u8]
+        requires { Whole self.a.now self.b.now self.size × (k < length (both self) / self.size) }
+        ensures { IsRecord (both self.entry) self.entry.size k result.now }
+    {
+        record_of(self.a, self.b, self.size as usize, k)
+    }
 }

@@ -33,3 +33,4 @@ pub mod Bounds
 pub mod WritingBounds
 pub mod Admission
 pub mod AdmissionBounds
+pub mod Outcomes

@@ -1,6 +1,6 @@
 -- What a call gives or why it refuses, and the room that a result needs.
-use Rattle.std.specs.Prelude.{ℕ, min, Bool, cond, List, ◌++◌, length, drop}
-use Rattle.refusal.specs.Refusal.{number_of, values_of}
+use Rattle.std.specs.Prelude.{ℕ, ◌≡◌, min, Bool, cond, List, ◌++◌, length, drop, Result, Ok, Err}
+use Rattle.refusal.specs.Refusal.{number_of, values_of, answer_number, answer_values}
 use Rattle.refusal.specs.declared.Refusal.{Refusal}
 
 pub data Outcome (A : Type 0) : Type 0 where
@@ -33,3 +33,14 @@ outcome_number (refuses e) = number_of e
 unfoldable pub outcome_values : {A : Type 0} → (A → List ℕ) → Outcome A → List ℕ
 outcome_values values (gives x) = values x
 outcome_values values (refuses e) = values_of e
+
+-- the answer of a call with this outcome, its result as `f` tells it
+unfoldable pub answer_of : {A B : Type 0} → (A → B) → Outcome A → Result B Refusal
+answer_of f (gives x) = Ok (f x)
+answer_of f (refuses e) = Err e
+
+-- an answer by the definition's outcome, with Document 01's number and values; `shown` has the values of a result
+pub record Answers {A B : Type 0} (f : A → B) (shown : B → List ℕ) (o : Outcome A) (r : Result B Refusal) : Type 0 where
+  pub answer : r ≡ answer_of f o
+  pub number : answer_number r ≡ outcome_number o
+  pub values : answer_values shown r ≡ outcome_values (λ x. shown (f x)) o

@@ -1,5 +1,5 @@
 -- Bytes hashed eight at a time.
-use Prim.Native.Nat.{ℕ, suc, ◌+◌, ◌-◌, ◌/◌, ◌<◌, ◌≤◌}
+use Prim.Native.Nat.{ℕ, suc, ◌+◌, ◌-◌, ◌*◌, ◌/◌, ◌%◌, ◌<◌, ◌≤◌}
 use mathlib.Core.Path.{◌≡◌, refl, sym, ◌∙◌}
 use mathlib.Core.List.{List, []}
 use native.Mathlib.Omega.{arith}
@@ -69,31 +69,40 @@ module _ (m : Multipliers) (h : ℕ) (x : List ℕ) (at n : ℕ) where
           small = s.small;
         }
 
--- so far: what is left decides
-pub record HashedTo (m : Multipliers) (start : ℕ) (x : List ℕ) (at n h i left : ℕ) : Type 0 where
-  pub here : i + left ≡ at + n
+-- k times eight bytes are hashed: what is left decides
+pub record HashedTo (m : Multipliers) (start : ℕ) (x : List ℕ) (at n h k : ℕ) : Type 0 where
   pub small : h < 34359738368
-  pub same : hash_bytes m h (take left (drop i x)) ≡ hash_bytes m start (take n (drop at x))
+  pub same : hash_bytes m h (take (n - 8 * k) (drop (at + 8 * k) x)) ≡ hash_bytes m start (take n (drop at x))
 
 module _ (m : Multipliers) (start : ℕ) (x : List ℕ) (at n : ℕ) where
-  pub range_begun : start < 34359738368 → HashedTo m start x at n start at n
-  range_begun l = record { here = refl; small = l; same = refl }
+  pub range_begun : start < 34359738368 → HashedTo m start x at n start 0
+  range_begun l =
+      let e : at + 0 ≡ at = omega arith in
+      let f : n - 0 ≡ n = omega arith in
+      record { small = l; same = rw (e, f) }
 
-  module _ (h i left : ℕ) (t : HashedTo m start x at n h i left) where
-    pub range_eight : {v w r : ℕ} → Word (take 4 (drop i x)) v → Word (take 4 (drop (i + 4) x)) w → Steps m h v w r → at + n ≤ length x → 8 ≤ left
-        → HashedTo m start x at n r (i + 8) (left - 8)
+  module _ (h k : ℕ) (t : HashedTo m start x at n h k) where
+    pub range_eight : {v w r : ℕ} → Word (take 4 (drop (at + 8 * k) x)) v → Word (take 4 (drop (at + 8 * k + 4) x)) w → Steps m h v w r → at + n ≤ length x → k < n / 8
+        → HashedTo m start x at n r (k + 1)
     range_eight {r = r} q p s inside l =
-        let long : length (take left (drop i x)) ≡ left = length_part x i left (omega (arith, t.here)) in
-        let rest : drop 8 (take left (drop i x)) ≡ take (left - 8) (drop (i + 8) x) = part-behind x i left 8 l in
+        let i = at + 8 * k in
+        let left = n - 8 * k in
+        let some : 8 ≤ n - 8 * k = omega arith in
+        let long : length (take left (drop i x)) ≡ left = length_part x i left (omega arith) in
+        let rest : drop 8 (take left (drop i x)) ≡ take (left - 8) (drop (i + 8) x) = part-behind x i left 8 some in
         let less : length (drop 8 (take left (drop i x))) ≡ length (take left (drop i x)) - 8 =
-        rw (rest, long) (length_part x (i + 8) (left - 8) (omega (arith, t.here))) in
+        rw (rest, long) (length_part x (i + 8) (left - 8) (omega arith)) in
         let e : r ≡ step m h (number_from (take 4 (take left (drop i x)))) (number_from (take 4 (drop 4 (take left (drop i x))))) =
-        rw (part-first x i left (omega arith), part-second x i left l, ← q.is, ← p.is) s.is in
+        rw (part-first x i left (omega arith), part-second x i left some, ← q.is, ← p.is) s.is in
+        let f : at + 8 * (k + 1) ≡ i + 8 = omega arith in
+        let g : n - 8 * (k + 1) ≡ left - 8 = omega arith in
         record {
-          here = omega (arith, t.here);
           small = s.small;
-          same = rw (e, ← rest) (sym (bytes_eight m h (take left (drop i x)) (omega (arith, long)) less)) ∙ t.same;
+          same = rw (f, g, e, ← rest) (sym (bytes_eight m h (take left (drop i x)) (omega (arith, long)) less)) ∙ t.same;
         }
 
-    pub range_done : {r : ℕ} → Hashed m h (take left (drop i x)) r → Hashed m start (take n (drop at x)) r
-    range_done g = record { is = g.is ∙ t.same; small = g.small }
+    pub range_done : {r : ℕ} → Hashed m h (take (n % 8) (drop (at + n / 8 * 8) x)) r → k ≤ n / 8 → n / 8 ≤ k → Hashed m start (take n (drop at x)) r
+    range_done g l u =
+        let e : at + n / 8 * 8 ≡ at + 8 * k = omega arith in
+        let f : n % 8 ≡ n - 8 * k = omega arith in
+        record { is = rw (e, f) at g.is ∙ t.same; small = g.small }

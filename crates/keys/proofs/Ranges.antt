@@ -1,5 +1,5 @@
 -- Bytes of two records compared as numbers.
-use Prim.Native.Nat.{ℕ, zero, suc, ◌+◌, ◌-◌, ◌/◌, ◌%◌, ◌<◌, ◌≤◌}
+use Prim.Native.Nat.{ℕ, zero, suc, ◌+◌, ◌-◌, ◌*◌, ◌/◌, ◌%◌, ◌<◌, ◌≤◌}
 use mathlib.Core.Path.{◌≡◌, refl, sym, ap, ◌∙◌}
 use mathlib.Core.Logic.{⊎_elim}
 use mathlib.Core.Bool.{Bool, true, false, false≢true, and-true as and-true-right}
@@ -130,29 +130,29 @@ module _ (a b : List ℕ) where
         before zero h = let e : at + 0 ≡ at = omega arith in rw e p
         before (suc i) h = let e : suc i ≡ n / 2 = omega arith in rw e q
 
--- ---- eight at a time: i of n are equal, and then the last 8
+-- ---- eight at a time, and then the last 8
 
-pub record EqualTo (a b : List ℕ) (at n i : ℕ) : Type 0 where
-  pub within : i ≤ n
-  pub equal : equal_range_of a b at i ≡ true
+-- k times eight of the n bytes are equal
+pub record EqualTo (a b : List ℕ) (at k : ℕ) : Type 0 where
+  pub equal : equal_range_of a b at (8 * k) ≡ true
 
-module _ (a b : List ℕ) (at n : ℕ) where
-  pub eights_begun : EqualTo a b at n 0
+module _ (a b : List ℕ) (at : ℕ) where
+  pub eights_begun : EqualTo a b at 0
   unfolding equal_range_of
-  eights_begun = record { within = omega arith; equal = refl }
+  eights_begun = record { equal = refl }
 
-  module _ (i : ℕ) (w : EqualTo a b at n i) where
-    pub eights_more : {x : Bool} → x ≡ equal_range_of a b (at + i) 8 → x ≡ true → 8 < n - i → EqualTo a b at n (i + 8)
-    eights_more e t l =
-        let f : i + 8 - 8 ≡ i = omega arith in
-        let g : equal_range_of a b (at + (i + 8 - 8)) 8 ≡ equal_range_of a b at (i + 8) = last-decides a b at (i + 8) i 8 w.equal (omega arith) (omega arith) in
-        record { within = omega arith; equal = sym (rw f at g) ∙ sym e ∙ t }
+  module _ (n k : ℕ) (w : EqualTo a b at k) where
+    pub eights_more : {x : Bool} → x ≡ equal_range_of a b (at + 8 * k) 8 → x ≡ true → EqualTo a b at (k + 1)
+    eights_more e t =
+        let f : 8 * (k + 1) - 8 ≡ 8 * k = omega arith in
+        let g : equal_range_of a b (at + (8 * (k + 1) - 8)) 8 ≡ equal_range_of a b at (8 * (k + 1)) = last-decides a b at (8 * (k + 1)) (8 * k) 8 w.equal (omega arith) (omega arith) in
+        record { equal = sym (rw f at g) ∙ sym e ∙ t }
 
-    pub eights_stop : {x : Bool} → x ≡ equal_range_of a b (at + i) 8 → x ≡ false → 8 < n - i → false ≡ equal_range_of a b at n
-    eights_stop e t l = part-stops a b at n i 8 e t (omega arith)
+    pub eights_stop : {x : Bool} → x ≡ equal_range_of a b (at + 8 * k) 8 → x ≡ false → k < (n - 1) / 8 → false ≡ equal_range_of a b at n
+    eights_stop e t l = part-stops a b at n (8 * k) 8 e t (omega arith)
 
-    pub eights_last : {x : Bool} → x ≡ equal_range_of a b (at + (n - 8)) 8 → n - i ≤ 8 → 8 < n → x ≡ equal_range_of a b at n
-    eights_last e l m = e ∙ last-decides a b at n i 8 w.equal (omega arith) (omega (arith, w.within))
+    pub eights_last : {x : Bool} → x ≡ equal_range_of a b (at + (n - 8)) 8 → k ≤ (n - 1) / 8 → (n - 1) / 8 ≤ k → 8 < n → x ≡ equal_range_of a b at n
+    eights_last e l u m = e ∙ last-decides a b at n (8 * k) 8 w.equal (omega arith) (omega arith)
 
 -- ---- whole blocks of 128, and then the last 128
 

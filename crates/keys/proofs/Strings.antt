@@ -21,7 +21,6 @@ up_to_more (suc b) s n = refl
 
 -- i of n bytes are passed, none of them NUL
 pub record Passed (x : List ℕ) (at n i : ℕ) : Type 0 where
-  pub within : i ≤ n
   pub same : up_to_nul (take n (drop at x)) ≡ take i (drop at x) ++ up_to_nul (take (n - i) (drop (at + i) x))
 
 module _ (x : List ℕ) (at n : ℕ) where
@@ -29,12 +28,12 @@ module _ (x : List ℕ) (at n : ℕ) where
   string-begun =
       let e : at + 0 ≡ at = omega arith in
       let f : n - 0 ≡ n = omega arith in
-      record { within = omega arith; same = rw (e, f) }
+      record { same = rw (e, f) }
 
   module _ (i : ℕ) (w : Passed x at n i) where
-    pub string-whole : n ≤ i → UpTo x at n n
-    string-whole h =
-        let e : i ≡ n = omega (arith, w.within) in
+    pub string-whole : i ≤ n → n ≤ i → UpTo x at n n
+    string-whole l h =
+        let e : i ≡ n = omega arith in
         let f : n - i ≡ 0 = omega arith in
         record { within = omega arith; is = sym (w.same ∙ rw (f, e) (unfold up_to_nul in append-nil (take n (drop at x)))) }
 
@@ -56,7 +55,6 @@ module _ (x : List ℕ) (at n : ℕ) where
       pub string-more : (get_or x (at + i) 0 ≡ 0 → ⊥) → Passed x at n (i + 1)
       string-more z =
           record {
-            within = omega arith;
             same = w.same
                 ∙ rw (here, up_to_more (get_or x (at + i) 0) (take (n - (i + 1)) (drop (at + (i + 1)) x)) z, one_more)
                 (sym (append_assoc (take i (drop at x)) (get_or x (at + i) 0 ∷ []) (up_to_nul (take (n - (i + 1)) (drop (at + (i + 1)) x)))));

@@ -1,5 +1,5 @@
 -- The runs that words say, one after another.
-use Prim.Native.Nat.{ℕ, suc, ◌+◌, ◌-◌, ◌/◌, ◌%◌, ◌<◌, ◌≤◌}
+use Prim.Native.Nat.{ℕ, suc, ◌+◌, ◌-◌, ◌*◌, ◌/◌, ◌%◌, ◌<◌, ◌≤◌}
 use mathlib.Core.Path.{◌≡◌, refl, sym, ap, ◌∙◌}
 use mathlib.Core.Bool.{Bool, true, false, false≢true}
 use mathlib.Core.List.{List, [], ◌∷◌}
@@ -60,39 +60,39 @@ module _ (m : Multipliers) (h : ℕ) (x : List ℕ) (place code : ℕ) where
   unfolding compared_of bytes_of
   run-string w g e = rw (eq-eqb (code % 2) 1 e, ← w.is) g
 
--- ---- the runs hashed: what is left decides
+-- ---- k runs hashed: what is left decides
 
-pub record RunsTo (m : Multipliers) (runs r : List ℕ) (h g i : ℕ) : Type 0 where
-  pub within : i ≤ length runs
+pub record RunsTo (m : Multipliers) (runs r : List ℕ) (h g k : ℕ) : Type 0 where
   pub first_small : h < 34359738368
   pub second-small : g < 34359738368
-  pub inside : Inside (length r) (runs_in (drop i runs))
-  pub same : hash_runs m h g (runs_in (drop i runs)) r ≡ hash_runs m 1 1 (runs_in runs) r
+  pub inside : Inside (length r) (runs_in (drop (2 * k) runs))
+  pub same : hash_runs m h g (runs_in (drop (2 * k) runs)) r ≡ hash_runs m 1 1 (runs_in runs) r
 
 module _ (m : Multipliers) (runs r : List ℕ) where
   pub hash-begun : Inside (length r) (runs_in runs) → RunsTo m runs r 1 1 0
-  hash-begun h = record { within = omega arith; first_small = omega arith; second-small = omega arith; inside = h; same = refl }
+  hash-begun h = record { first_small = omega arith; second-small = omega arith; inside = h; same = refl }
 
-  module _ (h g i : ℕ) (w : RunsTo m runs r h g i) where
-    pub hash-here : 2 ≤ length runs - i → get_or runs i 0 + get_or runs (i + 1) 0 / 2 ≤ length r
-    hash-here l = run-here runs i (length r) w.inside l
+  module _ (h g k : ℕ) (w : RunsTo m runs r h g k) where
+    pub hash-here : k < length runs / 2 → get_or runs (2 * k) 0 + get_or runs (2 * k + 1) 0 / 2 ≤ length r
+    hash-here l = run-here runs (2 * k) (length r) w.inside (omega arith)
 
-    pub hash-next : {k : ℕ} → Hashed m h (compared_of (run_at (get_or runs i 0) (get_or runs (i + 1) 0)) r) k → 2 ≤ length runs - i → RunsTo m runs r g k (i + 2)
+    pub hash-next : {n : ℕ} → Hashed m h (compared_of (run_at (get_or runs (2 * k) 0) (get_or runs (2 * k + 1) 0)) r) n → k < length runs / 2 → RunsTo m runs r g n (k + 1)
     unfolding hash_runs
     hash-next x l =
+        let e : 2 * (k + 1) ≡ 2 * k + 2 = omega arith in
+        let some : 2 ≤ length runs - 2 * k = omega arith in
         record {
-          within = omega arith;
           first_small = w.second-small;
           second-small = x.small;
-          inside = runs_behind runs i (length r) w.inside l;
-          same = rw x.is (rw (runs_next runs i l) at w.same);
+          inside = rw e (runs_behind runs (2 * k) (length r) w.inside some);
+          same = rw (e, x.is) (rw (runs_next runs (2 * k) some) at w.same);
         }
 
-    pub hash-done : {k : ℕ} → k ≡ join_hashes_of m h g → Inside (length r) (runs_in runs) → length runs - i < 2 → k ≡ hash_of m (runs_in runs) (image_from (runs_in runs) r 0 (length r))
+    pub hash-done : {n : ℕ} → n ≡ join_hashes_of m h g → Inside (length r) (runs_in runs) → length runs / 2 ≤ k → n ≡ hash_of m (runs_in runs) (image_from (runs_in runs) r 0 (length r))
     unfolding hash_runs hash_of
     hash-done j q l =
-        let e : ◌≡◌ {A = ℕ × ℕ} (h, g) (hash_runs m 1 1 (runs_in runs) r) = rw (runs_none runs i l) at w.same in
-        j ∙ ap (λ (k : ℕ × ℕ). join_hashes_of m k.0 k.1) e ∙ sym (hash-image m (runs_in runs) r (length r) q refl)
+        let e : ◌≡◌ {A = ℕ × ℕ} (h, g) (hash_runs m 1 1 (runs_in runs) r) = rw (runs_none runs (2 * k) (omega arith)) at w.same in
+        j ∙ ap (λ (n : ℕ × ℕ). join_hashes_of m n.0 n.1) e ∙ sym (hash-image m (runs_in runs) r (length r) q refl)
 
 -- ---- one run compared
 
@@ -108,40 +108,41 @@ module _ (a b : List ℕ) (place code : ℕ) where
         differs = λ e. (field-differs (code / 2) a b place 0 w e l).apart refl;
       })
 
--- ---- the runs compared: what is left decides
+-- ---- k runs compared: what is left decides
 
-pub record SameFrom (runs a b : List ℕ) (i : ℕ) : Type 0 where
-  pub within : i ≤ length runs
-  pub inside : Inside (length a) (runs_in (drop i runs))
-  pub decides : (x : Bool) → SameIn (runs_in (drop i runs)) a b x → SameIn (runs_in runs) a b x
+pub record SameFrom (runs a b : List ℕ) (k : ℕ) : Type 0 where
+  pub inside : Inside (length a) (runs_in (drop (2 * k) runs))
+  pub decides : (x : Bool) → SameIn (runs_in (drop (2 * k) runs)) a b x → SameIn (runs_in runs) a b x
 
 module _ (runs a b : List ℕ) where
   pub same-begun : Inside (length a) (runs_in runs) → SameFrom runs a b 0
-  same-begun h = record { within = omega arith; inside = h; decides = λ x w. w }
+  same-begun h = record { inside = h; decides = λ x w. w }
 
-  module _ (i : ℕ) (w : SameFrom runs a b i) where
-    pub same_here : 2 ≤ length runs - i → get_or runs i 0 + get_or runs (i + 1) 0 / 2 ≤ length a
-    same_here l = run-here runs i (length a) w.inside l
+  module _ (k : ℕ) (w : SameFrom runs a b k) where
+    pub same_here : k < length runs / 2 → get_or runs (2 * k) 0 + get_or runs (2 * k + 1) 0 / 2 ≤ length a
+    same_here l = run-here runs (2 * k) (length a) w.inside (omega arith)
 
-    pub same_next : {r : Bool} → SameIn (run_at (get_or runs i 0) (get_or runs (i + 1) 0) ∷ []) a b r → r ≡ true → 2 ≤ length runs - i → SameFrom runs a b (i + 2)
+    pub same_next : {r : Bool} → SameIn (run_at (get_or runs (2 * k) 0) (get_or runs (2 * k + 1) 0) ∷ []) a b r → r ≡ true → k < length runs / 2 → SameFrom runs a b (k + 1)
     same_next q e l =
-        let f = run_at (get_or runs i 0) (get_or runs (i + 1) 0) in
-        let gs = runs_in (drop (i + 2) runs) in
+        let f = run_at (get_or runs (2 * k) 0) (get_or runs (2 * k + 1) 0) in
+        let gs = runs_in (drop (2 * k + 2) runs) in
+        let z : 2 * (k + 1) ≡ 2 * k + 2 = omega arith in
+        let some : 2 ≤ length runs - 2 * k = omega arith in
         record {
-          within = omega arith;
-          inside = runs_behind runs i (length a) w.inside l;
+          inside = rw z (runs_behind runs (2 * k) (length a) w.inside some);
           decides = λ x g.
-              w.decides x (rw (runs_next runs i l) (record {
-                same = λ t. agree_both (f ∷ []) gs (q.same e) (g.same t);
-                differs = λ t. differ_second (f ∷ []) gs (g.differs t);
+              let h : SameIn gs a b x = rw z at g in
+              w.decides x (rw (runs_next runs (2 * k) some) (record {
+                same = λ t. agree_both (f ∷ []) gs (q.same e) (h.same t);
+                differs = λ t. differ_second (f ∷ []) gs (h.differs t);
               }));
         }
 
-    pub same-apart : {r : Bool} → SameIn (run_at (get_or runs i 0) (get_or runs (i + 1) 0) ∷ []) a b r → r ≡ false → 2 ≤ length runs - i → SameIn (runs_in runs) a b false
+    pub same-apart : {r : Bool} → SameIn (run_at (get_or runs (2 * k) 0) (get_or runs (2 * k + 1) 0) ∷ []) a b r → r ≡ false → k < length runs / 2 → SameIn (runs_in runs) a b false
     same-apart q e l =
-        let f = run_at (get_or runs i 0) (get_or runs (i + 1) 0) in
-        let gs = runs_in (drop (i + 2) runs) in
-        w.decides false (rw (runs_next runs i l) (record { same = λ t. absurd (false≢true t); differs = λ t. differ_first (f ∷ []) gs (q.differs e) }))
+        let f = run_at (get_or runs (2 * k) 0) (get_or runs (2 * k + 1) 0) in
+        let gs = runs_in (drop (2 * k + 2) runs) in
+        w.decides false (rw (runs_next runs (2 * k) (omega arith)) (record { same = λ t. absurd (false≢true t); differs = λ t. differ_first (f ∷ []) gs (q.differs e) }))
 
-    pub same-all : length runs - i < 2 → SameIn (runs_in runs) a b true
-    same-all l = w.decides true (rw (runs_none runs i l) (record { same = λ t. agree-none; differs = λ t. absurd (false≢true (sym t)) }))
+    pub same-all : length runs / 2 ≤ k → SameIn (runs_in runs) a b true
+    same-all l = w.decides true (rw (runs_none runs (2 * k) (omega arith)) (record { same = λ t. agree-none; differs = λ t. absurd (false≢true (sym t)) }))

@@ -1,51 +1,38 @@
 -- The answers of `list_fields` and `list_refusal`, and what they leave in `out`.
 use Prim.Native.Nat.{ℕ, ◌+◌, ◌*◌, ◌<◌, ◌≤◌, min}
-use mathlib.Core.Path.{◌≡◌, sym, ap, ◌∙◌}
+use mathlib.Core.Path.{◌≡◌, refl, sym, ap, ◌∙◌}
 use mathlib.Core.List.{List, [], ◌∷◌, ◌++◌}
 use native.Mathlib.Omega.{arith}
 use lib.ListN.{length, drop}
+use Rattle.std.specs.Prelude.{Option, None, Result, Ok, Err}
+use Rattle.std.specs.Option.{ok_or}
 use borrow.Author.Tests.{le-leb, lt-leb}
 use Rattle.refusal.specs.declared.Refusal.{Refusal}
 use Rattle.refusal.specs.declared.Refusal.TheVariants.{BadTable, NoRoom}
 use Rattle.format.specs.Datatype.{Datatype}
-use Rattle.format.specs.Outcome.{Outcome, gives, refuses, when_given, unless, output_after, needed, outcome_number, outcome_values}
+use Rattle.format.specs.Outcome.{Outcome, gives, refuses, when_given, unless, output_after, needed}
+use Rattle.format.proofs.Outcomes.{answers-given, answers-refused}
 use Rattle.format.specs.Table.{Found, type_at, type_of}
 use Rattle.format.proofs.Lists.{sets-front}
 use Rattle.format.proofs.Table.{type-found}
 use Rattle.table.specs.Survey.{Checks}
 use Rattle.table.specs.declared.Survey.{Survey}
-use Rattle.table.specs.declared.Checked.{Checked}
-use Rattle.table.specs.declared.Checked.TheVariants.{Good, Bad}
 use Rattle.listing.specs.Text.{heading, fields_text, fitting, fields_listing, refusal_text, refusal_listing}
 use Rattle.listing.specs.Puts.{Puts, name_in_of, PutsType}
-use Rattle.listing.specs.Answers.{listing_number, listing_values, answer_of, Answers, PutsFields, ListsType}
-use Rattle.listing.specs.declared.Name.TheVariants.{Nameless}
-use Rattle.listing.specs.declared.Listing.{Listing}
-use Rattle.listing.specs.declared.Listing.TheVariants.{Listed, Refused}
+use Rattle.listing.specs.Answers.{Answers, PutsFields, ListsType}
+use Rattle.table.proofs.Answers.{ok-some, bad-table, bad-answer}
 use Rattle.listing.proofs.Pieces.{then-put}
 
 -- ---- an outcome's answer
 
 module _ {o : Outcome (List ℕ)} {out : List ℕ} where
-  refused : {e : Refusal} → o ≡ refuses e → Answers o (Refused e) out out
-  unfolding answer_of listing_number listing_values outcome_number outcome_values output_after
-  refused h =
-      record {
-        answer = sym (ap answer_of h);
-        number = sym (ap outcome_number h);
-        values = sym (ap (outcome_values (λ s. length s ∷ [])) h);
-        out-is = sym (ap (output_after out) h);
-      }
+  refused : {e : Refusal} → o ≡ refuses e → Answers o (Err e) out out
+  unfolding output_after
+  refused {e = e} h = record { answers = answers-refused _ _ o e _ h refl; out-is = sym (ap (output_after out) h) }
 
-  given : {s out' : List ℕ} {n : ℕ} → o ≡ gives s → n ≡ length s → out' ≡ s ++ drop (length s) out → Answers o (Listed n) out out'
-  unfolding answer_of listing_number listing_values outcome_number outcome_values output_after
-  given h e w =
-      record {
-        answer = ap Listed e ∙ sym (ap answer_of h);
-        number = sym (ap outcome_number h);
-        values = ap (λ (n : ℕ). n ∷ []) e ∙ sym (ap (outcome_values (λ s. length s ∷ [])) h);
-        out-is = w ∙ sym (ap (output_after out) h);
-      }
+  given : {s out' : List ℕ} {n : ℕ} → o ≡ gives s → n ≡ length s → out' ≡ s ++ drop (length s) out → Answers o (Ok n) out out'
+  unfolding output_after
+  given {s = s} h e w = record { answers = answers-given length _ o s _ h (ap Ok e); out-is = w ∙ sym (ap (output_after out) h) }
 
 -- ---- a text, measured without room
 
@@ -63,10 +50,10 @@ module _ (s : List ℕ) {n : ℕ} {none none' : List ℕ} (m : Puts s 0 n none n
   unfolding fitting unless
   fitting-there h = rw (le-leb (length s) (length out) h)
 
-  no_room : length out < n → Answers (fitting (length out) s) (Refused (NoRoom n)) out out
+  no_room : length out < n → Answers (fitting (length out) s) (Err (NoRoom n)) out out
   no_room h = refused (fitting-not h)
 
-  room : length out * 1 < 9223372036854775808 → n ≤ length out → {k : ℕ} {out' : List ℕ} → Puts s 0 k out out' → Answers (fitting (length out) s) (Listed n) out out'
+  room : length out * 1 < 9223372036854775808 → n ≤ length out → {k : ℕ} {out' : List ℕ} → Puts s 0 k out out' → Answers (fitting (length out) s) (Ok n) out out'
   room small h x =
       let l : n ≡ length s = omega (arith, long) in
       given (fitting-there (omega arith)) l (x.written (omega arith) (omega arith) ∙ sets-front s out (omega arith))
@@ -74,11 +61,11 @@ module _ (s : List ℕ) {n : ℕ} {none none' : List ℕ} (m : Puts s 0 n none n
 -- ---- a refusal's line
 
 module _ (e : Refusal) (out : List ℕ) {n : ℕ} {none none' : List ℕ} (m : Puts (refusal_text e) 0 n none none') where
-  pub refusal_no_room : length out < n → Answers (refusal_listing e (length out)) (Refused (NoRoom n)) out out
+  pub refusal_no_room : length out < n → Answers (refusal_listing e (length out)) (Err (NoRoom n)) out out
   unfolding refusal_listing
   refusal_no_room h = no_room (refusal_text e) m out h
 
-  pub refusal_listed : length out * 1 < 9223372036854775808 → n ≤ length out → {k : ℕ} {out' : List ℕ} → Puts (refusal_text e) 0 k out out' → Answers (refusal_listing e (length out)) (Listed n) out out'
+  pub refusal_listed : length out * 1 < 9223372036854775808 → n ≤ length out → {k : ℕ} {out' : List ℕ} → Puts (refusal_text e) 0 k out out' → Answers (refusal_listing e (length out)) (Ok n) out out'
   unfolding refusal_listing
   refusal_listed small h x = room (refusal_text e) m out small h x
 
@@ -86,7 +73,7 @@ module _ (e : Refusal) (out : List ℕ) {n : ℕ} {none none' : List ℕ} (m : P
 
 pub fields-put : {y : Found Datatype} (pool : List ℕ) {a r : ℕ} {out out₁ out₂ : List ℕ}
     → Puts (108 ∷ 101 ∷ 118 ∷ 101 ∷ 108 ∷ 32 ∷ 99 ∷ 108 ∷ 97 ∷ 115 ∷ 115 ∷ 32 ∷ 111 ∷ 102 ∷ 102 ∷ 115 ∷ 101 ∷ 116 ∷ 32 ∷ 115 ∷ 105 ∷ 122 ∷ 101 ∷ 32 ∷ 110 ∷ 97 ∷ 109 ∷ 101 ∷ 10 ∷ []) 0 a out out₁
-    → PutsType 1 0 (name_in_of pool Nameless) a y r out₁ out₂ → PutsFields y r out out₂
+    → PutsType 1 0 (name_in_of pool None) a y r out₁ out₂ → PutsFields y r out out₂
 unfolding fields_text heading name_in_of
 fields-put pool x m = record { puts = λ t r p f. then-put x (m.puts t r p f) }
 
@@ -94,19 +81,19 @@ module _ (table pool out : List ℕ) {n : ℕ} {none none' : List ℕ} (m : Puts
   said : (t : Datatype) → type_of table pool ≡ gives t → {k : ℕ} {out₁ out₂ : List ℕ} → PutsFields (type_at 32 table pool 0 0) k out₁ out₂ → Puts (fields_text t) 0 k out₁ out₂
   said t h x = let f = type-found table pool t h in x.puts t f.row f.place f.is
 
-  pub fields_no_room : length out < n → ListsType table pool (Refused (NoRoom n)) out out
+  pub fields_no_room : length out < n → ListsType table pool (Err (NoRoom n)) out out
   fields_no_room h = record { lists = λ t f. no_room (fields_text t) (said t f m) out h }
 
-  pub fields-listed : length out * 1 < 9223372036854775808 → n ≤ length out → {k : ℕ} {out' : List ℕ} → PutsFields (type_at 32 table pool 0 0) k out out' → ListsType table pool (Listed n) out out'
+  pub fields-listed : length out * 1 < 9223372036854775808 → n ≤ length out → {k : ℕ} {out' : List ℕ} → PutsFields (type_at 32 table pool 0 0) k out out' → ListsType table pool (Ok n) out out'
   fields-listed small h x = record { lists = λ t f. room (fields_text t) (said t f m) out small h (said t f x) }
 
 -- ---- a table that is checked
 
-module _ (table pool out : List ℕ) {x : Checked} (k : Checks table pool x) where
-  pub list-bad : x ≡ Bad → Answers (fields_listing table pool (length out)) (Refused BadTable) out out
+module _ (table pool out : List ℕ) {x : Option Survey} (k : Checks table pool x) {o : Result Survey Refusal} (w : o ≡ ok_or x BadTable) where
+  pub list-bad : {a : Result ℕ Refusal} {e y : Refusal} → o ≡ Err e → a ≡ Err y → y ≡ e → Answers (fields_listing table pool (length out)) a out out
   unfolding fields_listing when_given
-  list-bad b = let e = k.bad-table b in refused (rw e)
+  list-bad i d f = rw (bad-answer table pool k w i d f) (refused (rw (bad-table table pool k w i)))
 
-  pub list-good : {s : Survey} {r : Listing} {out' : List ℕ} → x ≡ Good s → ListsType table pool r out out' → Answers (fields_listing table pool (length out)) r out out'
+  pub list-good : {s : Survey} {r : Result ℕ Refusal} {out' : List ℕ} → o ≡ Ok s → ListsType table pool r out out' → Answers (fields_listing table pool (length out)) r out out'
   unfolding fields_listing when_given
-  list-good {s = s} g j = let w = k.good s g in rw w.is (j.lists w.type w.is)
+  list-good {s = s} i j = let v = k.good s (ok-some w i) in rw v.is (j.lists v.type v.is)

@@ -2,7 +2,8 @@
 use Prim.Native.Nat.{ℕ, zero, suc, ◌+◌, ◌-◌, ◌<◌, ◌≤◌}
 use mathlib.Core.Path.{◌≡◌, refl, sym, ap, ◌∙◌}
 use mathlib.Core.List.{List, [], ◌∷◌, ◌++◌, append-nil}
-use mathlib.Core.Option.{Option, some}
+use mathlib.Core.Option as maybe
+use Rattle.std.specs.Prelude.{Option, Some, None}
 use native.Mathlib.Omega.{arith}
 use native.Mathlib.Numerals.{add-one}
 use lib.ListN.{length, take, drop}
@@ -11,41 +12,49 @@ use Rattle.format.specs.Table.{found, bad, Walk, and_then, type_at, members_at}
 use Rattle.format.proofs.TableSteps.{no_found}
 use Rattle.rows.specs.Entries.{entry_at, member_at_of, from_member}
 use Rattle.rows.specs.declared.Member.{Member}
-use Rattle.rows.specs.declared.Member.TheVariants.{Named, Unnamed}
 use Rattle.rows.proofs.Decode.{members_at-entry}
 use Rattle.listing.specs.Text.{decimal, spaced, name_text, line, inner_lines, member_lines, lines}
-use Rattle.listing.specs.Puts.{Puts, name_in_of, class_in, InsideAt, Reaches, PutsLine, PutsType, PutsMembers}
-use Rattle.listing.specs.declared.Name.TheVariants.{Nameless, Named as Called}
+use Rattle.listing.specs.Puts.{Puts, name_in_of, class_in, InsideAt, PutsLine, PutsType, PutsMembers}
 use Rattle.listing.specs.declared.Inside.{Inside}
 use Rattle.listing.specs.declared.Inside.TheVariants.{Nothing, Members as InsideMembers, Base}
-use Rattle.listing.specs.declared.Extent.{Extent}
+use Rattle.table.specs.Survey.{survey_of}
+use Rattle.table.specs.declared.Survey.{Survey}
 use Rattle.listing.proofs.Pieces.{nothing_put, then-put, put_as}
-use Rattle.listing.proofs.Shapes.{found-is, then_found, Inner, shape}
+use Rattle.listing.proofs.Shapes.{found-is, then_found, reached, somewhere, Inner, shape}
 
 -- ---- one line
 
-line_as : (l o : ℕ) (b : Option (List ℕ)) (t : Datatype) {c n : ℕ} → c ≡ class_number t → n ≡ type_size_of t → (decimal l ++ spaced (c ∷ o ∷ n ∷ [])) ++ ((32 ∷ name_text b) ++ (10 ∷ [])) ≡ line l o b t
+line_as : (l o : ℕ) (b : maybe.Option (List ℕ)) (t : Datatype) {c n : ℕ} → c ≡ class_number t → n ≡ type_size_of t → (decimal l ++ spaced (c ∷ o ∷ n ∷ [])) ++ ((32 ∷ name_text b) ++ (10 ∷ [])) ≡ line l o b t
 unfolding line
 line_as l o b t e f = rw (e, f)
 
-lines_as : (l o : ℕ) (b : Option (List ℕ)) (t : Datatype) {s : List ℕ} → inner_lines l t ≡ s → line l o b t ++ s ≡ lines l o b t
+lines_as : (l o : ℕ) (b : maybe.Option (List ℕ)) (t : Datatype) {s : List ℕ} → inner_lines l t ≡ s → line l o b t ++ s ≡ lines l o b t
 unfolding lines
 lines_as l o b t e = rw e
 
-lines_none : (l o : ℕ) (b : Option (List ℕ)) (t : Datatype) → inner_lines l t ≡ [] → line l o b t ≡ lines l o b t
+lines_none : (l o : ℕ) (b : maybe.Option (List ℕ)) (t : Datatype) → inner_lines l t ≡ [] → line l o b t ≡ lines l o b t
 lines_none l o b t e = sym (append-nil (line l o b t)) ∙ lines_as l o b t e
 
-module _ (levels o : ℕ) (b : Option (List ℕ)) (at : ℕ) (table pool : List ℕ) (r p : ℕ) (out : List ℕ) where
-  pub line-put : {x : Extent} {c a z : ℕ} {out₁ out₂ : List ℕ} → Reaches (type_at levels table pool r p) x → c ≡ class_in (entry_at table pool r p)
-      → Puts (decimal (33 - levels) ++ spaced (c ∷ o ∷ x.size ∷ [])) at a out out₁ → Puts ((32 ∷ name_text b) ++ (10 ∷ [])) a z out₁ out₂
+module _ (levels o : ℕ) (b : maybe.Option (List ℕ)) (at : ℕ) (table pool : List ℕ) (r p : ℕ) (out : List ℕ) where
+  line-put : {c n a z : ℕ} {out₁ out₂ : List ℕ} → ((t : Datatype) (r' p' : ℕ) → type_at levels table pool r p ≡ found t r' p' → n ≡ type_size_of t) → c ≡ class_in (entry_at table pool r p)
+      → Puts (decimal (33 - levels) ++ spaced (c ∷ o ∷ n ∷ [])) at a out out₁ → Puts ((32 ∷ name_text b) ++ (10 ∷ [])) a z out₁ out₂
       → PutsLine (33 - levels) o b at (type_at levels table pool r p) z out out₂
-  line-put {x = x} {c = c} h q n m =
+  line-put {c = c} {n = n} h q m x =
       record {
         puts = λ t r' p' f.
-            let e : x.size ≡ type_size_of t = ap (λ (i : Extent). i.size) (h.reaches t r' p' f) in
+            let e : n ≡ type_size_of t = h t r' p' f in
             let g : c ≡ class_number t = q ∙ (shape levels table pool r p f).class in
-            put_as (line_as (33 - levels) o b t g e) (then-put n m);
+            put_as (line_as (33 - levels) o b t g e) (then-put m x);
       }
+
+  module _ {y : Option Survey} (d : y ≡ survey_of (type_at levels table pool r p)) where
+    pub line-none : (n : ℕ) {c a z : ℕ} {out₁ out₂ : List ℕ} → y ≡ None → c ≡ class_in (entry_at table pool r p)
+        → Puts (decimal (33 - levels) ++ spaced (c ∷ o ∷ n ∷ [])) at a out out₁ → Puts ((32 ∷ name_text b) ++ (10 ∷ [])) a z out₁ out₂ → PutsLine (33 - levels) o b at (type_at levels table pool r p) z out out₂
+    line-none n i q m x = line-put (λ t r' p' f. absurd (somewhere _ d f i)) q m x
+
+    pub line-some : {s : Survey} {c n a z : ℕ} {out₁ out₂ : List ℕ} → y ≡ Some s → n ≡ s.size → c ≡ class_in (entry_at table pool r p)
+        → Puts (decimal (33 - levels) ++ spaced (c ∷ o ∷ n ∷ [])) at a out out₁ → Puts ((32 ∷ name_text b) ++ (10 ∷ [])) a z out₁ out₂ → PutsLine (33 - levels) o b at (type_at levels table pool r p) z out out₂
+    line-some i j q m x = line-put (λ t r' p' f. j ∙ (reached _ d f i).1.1) q m x
 
   -- ---- a type
 
@@ -78,7 +87,7 @@ module _ (levels o : ℕ) (b : Option (List ℕ)) (at : ℕ) (table pool : List 
               put_as (lines_as (33 - levels) o b t w.text) (then-put (n.puts t r' p' f) (rw deeper at (m.puts w.members w.row w.place w.are)));
         }
 
-    pub type-base : {k z : ℕ} {out₂ : List ℕ} → y ≡ Base k → PutsType (33 - (levels - 1)) 0 (name_in_of pool Nameless) a (type_at (levels - 1) table pool (r + 1) k) z out₁ out₂
+    pub type-base : {k z : ℕ} {out₂ : List ℕ} → y ≡ Base k → PutsType (33 - (levels - 1)) 0 (name_in_of pool None) a (type_at (levels - 1) table pool (r + 1) k) z out₁ out₂
         → PutsType (33 - levels) o b at (type_at levels table pool r p) z out out₂
     unfolding Inner name_in_of
     type-base i m =
@@ -90,7 +99,7 @@ module _ (levels o : ℕ) (b : Option (List ℕ)) (at : ℕ) (table pool : List 
 
 -- ---- the members of a compound
 
-member_as : (l o : ℕ) (b : List ℕ) (t : Datatype) (ms : Members) → lines l o (some b) t ++ member_lines l ms ≡ member_lines l (member b o t ms)
+member_as : (l o : ℕ) (b : List ℕ) (t : Datatype) (ms : Members) → lines l o (maybe.some b) t ++ member_lines l ms ≡ member_lines l (member b o t ms)
 unfolding lines member_lines
 member_as l o b t ms = refl
 
@@ -104,35 +113,42 @@ pub record MembersLeft (rd : Walk Datatype) (table pool : List ℕ) (l count row
   pub rest : (x : ℕ) (out' : List ℕ) → PutsMembers l a (members_at rd table pool k r p) x out out' → PutsMembers l at (members_at rd table pool count row place) x out₀ out'
 
 module _ (rd : Walk Datatype) (table pool : List ℕ) (r p : ℕ) where
-  members_as : (k : ℕ) {m : Member} {o n : ℕ} → 0 < k → m ≡ member_at_of table pool r p → m ≡ Named o n
-      → members_at rd table pool k r p ≡ and_then (rd (r + 1) (p + n)) (λ t r₁ p₁. and_then (members_at rd table pool (k - 1) r₁ p₁) (λ ms r₂ p₂. found (member (take n (drop p pool)) o t ms) r₂ p₂))
+  members_as : (k : ℕ) {x : Option Member} {m : Member} → 0 < k → x ≡ member_at_of table pool r p → x ≡ Some m
+      → members_at rd table pool k r p ≡ and_then (rd (r + 1) (p + m.name)) (λ t r₁ p₁. and_then (members_at rd table pool (k - 1) r₁ p₁) (λ ms r₂ p₂. found (member (take m.name (drop p pool)) m.number t ms) r₂ p₂))
   unfolding from_member
   members_as (suc k) h q e =
       let j : suc k - 1 ≡ k = omega arith in
       members_at-entry table pool k r p rd ∙ ap (from_member rd (members_at rd table pool k) pool r p) (sym q ∙ e) ∙ rw (j, add-one)
   members_as zero h q e = absurd (omega arith)
 
-  members-none : (k : ℕ) {m : Member} → 0 < k → m ≡ member_at_of table pool r p → m ≡ Unnamed → members_at rd table pool k r p ≡ bad
+  members-none : (k : ℕ) {x : Option Member} → 0 < k → x ≡ member_at_of table pool r p → x ≡ None → members_at rd table pool k r p ≡ bad
   unfolding from_member
   members-none (suc k) h q e = members_at-entry table pool k r p rd ∙ ap (from_member rd (members_at rd table pool k) pool r p) (sym q ∙ e)
   members-none zero h q e = absurd (omega arith)
 
   -- the first of k members, and those behind it
-  one_more : (l k a o n : ℕ) {m : Member} {b z : ℕ} {x : Extent} {out out₁ out₂ : List ℕ} → 0 < k → m ≡ member_at_of table pool r p → m ≡ Named o n
-      → PutsType l o (some (take n (drop p pool))) a (rd (r + 1) (p + n)) b out out₁ → Reaches (rd (r + 1) (p + n)) x → PutsMembers l b (members_at rd table pool (k - 1) x.row x.place) z out₁ out₂
-      → PutsMembers l a (members_at rd table pool k r p) z out out₂
-  one_more l k a o n {x = x} h q e t g s =
-      record {
-        puts = λ ms r' p' f.
-            let w = then_found (rd (r + 1) (p + n)) _ (sym (members_as k h q e) ∙ f) in
-            let v = then_found (members_at rd table pool (k - 1) w.row w.place) _ w.rest in
-            let i : x.row ≡ w.row = ap (λ (j : Extent). j.row) (g.reaches w.first w.row w.place w.is) in
-            let j : x.place ≡ w.place = ap (λ (j : Extent). j.place) (g.reaches w.first w.row w.place w.is) in
-            let u : members_at rd table pool (k - 1) x.row x.place ≡ found v.first v.row v.place = rw (i, j) v.is in
-            let d : member (take n (drop p pool)) o w.first v.first ≡ ms = (found-is v.rest).0 in
-            put_as (member_as l o (take n (drop p pool)) w.first v.first ∙ ap (member_lines l) d)
-            (then-put (t.puts w.first w.row w.place w.is) (s.puts v.first v.row v.place u));
-      }
+  module _ (l k a : ℕ) {y : Option Member} {m : Member} {u : Option Survey} (h : 0 < k) (q : y ≡ member_at_of table pool r p) (e : y ≡ Some m) (d : u ≡ survey_of (rd (r + 1) (p + m.name))) where
+    none_more : {z : ℕ} {out out₁ : List ℕ} → u ≡ None → PutsMembers l a (members_at rd table pool k r p) z out out₁
+    none_more i =
+        record {
+          puts = λ ms r' p' f.
+              let w = then_found (rd (r + 1) (p + m.name)) _ (sym (members_as k h q e) ∙ f) in
+              absurd (somewhere _ d w.is i);
+        }
+
+    one_more : {b z : ℕ} {s : Survey} {out out₁ out₂ : List ℕ} → u ≡ Some s → PutsType l m.number (maybe.some (take m.name (drop p pool))) a (rd (r + 1) (p + m.name)) b out out₁
+        → PutsMembers l b (members_at rd table pool (k - 1) s.row s.place) z out₁ out₂ → PutsMembers l a (members_at rd table pool k r p) z out out₂
+    one_more {s = s} i t x =
+        record {
+          puts = λ ms r' p' f.
+              let w = then_found (rd (r + 1) (p + m.name)) _ (sym (members_as k h q e) ∙ f) in
+              let v = then_found (members_at rd table pool (k - 1) w.row w.place) _ w.rest in
+              let g = reached _ d w.is i in
+              let j : members_at rd table pool (k - 1) s.row s.place ≡ found v.first v.row v.place = rw (g.0, g.1.0) v.is in
+              let c : member (take m.name (drop p pool)) m.number w.first v.first ≡ ms = (found-is v.rest).0 in
+              put_as (member_as l m.number (take m.name (drop p pool)) w.first v.first ∙ ap (member_lines l) c)
+              (then-put (t.puts w.first w.row w.place w.is) (x.puts v.first v.row v.place j));
+        }
 
 module _ {rd : Walk Datatype} {table pool : List ℕ} {l count row place at : ℕ} {out₀ : List ℕ} where
   pub members-begun : MembersLeft rd table pool l count row place at out₀ count row place at out₀
@@ -148,12 +164,16 @@ module _ {rd : Walk Datatype} {table pool : List ℕ} {l count row place at : �
               put_as (no_lines l ∙ ap (member_lines l) (found-is e).0) nothing_put;
         }))
 
-    module _ (h : 0 < k) {m : Member} (q : m ≡ member_at_of table pool r p) where
-      pub members_unnamed : m ≡ Unnamed → PutsMembers l at (members_at rd table pool count row place) a out₀ out
+    module _ (h : 0 < k) {y : Option Member} (q : y ≡ member_at_of table pool r p) where
+      pub members_unnamed : y ≡ None → PutsMembers l at (members_at rd table pool count row place) a out₀ out
       members_unnamed f = i.rest a out (rw (members-none rd table pool r p k h q f) (record { puts = λ ms r' p' g. absurd (no_found g) }))
 
-      pub members-next : {o n b : ℕ} {x : Extent} {out₁ : List ℕ} → m ≡ Named o n → length out₁ ≡ length out
-          → PutsType l o (name_in_of pool (Called p n)) a (rd (r + 1) (p + n)) b out out₁ → Reaches (rd (r + 1) (p + n)) x
-          → MembersLeft rd table pool l count row place at out₀ (k - 1) x.row x.place b out₁
-      unfolding name_in_of
-      members-next {o = o} {n = n} e c t g = record { long = c ∙ i.long; rest = λ z o' s. i.rest z o' (one_more rd table pool r p l k a o n h q e t g s) }
+      module _ {m : Member} {u : Option Survey} (e : y ≡ Some m) (d : u ≡ survey_of (rd (r + 1) (p + m.name))) where
+        pub members_unsurveyed : {z : ℕ} {out' : List ℕ} → u ≡ None → PutsMembers l at (members_at rd table pool count row place) z out₀ out'
+        members_unsurveyed f = i.rest _ _ (none_more rd table pool r p l k a h q e d f)
+
+        pub members-next : {b less : ℕ} {s : Survey} {out₁ : List ℕ} → u ≡ Some s → length out₁ ≡ length out
+            → PutsType l m.number (name_in_of pool (Some (record { place = p; length = m.name }))) a (rd (r + 1) (p + m.name)) b out out₁ → less ≡ k - 1
+            → MembersLeft rd table pool l count row place at out₀ less s.row s.place b out₁
+        unfolding name_in_of
+        members-next f c t g = rw g (record { long = c ∙ i.long; rest = λ z o' x. i.rest z o' (one_more rd table pool r p l k a h q e d f t x) })

@@ -6,9 +6,9 @@ use mathlib.Core.List.{List, [], ◌∷◌, ◌++◌, append_assoc, append-nil}
 use mathlib.Core.Option.{some}
 use native.Mathlib.Omega.{arith}
 use native.Mathlib.Numerals.{add-one}
-use lib.ListN.{length, get_or, take, drop, length-append, length-drop}
-use lib.Seq.{sets, length-sets, set_out, take-suc, take_all, get_or-take, get_or-drop, length-take-le}
-use mir.Syntax.{w8}
+use lib.ListN.{length, get_or, take, drop, length-append}
+use lib.Seq.{sets, length-sets, set_out, take-suc, take_all, length-take-le}
+use mir.Syntax.{w64}
 use mir.Val.{Fits}
 use lib.Dec.{ltb}
 use borrow.Author.Tests.{lt-ltb, le-ltb, ltb-true, ltb-false}
@@ -19,8 +19,8 @@ use Rattle.refusal.specs.declared.Refusal.TheVariants.{BadTable, TooDeep, TooMan
 use Rattle.refusal.specs.declared.RefusalValues.{RefusalValues}
 use Rattle.listing.specs.Text.{decimal_in, decimal, spaced, hex_digit_of, hexadecimal, name_text, refusal_text}
 use Rattle.listing.specs.Puts.{last, Puts, name_in_of, NameInside}
-use Rattle.listing.specs.declared.Name.{Name}
-use Rattle.listing.specs.declared.Name.TheVariants.{Nameless, Named}
+use Rattle.table.specs.declared.NamePart.{NamePart}
+use Rattle.std.specs.Prelude.{Option, Some, None}
 
 -- past the end nothing is stored
 sets-past : (vs l : List ℕ) (i : ℕ) → length l ≤ i → sets l i vs ≡ l
@@ -159,67 +159,59 @@ unfolding hexadecimal
 hex_joins [] y = refl
 hex_joins (b ∷ x) y = ap (λ (l : List ℕ). hex_digit_of (b / 16) ∷ hex_digit_of (b % 16) ∷ l) (hex_joins x y)
 
--- a byte's high digit
-pub byte_high : (pool : List ℕ) (i : ℕ) → ((j : ℕ) → Fits w8 (get_or pool j 0)) → get_or pool i 0 / 16 < 16
-byte_high pool i h = omega (arith, (h i).fits)
+module _ {s : List ℕ} {at : ℕ} {out₀ : List ℕ} where
+  pub hex_begun : PutFirst hexadecimal s at out₀ 0 at out₀
+  unfolding hexadecimal
+  hex_begun = first-begun refl
 
--- n bytes of the pool from p on
-module _ (pool : List ℕ) (p n : ℕ) (inside : p + n ≤ length pool) where
-  piece-long : length (take n (drop p pool)) ≡ n
-  piece-long = length-take-le n (drop p pool) (omega (arith, length-drop p pool))
+  module _ {k a : ℕ} {out : List ℕ} (i : PutFirst hexadecimal s at out₀ k a out) where
+    pub hex_next : k < length s → {b c d e : ℕ} {out₁ out₂ : List ℕ} → length out₁ ≡ length out → length out₂ ≡ length out₁
+        → d ≡ hex_digit_of (get_or s k 0 / 16) → Puts (d ∷ []) a b out out₁ → e ≡ hex_digit_of (get_or s k 0 % 16) → Puts (e ∷ []) b c out₁ out₂ → PutFirst hexadecimal s at out₀ (k + 1) c out₂
+    hex_next h {d = d} {e = e} l m f x g y =
+        let q : d ∷ e ∷ [] ≡ hexadecimal (get_or s k 0 ∷ []) = unfold hexadecimal in rw (f, g) in
+        first_next i hex_joins h (m ∙ l) (put_as q (then-put x y))
 
-  piece_byte : (k : ℕ) → k < n → get_or (take n (drop p pool)) k 0 ≡ get_or pool (p + k) 0
-  piece_byte k h = get_or-take n (drop p pool) k 0 h ∙ get_or-drop p pool k 0
-
-  module _ {at : ℕ} {out₀ : List ℕ} where
-    pub hex_begun : PutFirst hexadecimal (take n (drop p pool)) at out₀ 0 at out₀
-    unfolding hexadecimal
-    hex_begun = first-begun refl
-
-    module _ {k a : ℕ} {out : List ℕ} (i : PutFirst hexadecimal (take n (drop p pool)) at out₀ k a out) where
-      pub hex_next : k < n → {b c d e : ℕ} {out₁ out₂ : List ℕ} → length out₁ ≡ length out → length out₂ ≡ length out₁
-          → d ≡ hex_digit_of (get_or pool (p + k) 0 / 16) → Puts (d ∷ []) a b out out₁ → e ≡ hex_digit_of (get_or pool (p + k) 0 % 16) → Puts (e ∷ []) b c out₁ out₂
-          → PutFirst hexadecimal (take n (drop p pool)) at out₀ (k + 1) c out₂
-      hex_next h {d = d} {e = e} l m f x g y =
-          let q : d ∷ e ∷ [] ≡ hexadecimal (get_or (take n (drop p pool)) k 0 ∷ []) = unfold hexadecimal in rw (piece_byte k h, f, g) in
-          first_next i hex_joins (omega (arith, piece-long)) (m ∙ l) (put_as q (then-put x y))
-
-      pub hex_ended : n ≤ k → Puts (hexadecimal (take n (drop p pool))) at a out₀ out
-      hex_ended h = first_ended i (omega (arith, piece-long))
+    pub hex_ended : length s ≤ k → Puts (hexadecimal s) at a out₀ out
+    hex_ended h = first_ended i h
 
 -- ---- a name
 
-module _ (pool : List ℕ) (p n : ℕ) {at : ℕ} {out : List ℕ} where
-  pub name_empty : {r : ℕ} {out' : List ℕ} → n ≡ 0 → Puts (46 ∷ 10 ∷ []) at r out out' → Puts (name_text (some (take n (drop p pool))) ++ (10 ∷ [])) at r out out'
-  unfolding name_text
-  name_empty e x = rw e x
-
-  pub name-some : {a r : ℕ} {out₁ out₂ : List ℕ} → p + n ≤ length pool → (n ≡ 0 → ⊥) → Puts (hexadecimal (take n (drop p pool))) at a out out₁ → Puts (10 ∷ []) a r out₁ out₂
-      → Puts (name_text (some (take n (drop p pool))) ++ (10 ∷ [])) at r out out₂
-  name-some h z x y = then-put (put_as (go (take n (drop p pool)) (piece-long pool p n h)) x) y
+module _ (s : List ℕ) {at : ℕ} {out : List ℕ} where
+  pub name_empty : {r : ℕ} {out' : List ℕ} → length s ≡ 0 → Puts (46 ∷ 10 ∷ []) at r out out' → Puts (name_text (some s) ++ (10 ∷ [])) at r out out'
+  name_empty {r = r} {out' = out'} e x = go s e
     where
-      go : (s : List ℕ) → length s ≡ n → hexadecimal s ≡ name_text (some s)
-      go [] l = absurd (z (sym l))
-      go (b ∷ s) l = unfold name_text in refl
+      go : (s : List ℕ) → length s ≡ 0 → Puts (name_text (some s) ++ (10 ∷ [])) at r out out'
+      go [] l = unfold name_text in x
+      go (b ∷ s) l = absurd (omega arith)
 
-pub name_in : (pool : List ℕ) (p n : ℕ) → p + n ≤ length pool → NameInside pool (Named p n)
+  pub name-some : {a r : ℕ} {out₁ out₂ : List ℕ} → (length s ≡ 0 → ⊥) → Puts (hexadecimal s) at a out out₁ → Puts (10 ∷ []) a r out₁ out₂ → Puts (name_text (some s) ++ (10 ∷ [])) at r out out₂
+  name-some z x y = then-put (put_as (go s z) x) y
+    where
+      go : (s : List ℕ) → (length s ≡ 0 → ⊥) → hexadecimal s ≡ name_text (some s)
+      go [] z = absurd (z refl)
+      go (b ∷ s) z = unfold name_text in refl
+
+pub name_in : (pool : List ℕ) (p n : ℕ) → p + n ≤ length pool → NameInside pool (Some (record { place = p; length = n }))
 unfolding NameInside
 name_in pool p n h = h
 
-module _ (pool : List ℕ) (name : Name) where
-  pub name-fits : {p n : ℕ} → NameInside pool name → name ≡ Named p n → p + n ≤ length pool
+module _ (pool : List ℕ) {name : Option NamePart} where
+  pub name-fits : {x : NamePart} → NameInside pool name → name ≡ Some x → x.place + x.length ≤ length pool
   unfolding NameInside
   name-fits h e = rw e at h
 
+  pub name-end : {x : NamePart} → NameInside pool name → name ≡ Some x → length pool < 18446744073709551616 → Fits w64 (x.place + x.length)
+  name-end h e k = let l = name-fits h e in record { fits = omega arith }
+
   module _ {at a r : ℕ} {out out₁ out₂ : List ℕ} (x : Puts (32 ∷ []) at a out out₁) where
-    pub nameless-put : name ≡ Nameless → Puts (45 ∷ 10 ∷ []) a r out₁ out₂ → Puts ((32 ∷ name_text (name_in_of pool name)) ++ (10 ∷ [])) at r out out₂
+    pub nameless-put : name ≡ None → Puts (45 ∷ 10 ∷ []) a r out₁ out₂ → Puts ((32 ∷ name_text (name_in_of pool name)) ++ (10 ∷ [])) at r out out₂
     unfolding name_in_of name_text
     nameless-put e y = rw e (then-put x y)
 
-    pub name-put : {p n : ℕ} → name ≡ Named p n → Puts (name_text (some (take n (drop p pool))) ++ (10 ∷ [])) a r out₁ out₂
+    pub name-put : {p : NamePart} → name ≡ Some p → Puts (name_text (some (take (p.place + p.length - p.place) (drop p.place pool))) ++ (10 ∷ [])) a r out₁ out₂
         → Puts ((32 ∷ name_text (name_in_of pool name)) ++ (10 ∷ [])) at r out out₂
     unfolding name_in_of
-    name-put e y = rw e (then-put x y)
+    name-put {p = p} e y = let j : p.place + p.length - p.place ≡ p.length = omega arith in rw e (then-put x (rw j at y))
 
 -- ---- the numbers of a line, and of a refusal
 
@@ -265,10 +257,11 @@ module _ (e : Refusal) {v : RefusalValues} (q : v ≡ values_from e) where
   pub value_taken : (x y z : ℕ) → 1 + v.count ≡ length (take (1 + v.count) (x ∷ y ∷ z ∷ []))
   value_taken x y z = sym (length-take-le (1 + v.count) (x ∷ y ∷ z ∷ []) value-count)
 
-  pub refusal_put : {n a b r : ℕ} {out out₁ out₂ out₃ : List ℕ} → n ≡ number_of e → Puts (114 ∷ 101 ∷ 102 ∷ 117 ∷ 115 ∷ 101 ∷ 100 ∷ []) 0 a out out₁
+  pub refusal_put : {m n a b r : ℕ} {out out₁ out₂ out₃ : List ℕ} → m ≡ number_of e → n ≡ m → Puts (114 ∷ 101 ∷ 102 ∷ 117 ∷ 115 ∷ 101 ∷ 100 ∷ []) 0 a out out₁
       → Puts (spaced (take (1 + v.count) (n ∷ v.first ∷ v.second ∷ []))) a b out₁ out₂ → Puts (10 ∷ []) b r out₂ out₃ → Puts (refusal_text e) 0 r out out₃
   unfolding refusal_text
-  refusal_put {n = n} f x y z =
+  refusal_put {n = n} g h x y z =
+      let f : n ≡ number_of e = h ∙ g in
       let k : take (1 + v.count) (n ∷ v.first ∷ v.second ∷ []) ≡ number_of e ∷ values_of e =
       ap (λ (x : RefusalValues). take (1 + x.count) (n ∷ x.first ∷ x.second ∷ [])) q ∙ first-numbers n (values_of e) (few-values e) ∙ ap (λ (i : ℕ). i ∷ values_of e) f
       in

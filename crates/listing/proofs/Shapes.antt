@@ -6,77 +6,81 @@ use mathlib.Core.Option.{none}
 use native.Mathlib.Omega.{arith}
 use native.Mathlib.Numerals.{add-one}
 use lib.ListN.{take, drop}
+use Rattle.std.specs.Prelude.{Option, Some, None}
 use Rattle.format.specs.Bytes.{dimensions_from}
 use Rattle.format.specs.Datatype.{Datatype, compound, enumeration, variable_length, array, Members, type_size_of, class_number}
 use Rattle.format.specs.Table.{Found, found, bad, Walk, and_then, type_at, members_at, enum_names_at, enum_values_at}
 use Rattle.format.proofs.TableSteps.{no_found}
 use Rattle.rows.specs.Entries.{entry_at, EntryInside, leaf_type, from_entry}
 use Rattle.rows.specs.declared.Entry.{Entry}
-use Rattle.rows.specs.declared.Entry.TheVariants.{Leaf, Compound, Enumeration, VariableLength, Array, Unknown}
-use Rattle.rows.proofs.Decode.{type_at_entry, compound-inside, enumeration-inside, variable_length-inside, array-inside}
+use Rattle.rows.specs.declared.Entry.TheVariants.{Leaf, Compound, Enumeration, VariableLength, Array}
+use Rattle.rows.proofs.Decode.{type_at_entry, row-inside}
 use Rattle.rows.proofs.Leaves.{leaf_law}
 use Rattle.table.specs.Survey.{survey_of}
 use Rattle.table.specs.declared.Survey.{Survey}
-use Rattle.table.specs.declared.Surveyed.{Surveyed}
-use Rattle.table.specs.declared.Surveyed.TheVariants.{Sound, Unsound}
 use Rattle.listing.specs.Text.{inner_lines, member_lines, lines}
-use Rattle.listing.specs.Puts.{class_in, inside_of, RowInside, InsideAt, Reaches}
+use Rattle.listing.specs.Puts.{class_in, inside_of, RowInside, InsideAt}
 use Rattle.listing.specs.declared.Inside.{Inside}
 use Rattle.listing.specs.declared.Inside.TheVariants.{Nothing, Members as InsideMembers, Base}
 
 -- ---- the class and the inside, entry by entry
 
-module _ {y e : Entry} (q : y ≡ e) where
-  pub class_unknown : y ≡ Unknown → 0 ≡ class_in e
+module _ {y e : Option Entry} (q : y ≡ e) where
+  pub class_unknown : y ≡ None → 0 ≡ class_in e
   unfolding class_in
   class_unknown i = ap class_in (sym i ∙ q)
 
-  pub class-leaf : {c n l x : ℕ} → y ≡ Leaf c n l x → c ≡ class_in e
-  unfolding class_in
-  class-leaf i = ap class_in (sym i ∙ q)
+  module _ {f : Entry} (j : y ≡ Some f) where
+    is_entry : {g : Entry} → f ≡ g → Some g ≡ e
+    is_entry i = sym (j ∙ ap Some i) ∙ q
 
-  pub class-compound : {n k : ℕ} → y ≡ Compound n k → 6 ≡ class_in e
-  unfolding class_in
-  class-compound i = ap class_in (sym i ∙ q)
+    pub class-leaf : {c n l x : ℕ} → f ≡ Leaf c n l x → c ≡ class_in e
+    unfolding class_in
+    class-leaf i = ap class_in (is_entry i)
 
-  pub class-enumeration : {n k : ℕ} → y ≡ Enumeration n k → 8 ≡ class_in e
-  unfolding class_in
-  class-enumeration i = ap class_in (sym i ∙ q)
+    pub class-compound : {n k : ℕ} → f ≡ Compound n k → 6 ≡ class_in e
+    unfolding class_in
+    class-compound i = ap class_in (is_entry i)
 
-  pub class_variable : {i a c : ℕ} → y ≡ VariableLength i a c → 9 ≡ class_in e
-  unfolding class_in
-  class_variable i = ap class_in (sym i ∙ q)
+    pub class-enumeration : {n k : ℕ} → f ≡ Enumeration n k → 8 ≡ class_in e
+    unfolding class_in
+    class-enumeration i = ap class_in (is_entry i)
 
-  pub class-array : {k : ℕ} → y ≡ Array k → 10 ≡ class_in e
-  unfolding class_in
-  class-array i = ap class_in (sym i ∙ q)
+    pub class_variable : {i a c : ℕ} → f ≡ VariableLength i a c → 9 ≡ class_in e
+    unfolding class_in
+    class_variable i = ap class_in (is_entry i)
+
+    pub class-array : {k : ℕ} → f ≡ Array k → 10 ≡ class_in e
+    unfolding class_in
+    class-array i = ap class_in (is_entry i)
 
   module _ (words bytes r p : ℕ) (h : EntryInside y words bytes r p) where
-    pub inside_unknown : y ≡ Unknown → InsideAt e words r p Nothing
+    pub inside_unknown : y ≡ None → InsideAt e words r p Nothing
     unfolding inside_of RowInside
     inside_unknown i = record { is = ap (inside_of p) (sym i ∙ q); row_inside = tt }
 
-    pub inside-leaf : {c n l x : ℕ} → y ≡ Leaf c n l x → InsideAt e words r p Nothing
-    unfolding inside_of RowInside
-    inside-leaf i = record { is = ap (inside_of p) (sym i ∙ q); row_inside = tt }
+    module _ {f : Entry} (j : y ≡ Some f) where
+      pub inside-leaf : {c n l x : ℕ} → f ≡ Leaf c n l x → InsideAt e words r p Nothing
+      unfolding inside_of RowInside
+      inside-leaf i = record { is = ap (inside_of p) (is_entry j i); row_inside = tt }
 
-    pub inside-compound : {n k : ℕ} → y ≡ Compound n k → InsideAt e words r p (InsideMembers k)
-    unfolding inside_of RowInside
-    inside-compound i = record { is = ap (inside_of p) (sym i ∙ q); row_inside = compound-inside words bytes r p h i }
+      pub inside-compound : {n k : ℕ} → f ≡ Compound n k → InsideAt e words r p (InsideMembers k)
+      unfolding inside_of RowInside
+      inside-compound i = record { is = ap (inside_of p) (is_entry j i); row_inside = row-inside words bytes r p h j }
 
-    pub inside-enumeration : {n k : ℕ} → y ≡ Enumeration n k → InsideAt e words r p (Base p)
-    unfolding inside_of RowInside
-    inside-enumeration i = record { is = ap (inside_of p) (sym i ∙ q); row_inside = enumeration-inside words bytes r p h i }
+      pub inside-enumeration : {n k : ℕ} → f ≡ Enumeration n k → InsideAt e words r p (Base p)
+      unfolding inside_of RowInside
+      inside-enumeration i = record { is = ap (inside_of p) (is_entry j i); row_inside = row-inside words bytes r p h j }
 
-    pub inside_variable : {i a c : ℕ} → y ≡ VariableLength i a c → InsideAt e words r p (Base p)
-    unfolding inside_of RowInside
-    inside_variable i = record { is = ap (inside_of p) (sym i ∙ q); row_inside = variable_length-inside words bytes r p h i }
+      pub inside_variable : {i a c : ℕ} → f ≡ VariableLength i a c → InsideAt e words r p (Base p)
+      unfolding inside_of RowInside
+      inside_variable i = record { is = ap (inside_of p) (is_entry j i); row_inside = row-inside words bytes r p h j }
 
-    pub inside-array : {k : ℕ} → y ≡ Array k → InsideAt e words r p (Base (p + k * 4))
-    unfolding inside_of RowInside
-    inside-array i = record { is = ap (inside_of p) (sym i ∙ q); row_inside = (array-inside words bytes r p h i).0 }
+      pub inside-array : {k : ℕ} → f ≡ Array k → InsideAt e words r p (Base (p + k * 4))
+      unfolding inside_of RowInside
+      inside-array i = record { is = ap (inside_of p) (is_entry j i); row_inside = row-inside words bytes r p h j }
 
-module _ {e : Entry} {y : Inside} {words r p : ℕ} (h : InsideAt e words r p y) where
+module _ {e : Option Entry} {y : Inside} {words r p : ℕ} (h : InsideAt e words r p y) where
   pub members-row : {k : ℕ} → y ≡ InsideMembers k → r * 16 + 16 ≤ words
   unfolding RowInside
   members-row i = rw i at h.row_inside
@@ -104,26 +108,20 @@ found-is h = (cc, (cc, cc))
 
 -- ---- where a type ends, and its size
 
-module _ (x : Found Datatype) {y : Surveyed} (q : y ≡ survey_of x) where
-  sound-is : {s : Survey} {t : Datatype} {r p : ℕ} → y ≡ Sound s → x ≡ found t r p → (s.row ≡ r) × ((s.place ≡ p) × (s.size ≡ type_size_of t))
+module _ (x : Found Datatype) {y : Option Survey} (q : y ≡ survey_of x) {t : Datatype} {r p : ℕ} (f : x ≡ found t r p) where
+  pub reached : {s : Survey} → y ≡ Some s → (s.row ≡ r) × ((s.place ≡ p) × (s.size ≡ type_size_of t))
   unfolding survey_of
-  sound-is {s = s} i f =
-      let e : Sound s ≡ survey_of x = sym i ∙ q in
+  reached {s = s} i =
+      let e : Some s ≡ survey_of x = sym i ∙ q in
       let g = rw f at e in
       (cc, (cc, cc))
 
-  pub nowhere : {z : _} → y ≡ Unsound → Reaches x z
+  pub somewhere : y ≡ None → ⊥
   unfolding survey_of
-  nowhere i =
-      record {
-        reaches = λ t r p f.
-            let e : Unsound ≡ survey_of x = sym i ∙ q in
-            let g = rw f at e in
-            let z : ◌≡◌ {A = ℕ} 0 1 = cc in absurd (omega arith);
-      }
-
-  pub reached : {s : Survey} → y ≡ Sound s → Reaches x (record { row = s.row; place = s.place; size = s.size })
-  reached i = record { reaches = λ t r p f. let e = sound-is i f in rw (e.0, e.1.0, e.1.1) }
+  somewhere i =
+      let e : None ≡ survey_of x = sym i ∙ q in
+      let g = rw f at e in
+      cc
 
 -- ---- the class and the lines inside, by the entry of the row
 
@@ -132,9 +130,9 @@ unfoldable LeafShown : (c n l x : ℕ) → Datatype → Type 0
 LeafShown c n l x t = (c ≡ class_number t) × ((i : ℕ) → inner_lines i t ≡ [])
 
 module _ (table pool : List ℕ) (r p : ℕ) where
-  leaf_shown : {c n l x : ℕ} → entry_at table pool r p ≡ Leaf c n l x → LeafShown c n l x (leaf_type table pool r p c)
+  leaf_shown : {c n l x : ℕ} → entry_at table pool r p ≡ Some (Leaf c n l x) → LeafShown c n l x (leaf_type table pool r p c)
   unfolding LeafShown class_number inner_lines
-  leaf_shown e = let h = leaf_law table pool r p refl e in rw h.is (sym h.class, λ i. refl)
+  leaf_shown e = let h = leaf_law table pool r p refl e refl in rw h.is (sym h.class, λ i. refl)
 
 -- the members, or the base, that are found inside a type, and their lines
 pub record MembersInside (rd : Walk Datatype) (table pool : List ℕ) (k r p l : ℕ) (t : Datatype) : Type 0 where
@@ -156,25 +154,25 @@ Inner rd table pool r p l t Nothing = inner_lines l t ≡ []
 Inner rd table pool r p l t (InsideMembers k) = MembersInside rd table pool k r p l t
 Inner rd table pool r p l t (Base q) = BaseInside rd q r l t
 
-pub record Shape (rd : Walk Datatype) (table pool : List ℕ) (r p : ℕ) (t : Datatype) (e : Entry) : Type 0 where
+pub record Shape (rd : Walk Datatype) (table pool : List ℕ) (r p : ℕ) (t : Datatype) (e : Option Entry) : Type 0 where
   pub class : class_in e ≡ class_number t
   pub inner : (l : ℕ) → Inner rd table pool r p l t (inside_of p e)
 
 module _ (rd : Walk Datatype) (table pool : List ℕ) (r p : ℕ) (t : Datatype) (r' p' : ℕ) where
-  by_entry : (e : Entry) → entry_at table pool r p ≡ e → from_entry rd table pool r p e ≡ found t r' p' → Shape rd table pool r p t e
+  by_entry : (e : Option Entry) → entry_at table pool r p ≡ e → from_entry rd table pool r p e ≡ found t r' p' → Shape rd table pool r p t e
   unfolding LeafShown from_entry class_in inside_of Inner class_number inner_lines lines
-  by_entry (Leaf c n l x) q h =
+  by_entry (Some (Leaf c n l x)) q h =
       let s = leaf_shown table pool r p q in
       let f : leaf_type table pool r p c ≡ t = (found-is h).0 in
       record { class = s.0 ∙ ap class_number f; inner = λ i. sym (ap (inner_lines i) f) ∙ s.1 i }
-  by_entry (Compound n k) q h =
+  by_entry (Some (Compound n k)) q h =
       let w = then_found (members_at rd table pool k (suc r) p) _ h in
       let f : compound n w.first ≡ t = (found-is w.rest).0 in
       record {
         class = ap class_number f;
         inner = λ i. record { members = w.first; row = w.row; place = w.place; are = rw (add-one r) w.is; text = sym (ap (inner_lines i) f) };
       }
-  by_entry (Enumeration n k) q h =
+  by_entry (Some (Enumeration n k)) q h =
       let w = then_found (rd (suc r) p) _ h in
       let v = then_found (enum_names_at table pool k w.row w.place) _ w.rest in
       let u = then_found (enum_values_at pool v.first v.row v.place) _ v.rest in
@@ -183,21 +181,21 @@ module _ (rd : Walk Datatype) (table pool : List ℕ) (r p : ℕ) (t : Datatype)
         class = ap class_number f;
         inner = λ i. record { base = w.first; row = w.row; place = w.place; is = rw (add-one r) w.is; text = sym (ap (inner_lines i) f) };
       }
-  by_entry (VariableLength i a c) q h =
+  by_entry (Some (VariableLength i a c)) q h =
       let w = then_found (rd (suc r) p) _ h in
       let f : variable_length i a c w.first ≡ t = (found-is w.rest).0 in
       record {
         class = ap class_number f;
         inner = λ i. record { base = w.first; row = w.row; place = w.place; is = rw (add-one r) w.is; text = sym (ap (inner_lines i) f) };
       }
-  by_entry (Array k) q h =
+  by_entry (Some (Array k)) q h =
       let w = then_found (rd (suc r) (p + k * 4)) _ h in
       let f : array (dimensions_from k (take (k * 4) (drop p pool))) w.first ≡ t = (found-is w.rest).0 in
       record {
         class = ap class_number f;
         inner = λ i. record { base = w.first; row = w.row; place = w.place; is = rw (add-one r) w.is; text = sym (ap (inner_lines i) f) };
       }
-  by_entry Unknown q h = absurd (no_found h)
+  by_entry None q h = absurd (no_found h)
 
 pub shape : (levels : ℕ) (table pool : List ℕ) (r p : ℕ) {t : Datatype} {r' p' : ℕ} → type_at levels table pool r p ≡ found t r' p' → Shape (type_at (levels - 1) table pool) table pool r p t (entry_at table pool r p)
 shape zero table pool r p {t = t} {r' = r'} {p' = p'} h = let z : bad ≡ found t r' p' = unfold type_at in h in absurd (no_found z)

@@ -1,17 +1,16 @@
 -- What the functions ensure that put a piece of a text at a place of `out`.
 use Rattle.std.specs.Prelude.{ℕ, ◌+◌, ◌*◌, ◌≤◌, min, ◌≡◌, List, length, take, drop}
-use Rattle.std.proofs.Math.Option.{Option, none, some}
+use Rattle.std.specs.Prelude.{Option, Some, None}
+use Rattle.std.proofs.Math.Option as maybe
 use Rattle.std.proofs.lemmas.List.Edits.{sets}
-use Rattle.format.specs.Datatype.{Datatype, Members, type_size_of}
+use Rattle.format.specs.Datatype.{Datatype, Members}
 use Rattle.format.specs.Table.{Found, found}
 use Rattle.rows.specs.declared.Entry.{Entry}
-use Rattle.rows.specs.declared.Entry.TheVariants.{Leaf, Compound, Enumeration, VariableLength, Array, Unknown}
+use Rattle.rows.specs.declared.Entry.TheVariants.{Leaf, Compound, Enumeration, VariableLength, Array}
 use Rattle.listing.specs.Text.{line, lines, member_lines}
-use Rattle.listing.specs.declared.Name.{Name}
-use Rattle.listing.specs.declared.Name.TheVariants.{Nameless, Named}
+use Rattle.table.specs.declared.NamePart.{NamePart}
 use Rattle.listing.specs.declared.Inside.{Inside}
 use Rattle.listing.specs.declared.Inside.TheVariants.{Nothing, Members as InsideMembers, Base}
-use Rattle.listing.specs.declared.Extent.{Extent}
 
 -- the greatest place
 abbrev pub last : ℕ
@@ -23,31 +22,31 @@ pub record Puts (bytes : List ℕ) (at r : ℕ) (out out' : List ℕ) : Type 0 w
   pub written : at ≤ last → length out ≤ last → out' ≡ sets out at bytes
 
 -- the name that a line shows
-unfoldable pub name_in_of : (pool : List ℕ) → Name → Option (List ℕ)
-name_in_of pool Nameless = none
-name_in_of pool (Named p n) = some (take n (drop p pool))
+unfoldable pub name_in_of : (pool : List ℕ) → Option NamePart → maybe.Option (List ℕ)
+name_in_of pool None = maybe.none
+name_in_of pool (Some x) = maybe.some (take x.length (drop x.place pool))
 
 -- it lies in the pool
-unfoldable pub NameInside : (pool : List ℕ) → Name → Type 0
-NameInside pool Nameless = Unit {0}
-NameInside pool (Named p n) = p + n ≤ length pool
+unfoldable pub NameInside : (pool : List ℕ) → Option NamePart → Type 0
+NameInside pool None = Unit {0}
+NameInside pool (Some x) = x.place + x.length ≤ length pool
 
 -- the class of a row, and what is inside its type, whose pool bytes begin at p
-unfoldable pub class_in : Entry → ℕ
-class_in (Leaf c n l x) = c
-class_in (Compound n k) = 6
-class_in (Enumeration n k) = 8
-class_in (VariableLength i a c) = 9
-class_in (Array k) = 10
-class_in Unknown = 0
+unfoldable pub class_in : Option Entry → ℕ
+class_in (Some (Leaf c n l x)) = c
+class_in (Some (Compound n k)) = 6
+class_in (Some (Enumeration n k)) = 8
+class_in (Some (VariableLength i a c)) = 9
+class_in (Some (Array k)) = 10
+class_in None = 0
 
-unfoldable pub inside_of : (p : ℕ) → Entry → Inside
-inside_of p (Leaf c n l x) = Nothing
-inside_of p (Compound n k) = InsideMembers k
-inside_of p (Enumeration n k) = Base p
-inside_of p (VariableLength i a c) = Base p
-inside_of p (Array k) = Base (p + k * 4)
-inside_of p Unknown = Nothing
+unfoldable pub inside_of : (p : ℕ) → Option Entry → Inside
+inside_of p (Some (Leaf c n l x)) = Nothing
+inside_of p (Some (Compound n k)) = InsideMembers k
+inside_of p (Some (Enumeration n k)) = Base p
+inside_of p (Some (VariableLength i a c)) = Base p
+inside_of p (Some (Array k)) = Base (p + k * 4)
+inside_of p None = Nothing
 
 -- a row with something inside lies in the table
 unfoldable pub RowInside : Inside → (words r : ℕ) → Type 0
@@ -55,18 +54,15 @@ RowInside Nothing words r = Unit {0}
 RowInside (InsideMembers k) words r = r * 16 + 16 ≤ words
 RowInside (Base p) words r = r * 16 + 16 ≤ words
 
-pub record InsideAt (e : Entry) (words r p : ℕ) (y : Inside) : Type 0 where
+pub record InsideAt (e : Option Entry) (words r p : ℕ) (y : Inside) : Type 0 where
   pub is : y ≡ inside_of p e
   pub row_inside : RowInside y words r
 
 -- of the type that is found; nothing is said where none is
-pub record Reaches (y : Found Datatype) (x : Extent) : Type 0 where
-  pub reaches : (t : Datatype) (r p : ℕ) → y ≡ found t r p → x ≡ record { row = r; place = p; size = type_size_of t }
-
-pub record PutsLine (l o : ℕ) (b : Option (List ℕ)) (at : ℕ) (y : Found Datatype) (x : ℕ) (out out' : List ℕ) : Type 0 where
+pub record PutsLine (l o : ℕ) (b : maybe.Option (List ℕ)) (at : ℕ) (y : Found Datatype) (x : ℕ) (out out' : List ℕ) : Type 0 where
   pub puts : (t : Datatype) (r p : ℕ) → y ≡ found t r p → Puts (line l o b t) at x out out'
 
-pub record PutsType (l o : ℕ) (b : Option (List ℕ)) (at : ℕ) (y : Found Datatype) (x : ℕ) (out out' : List ℕ) : Type 0 where
+pub record PutsType (l o : ℕ) (b : maybe.Option (List ℕ)) (at : ℕ) (y : Found Datatype) (x : ℕ) (out out' : List ℕ) : Type 0 where
   pub puts : (t : Datatype) (r p : ℕ) → y ≡ found t r p → Puts (lines l o b t) at x out out'
 
 -- of the members that are found

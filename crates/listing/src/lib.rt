@@ -6,26 +6,12 @@ ghost use Rattle.std.proofs.Math.Option.{some};
 ghost use Rattle.format.specs.Table.{type_at, members_at};
 ghost use Rattle.rows.specs.Entries.{entry_at};
 ghost use Rattle.listing.specs.Text.{decimal_in, decimal, spaced, hex_digit_of, hexadecimal, name_text, refusal_text};
-ghost use Rattle.listing.specs.Puts.{Puts, name_in_of, NameInside, class_in, InsideAt, Reaches, PutsLine, PutsType, PutsMembers};
+ghost use Rattle.listing.specs.Puts.{Puts, name_in_of, NameInside, class_in, InsideAt, PutsLine, PutsType, PutsMembers};
 ghost use Rattle.listing.specs.Answers.{PutsFields, ListsType, ListsFields, ListsRefusal};
 
 use refusal::{Refusal, number, values};
-use rows::{Entry, Member, entry_at, member_at};
-use table::{Checked, Surveyed, check, survey_type};
-
-// The answer of `list_fields` and `list_refusal`: the length of the text, or why it is refused.
-#[derive(Clone, Copy)]
-pub enum Listing {
-    Listed(usize),
-    Refused(Refusal),
-}
-
-// What a line calls a type: a member's name, by its place in the pool and its length, or nothing.
-#[derive(Clone, Copy)]
-enum Name {
-    Nameless,
-    Named(usize, usize),
-}
+use rows::{Entry, entry_at, member_at};
+use table::{NamePart, check, survey_type};
 
 // The types inside a type: none, so many members, or a base whose pool bytes begin at a place.
 #[derive(Clone, Copy)]
@@ -33,14 +19,6 @@ enum Inside {
     Nothing,
     Members(u32),
     Base(usize),
-}
-
-// The next row and pool place behind a type, and its size.
-#[derive(Clone, Copy)]
-struct Extent {
-    row: usize,
-    place: usize,
-    size: u32,
 }
 
 // A byte at a place of `out`, if there is one. This function and those below that take `out` and a place answer the place behind what they
@@ -63,10 +41,8 @@ fn put_text(text: &[u8], out: &mut [u8], at: usize) -> usize
     ensures { Puts text.now at result out.old out.new }
 {
     let mut a = at;
-    let mut i = 0;
-    while i < text.len() {
-        a = put_byte(text[i], out, a);
-        i += 1;
+    for byte in text {
+        a = put_byte(*byte, out, a);
     }
     a
 }
@@ -90,11 +66,9 @@ fn put_spaced(numbers: &[u64], out: &mut [u8], at: usize) -> usize
     ensures { Puts (spaced numbers.now) at result out.old out.new }
 {
     let mut a = at;
-    let mut i = 0;
-    while i < numbers.len() {
+    for number in numbers {
         let behind = put_byte(b' ', out, a);
-        a = put_digits(numbers[i], 20, out, behind);
-        i += 1;
+        a = put_digits(*number, 20, out, behind);
     }
     a
 }
@@ -110,43 +84,41 @@ fn hex_digit(digit: u8) -> u8
     55 + digit
 }
 
-// n bytes of the pool from `from` on, in hexadecimal.
-fn put_hex(pool: &[u8], from: usize, n: usize, out: &mut [u8], at: usize) -> usize
-    requires { from + n ≤ length pool.now }
-    ensures { Puts (hexadecimal (take n (drop from pool.now))) at result out.old out.new }
+// Bytes in hexadecimal.
+fn put_hex(bytes: &[u8], out: &mut [u8], at: usize) -> usize
+    ensures { Puts (hexadecimal bytes.now) at result out.old out.new }
 {
     let mut a = at;
-    let mut i = 0;
-    while i < n {
-        let byte = pool[from + i];
-        let high = put_byte(hex_digit(byte / 16), out, a);
-        a = put_byte(hex_digit(byte % 16), out, high);
-        i += 1;
+    for byte in bytes {
+        let high = put_byte(hex_digit(*byte / 16), out, a);
+        a = put_byte(hex_digit(*byte % 16), out, high);
     }
     a
 }
 
-// The name of n bytes of the pool from `from` on, and the line's end.
-fn put_piece(pool: &[u8], from: usize, n: usize, out: &mut [u8], at: usize) -> usize
-    requires { from + n ≤ length pool.now }
-    ensures { Puts (name_text (some (take n (drop from pool.now))) ++ (10 ∷ [])) at result out.old out.new }
+// A name, and the line's end.
+fn put_piece(name: &[u8], out: &mut [u8], at: usize) -> usize
+    ensures { Puts (name_text (some name.now) ++ (10 ∷ [])) at result out.old out.new }
 {
-    if n == 0 {
+    if name.len() == 0 {
         return put_text(b".\n", out, at);
     }
-    let behind = put_hex(pool, from, n, out, at);
+    let behind = put_hex(name, out, at);
     put_byte(b'\n', out, behind)
 }
 
-// A space, what a line calls a type, and the line's end.
-fn put_name(pool: &[u8], name: Name, out: &mut [u8], at: usize) -> usize
+// A space, what a line calls a type, a member's name or nothing, and the line's end.
+fn put_name(pool: &[u8], name: Option<NamePart>, out: &mut [u8], at: usize) -> usize
     requires { NameInside pool.now name }
     ensures { Puts ((32 ∷ name_text (name_in_of pool.now name)) ++ (10 ∷ [])) at result out.old out.new }
 {
     let behind = put_byte(b' ', out, at);
     match name {
-        Name::Nameless => put_text(b"-\n", out, behind),
-        Name::Named(from, n) => put_piece(pool, from, n, out, behind),
+        None => put_text(b"-\n", out, behind),
+        Some(part) => {
+            let end = part.place + part.length;
+            put_piece(&pool[part.place..end], out, behind)
+        }
     }
 }
 
@@ -154,9 +126,10 @@ fn put_name(pool: &[u8], name: Name, out: &mut [u8], at: usize) -> usize
 fn class_at(table: &[u32], pool: &[u8], row: usize, place: usize) -> u32
     ensures { result ≡ class_in (entry_at table.now pool.now row place) }
 {
-    let entry = entry_at(table, pool, row, place);
+    let Some(entry) = entry_at(table, pool, row, place) else {
+        return 0;
+    };
     match entry {
-        Entry::Unknown => 0,
         Entry::Leaf(class, _, _, _) => class,
         Entry::Compound(_, _) => 6,
         Entry::Enumeration(_, _) => 8,
@@ -169,9 +142,10 @@ fn class_at(table: &[u32], pool: &[u8], row: usize, place: usize) -> u32
 fn inside_at(table: &[u32], pool: &[u8], row: usize, place: usize) -> Inside
     ensures { InsideAt (entry_at table.now pool.now row place) (length table.now) row place result }
 {
-    let entry = entry_at(table, pool, row, place);
+    let Some(entry) = entry_at(table, pool, row, place) else {
+        return Inside::Nothing;
+    };
     match entry {
-        Entry::Unknown => Inside::Nothing,
         Entry::Leaf(_, _, _, _) => Inside::Nothing,
         Entry::Compound(_, count) => Inside::Members(count),
         Entry::Enumeration(_, _) => Inside::Base(place),
@@ -180,30 +154,11 @@ fn inside_at(table: &[u32], pool: &[u8], row: usize, place: usize) -> Inside
     }
 }
 
-// Where the type at a row ends, and its size; zeros where there is none.
-fn extent_at(table: &[u32], pool: &[u8], row: usize, place: usize, levels: usize) -> Extent
-    ensures { Reaches (type_at levels table.now pool.now row place) result }
-{
-    let surveyed = survey_type(table, pool, row, place, levels);
-    match surveyed {
-        Surveyed::Unsound => Extent {
-            row: 0,
-            place: 0,
-            size: 0,
-        },
-        Surveyed::Sound(s) => Extent {
-            row: s.row,
-            place: s.place,
-            size: s.size,
-        },
-    }
-}
-
 // The numbers of a line.
 fn put_numbers(level: u64, class: u32, offset: u32, size: u32, out: &mut [u8], at: usize) -> usize
     ensures { Puts (decimal level ++ spaced (class ∷ offset ∷ size ∷ [])) at result out.old out.new }
 {
-    let numbers = [class as u64, offset as u64, size as u64];
+    let numbers = [u64::from(class), u64::from(offset), u64::from(size)];
     let behind = put_digits(level, 20, out, at);
     put_spaced(&numbers, out, behind)
 }
@@ -216,16 +171,19 @@ fn put_line(
     place: usize,
     levels: usize,
     offset: u32,
-    name: Name,
+    name: Option<NamePart>,
     out: &mut [u8],
     at: usize,
 ) -> usize
     requires { (levels ≤ 32) × NameInside pool.now name }
     ensures { PutsLine (33 - levels) offset (name_in_of pool.now name) at (type_at levels table.now pool.now row place) result out.old out.new }
 {
-    let extent = extent_at(table, pool, row, place, levels);
+    let size = match survey_type(table, pool, row, place, levels) {
+        None => 0,
+        Some(s) => s.size,
+    };
     let class = class_at(table, pool, row, place);
-    let behind = put_numbers((33 - levels) as u64, class, offset, extent.size, out, at);
+    let behind = put_numbers((33 - levels) as u64, class, offset, size, out, at);
     put_name(pool, name, out, behind)
 }
 
@@ -247,24 +205,29 @@ fn put_members(
     let mut r = row;
     let mut p = place;
     let mut a = at;
-    let mut left = count;
-    while left > 0 {
-        let member = member_at(table, pool, r, p);
-        match member {
-            Member::Unnamed => {
-                return a;
-            }
-            Member::Named(offset, length) => {
-                let n = length as usize;
-                let from = p + n;
-                let name = Name::Named(p, n);
-                a = put_type(table, pool, r + 1, from, levels, offset, name, out, a);
-                let extent = extent_at(table, pool, r + 1, from, levels);
-                r = extent.row;
-                p = extent.place;
-                left -= 1;
-            }
-        }
+    for _ in 0..count {
+        let Some(member) = member_at(table, pool, r, p) else {
+            return a;
+        };
+        let length = member.name as usize;
+        let from = p + length;
+        let name = Some(NamePart { place: p, length });
+        a = put_type(
+            table,
+            pool,
+            r + 1,
+            from,
+            levels,
+            member.number,
+            name,
+            out,
+            a,
+        );
+        let Some(s) = survey_type(table, pool, r + 1, from, levels) else {
+            return a;
+        };
+        r = s.row;
+        p = s.place;
     }
     a
 }
@@ -278,7 +241,7 @@ fn put_type(
     place: usize,
     levels: usize,
     offset: u32,
-    name: Name,
+    name: Option<NamePart>,
     out: &mut [u8],
     at: usize,
 ) -> usize
@@ -309,7 +272,7 @@ fn put_type(
             from,
             levels - 1,
             0,
-            Name::Nameless,
+            None,
             out,
             behind,
         ),
@@ -321,32 +284,29 @@ fn put_fields(table: &[u32], pool: &[u8], out: &mut [u8]) -> usize
     ensures { PutsFields (type_at 32 table.now pool.now 0 0) result out.old out.new }
 {
     let behind = put_text(b"level class offset size name\n", out, 0);
-    put_type(table, pool, 0, 0, 32, 0, Name::Nameless, out, behind)
+    put_type(table, pool, 0, 0, 32, 0, None, out, behind)
 }
 
 // The same, if there is room, of a table that the check admits.
-fn list_checked(table: &[u32], pool: &[u8], out: &mut [u8]) -> Listing
+fn list_checked(table: &[u32], pool: &[u8], out: &mut [u8]) -> Result<usize, Refusal>
     ensures { ListsType table.now pool.now result out.old out.new }
 {
     let mut none = [0u8; 1];
     let length = put_fields(table, pool, &mut none);
     if out.len() < length {
-        return Listing::Refused(Refusal::NoRoom(length as u64));
+        return Err(Refusal::NoRoom(length as u64));
     }
     put_fields(table, pool, out);
-    Listing::Listed(length)
+    Ok(length)
 }
 
 // Writes the heading and a line for each type row of the type that a table and pool set out to the start of `out`: level, class, offset,
 // size and name. Refused: BadTable, NoRoom. Costs at most four passes over the rows for each level of the type, half of them to find the length.
-pub fn list_fields(table: &[u32], pool: &[u8], out: &mut [u8]) -> Listing
+pub fn list_fields(table: &[u32], pool: &[u8], out: &mut [u8]) -> Result<usize, Refusal>
     ensures { ListsFields table.now pool.now result out.old out.new }
 {
-    let checked = check(table, pool);
-    match checked {
-        Checked::Bad => Listing::Refused(Refusal::BadTable),
-        Checked::Good(_) => list_checked(table, pool, out),
-    }
+    check(table, pool).ok_or(Refusal::BadTable)?;
+    list_checked(table, pool, out)
 }
 
 // `refused`, and a refusal's number and values.
@@ -354,7 +314,7 @@ fn put_refusal(refusal: Refusal, out: &mut [u8]) -> usize
     ensures { Puts (refusal_text refusal) 0 result out.old out.new }
 {
     let v = values(refusal);
-    let numbers = [number(refusal) as u64, v.first, v.second];
+    let numbers = [u64::from(number(refusal)), v.first, v.second];
     let used = 1 + v.count as usize;
     let word = put_text(b"refused", out, 0);
     let behind = put_spaced(&numbers[..used], out, word);
@@ -362,14 +322,14 @@ fn put_refusal(refusal: Refusal, out: &mut [u8]) -> usize
 }
 
 // Writes the line of a refusal to the start of `out`: `refused`, its number and its values. Refused: NoRoom. Cost: the length of the line, twice.
-pub fn list_refusal(refusal: Refusal, out: &mut [u8]) -> Listing
+pub fn list_refusal(refusal: Refusal, out: &mut [u8]) -> Result<usize, Refusal>
     ensures { ListsRefusal refusal result out.old out.new }
 {
     let mut none = [0u8; 1];
     let needed = put_refusal(refusal, &mut none);
     if out.len() < needed {
-        return Listing::Refused(Refusal::NoRoom(needed as u64));
+        return Err(Refusal::NoRoom(needed as u64));
     }
     put_refusal(refusal, out);
-    Listing::Listed(needed)
+    Ok(needed)
 }

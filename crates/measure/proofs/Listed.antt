@@ -1,4 +1,6 @@
 -- The members of an enumeration: names, then values behind all names.
+use Rattle.std.specs.Prelude.{Option, Some, None}
+use Rattle.measure.specs.declared.Measure.{Measure}
 use Prim.Native.Nat.{ℕ, ◌+◌, ◌-◌, ◌<◌, ◌≤◌}
 use mathlib.Core.Path.{◌≡◌, refl, sym, ap, ◌∙◌}
 use mathlib.Core.Bool.{Bool, true, cond, ◌&&◌, and-true, and_assoc}
@@ -16,12 +18,9 @@ use Rattle.format.proofs.Lists.{length_part}
 use Rattle.format.proofs.TableSteps.{then-piece}
 use Rattle.rows.specs.Entries.{enum_member_at_of}
 use Rattle.rows.specs.declared.Member.{Member}
-use Rattle.rows.specs.declared.Member.TheVariants.{Named, Unnamed}
 use Rattle.rows.proofs.EnumNames.{names_as, names-none, values_long}
 use Rattle.measure.specs.Measure.{most_length, measure_enum, enum_measure_of, valid_at, with_enum_name_of}
 use Rattle.measure.specs.declared.EnumNames.{EnumNames}
-use Rattle.measure.specs.declared.Measured.{Measured}
-use Rattle.measure.specs.declared.Measured.TheVariants.{At, Lost}
 use Rattle.measure.proofs.Lengths.{most_both, length-name-of}
 
 abbrev pub Names : Type 0
@@ -88,11 +87,11 @@ module _ (pool : List ℕ) where
 
 -- ---- what is measured of them, with so much before
 
-unfoldable pub listed : (pool : List ℕ) (edition size : ℕ) (before : Bool) (names values : ℕ) → Found Names → Measured
+unfoldable pub listed : (pool : List ℕ) (edition size : ℕ) (before : Bool) (names values : ℕ) → Found Names → Option Measure
 listed pool e n s l v (found ns r p) =
     cond
     (leb (p + (v + values_long ns)) (length pool))
-    (At (record {
+    (Some (record {
       row = r;
       place = p + (v + values_long ns);
       size = n;
@@ -100,11 +99,11 @@ listed pool e n s l v (found ns r p) =
       carried = true;
       length = most_length (l + (names_long e ns + (v + values_long ns)));
     }))
-    Lost
-listed pool e n s l v bad = Lost
+    None
+listed pool e n s l v bad = None
 
 module _ (pool : List ℕ) (e n : ℕ) where
-  listed-past : (s : Bool) (l v : ℕ) (ns : Names) (r p : ℕ) → length pool < p + (v + values_long ns) → listed pool e n s l v (found ns r p) ≡ Lost
+  listed-past : (s : Bool) (l v : ℕ) (ns : Names) (r p : ℕ) → length pool < p + (v + values_long ns) → listed pool e n s l v (found ns r p) ≡ None
   unfolding listed
   listed-past s l v ns r p h = rw (lt-leb (p + (v + values_long ns)) (length pool) h)
 
@@ -133,54 +132,56 @@ module _ (pool : List ℕ) (e n : ℕ) where
       rw (f, g, and_assoc s)
   next-then s l v k b bad = refl
 
-  past-then : (s : Bool) (l v : ℕ) (y : Found Names) → length pool < v → listed pool e n s l v y ≡ Lost
+  past-then : (s : Bool) (l v : ℕ) (y : Found Names) → length pool < v → listed pool e n s l v y ≡ None
   past-then s l v (found ns r p) h = listed-past s l v ns r p (omega arith)
   past-then s l v bad h = unfold listed in refl
 
 -- ---- the loop: z is the answer from the start
 
 module _ (table pool : List ℕ) (e n : ℕ) where
-  pub listed-none : (k r p : ℕ) → k ≡ 0 → At (record { row = r; place = p; size = n; storable = true; carried = true; length = 0 }) ≡ enum_measure_of e n table pool k r p
+  pub listed-none : (k r p : ℕ) → k ≡ 0 → Some (record { row = r; place = p; size = n; storable = true; carried = true; length = 0 }) ≡ enum_measure_of e n table pool k r p
   unfolding enum_measure_of enum_names_at enum_values_at measure_enum and_then storable_enum enum_name_length enum_values most_length
   listed-none k r p h = rw h
 
-  pub listed_start : (k r p : ℕ) {x : Member} → x ≡ enum_member_at_of table pool r p → 0 < k → enum_measure_of e n table pool k r p ≡ listed pool e n true 0 0 (enum_names_at table pool k r p)
+  pub listed_start : (k r p : ℕ) {x : Option Member} → x ≡ enum_member_at_of table pool r p → 0 < k → enum_measure_of e n table pool k r p ≡ listed pool e n true 0 0 (enum_names_at table pool k r p)
   unfolding enum_measure_of
-  listed_start k r p {x = Named m l} q h = start-then pool e n _ _ _ (names_as table pool r p k h q refl)
-  listed_start k r p {x = Unnamed} q h = rw (names-none table pool r p k h q refl) (unfold and_then measure_enum listed in refl)
+  listed_start k r p {x = Some m} q h = start-then pool e n _ _ _ (names_as table pool r p k h q refl)
+  listed_start k r p {x = None} q h = rw (names-none table pool r p k h q refl) (unfold and_then measure_enum listed in refl)
 
-  module _ (r p v k l : ℕ) (s : Bool) {x : Member} {z : Measured} (q : x ≡ enum_member_at_of table pool r p) (inv : z ≡ listed pool e n s l v (enum_names_at table pool k r p)) (h : 0 < k) where
-    pub listed_unnamed : x ≡ Unnamed → Lost ≡ z
-    listed_unnamed f = sym (inv ∙ rw (names-none table pool r p k h q f) (unfold listed in refl))
+  module _ (r p v count i l : ℕ) (s : Bool) {x : Option Member} {z : Option Measure} (q : x ≡ enum_member_at_of table pool r p) (inv : z ≡ listed pool e n s l v (enum_names_at table pool (count - i) r p)) (h : i < count) where
+    pub listed_unnamed : x ≡ None → None ≡ z
+    listed_unnamed f = sym (inv ∙ rw (names-none table pool r p (count - i) (omega arith) q f) (unfold listed in refl))
 
-    module _ {m j : ℕ} (f : x ≡ Named m j) where
-      turned : z ≡ listed pool e n (s && ((no_nul (take m (drop p pool)) && well_formed (take m (drop p pool))) && eqb j n)) (most_length (l + name_length_of e (take m (drop p pool)))) (v + j) (enum_names_at table pool (k - 1) (r + 1) (p + m))
-      turned = inv ∙ ap (listed pool e n s l v) (names_as table pool r p k h q f) ∙ next-then pool e n s l v j _ _
+    module _ {m : Member} (f : x ≡ Some m) where
+      turned : z ≡ listed pool e n (s && ((no_nul (take m.name (drop p pool)) && well_formed (take m.name (drop p pool))) && eqb m.number n)) (most_length (l + name_length_of e (take m.name (drop p pool)))) (v + m.number) (enum_names_at table pool (count - (i + 1)) (r + 1) (p + m.name))
+      turned =
+          let k : count - i - 1 ≡ count - (i + 1) = omega arith in
+          inv ∙ ap (listed pool e n s l v) (names_as table pool r p (count - i) (omega arith) q f) ∙ next-then pool e n s l v m.number _ _ ∙ rw k
 
-      pub listed-past-pool : length pool - v < j → Lost ≡ z
-      listed-past-pool g = sym (turned ∙ past-then pool e n _ _ (v + j) _ (omega arith))
+      pub listed-past-pool : length pool - v < m.number → None ≡ z
+      listed-past-pool g = sym (turned ∙ past-then pool e n _ _ (v + m.number) _ (omega arith))
 
-      pub listed_next : {names : EnumNames} → p + m ≤ length pool → names ≡ with_enum_name_of pool e n (record { storable = s; length = l }) p m j
-          → z ≡ listed pool e n names.storable names.length (v + j) (enum_names_at table pool (k - 1) (r + 1) (p + m))
+      pub listed_next : {names : EnumNames} → p + m.name ≤ length pool → names ≡ with_enum_name_of pool e n (record { storable = s; length = l }) p m.name m.number
+          → z ≡ listed pool e n names.storable names.length (v + m.number) (enum_names_at table pool (count - (i + 1)) (r + 1) (p + m.name))
       unfolding with_enum_name_of valid_at
-      listed_next inside hn = turned ∙ rw (hn, length-name-of e m (take m (drop p pool)) (length_part pool p m inside))
+      listed_next inside hn = turned ∙ rw (hn, length-name-of e m.name (take m.name (drop p pool)) (length_part pool p m.name inside))
 
   -- behind the last name
-  module _ (r p v k l : ℕ) (s : Bool) {z : Measured} (inv : z ≡ listed pool e n s l v (enum_names_at table pool k r p)) (h : k ≤ 0) where
+  module _ (r p v count i l : ℕ) (s : Bool) {z : Option Measure} (inv : z ≡ listed pool e n s l v (enum_names_at table pool (count - i) r p)) (h : count ≤ i) where
     ended : z ≡ listed pool e n s l v (found [] r p)
     unfolding enum_names_at
     ended =
-        let f : k ≡ 0 = omega arith in
+        let f : count - i ≡ 0 = omega arith in
         inv ∙ rw f
 
-    pub listed-behind : length pool < p → Lost ≡ z
+    pub listed-behind : length pool < p → None ≡ z
     listed-behind g = sym (ended ∙ listed-past pool e n s l v [] r p (omega arith))
 
-    pub listed-lost : length pool - p < v → Lost ≡ z
+    pub listed-lost : length pool - p < v → None ≡ z
     listed-lost g = sym (ended ∙ listed-past pool e n s l v [] r p (omega arith))
 
     pub listed-ended : {w : ℕ} → p ≤ length pool → v ≤ length pool - p → (w ≡ most_length (l + v)) × (w ≤ 4294967296)
-        → At (record { row = r; place = p + v; size = n; storable = s; carried = true; length = w }) ≡ z
+        → Some (record { row = r; place = p + v; size = n; storable = s; carried = true; length = w }) ≡ z
     unfolding listed values_long names_long names_storable
     listed-ended f g i =
         let a : v + 0 ≡ v = omega arith in

@@ -1,4 +1,5 @@
 -- What the measuring walk answers, as a function of the type that is found.
+use Rattle.std.specs.Prelude.{Option, Some, None}
 use Rattle.std.specs.Prelude.{ℕ, ◌+◌, ◌*◌, ◌^◌, min, Bool, true, ◌&&◌, List, [], ◌∷◌, length, take, drop, get_or, leb, ltb, eqb}
 use Rattle.format.specs.Bytes.{padding_to8}
 use Rattle.format.specs.Columns.{order_column, offset_column, precision_column, exponent_location_column, exponent_size_column, mantissa_location_column, mantissa_size_column}
@@ -8,28 +9,26 @@ use Rattle.format.specs.Utf8.{well_formed}
 use Rattle.format.specs.Table.{word_at, Found, found, bad, and_then, enum_names_at, enum_values_at}
 use Rattle.measure.specs.declared.EnumNames.{EnumNames}
 use Rattle.measure.specs.declared.Measure.{Measure}
-use Rattle.measure.specs.declared.Measured.{Measured}
-use Rattle.measure.specs.declared.Measured.TheVariants.{At, Lost}
 
 -- a length, which stops at 4,294,967,296
 unfoldable pub most_length : ℕ → ℕ
 most_length n = min n 4294967296
 
-unfoldable pub measure_of : (edition : ℕ) → Found Datatype → Measured
-measure_of e (found t r p) = At (record { row = r; place = p; size = type_size_of t; storable = storable t; carried = carried e t; length = most_length (message_length e t) })
-measure_of e bad = Lost
+unfoldable pub measure_of : (edition : ℕ) → Found Datatype → Option Measure
+measure_of e (found t r p) = Some (record { row = r; place = p; size = type_size_of t; storable = storable t; carried = carried e t; length = most_length (message_length e t) })
+measure_of e bad = None
 
 -- of the members of a compound of size n
-unfoldable pub measure_in : (edition size : ℕ) → Found Members → Measured
-measure_in e n (found ms r p) = At (record { row = r; place = p; size = n; storable = storable_members n ms; carried = carried_members e ms; length = most_length (members_length e n ms) })
-measure_in e n bad = Lost
+unfoldable pub measure_in : (edition size : ℕ) → Found Members → Option Measure
+measure_in e n (found ms r p) = Some (record { row = r; place = p; size = n; storable = storable_members n ms; carried = carried_members e ms; length = most_length (members_length e n ms) })
+measure_in e n bad = None
 
 -- of the members of an enumeration over a base of size n
-unfoldable pub measure_enum : (edition size : ℕ) → Found (List EnumMember) → Measured
-measure_enum e n (found ms r p) = At (record { row = r; place = p; size = n; storable = storable_enum n ms; carried = true; length = most_length (enum_name_length e ms + length (enum_values ms)) })
-measure_enum e n bad = Lost
+unfoldable pub measure_enum : (edition size : ℕ) → Found (List EnumMember) → Option Measure
+measure_enum e n (found ms r p) = Some (record { row = r; place = p; size = n; storable = storable_enum n ms; carried = true; length = most_length (enum_name_length e ms + length (enum_values ms)) })
+measure_enum e n bad = None
 
-unfoldable pub enum_measure_of : (edition size : ℕ) (table pool : List ℕ) (count row place : ℕ) → Measured
+unfoldable pub enum_measure_of : (edition size : ℕ) (table pool : List ℕ) (count row place : ℕ) → Option Measure
 enum_measure_of e n table pool k r p = measure_enum e n (and_then (enum_names_at table pool k r p) (enum_values_at pool))
 
 -- place and size of exponent and mantissa fit a byte each

@@ -1,7 +1,7 @@
 // What a message of the type in a table would be: whether it can be stored, whether an edition carries it, and how long it is.
 #![tactic(auto)]
 
-ghost use Rattle.std.specs.Prelude.{◌≡◌, true, ◌&&◌, ◌+◌, ◌*◌, ◌≤◌, ◌<◌, length, take, drop, get_or};
+ghost use Rattle.std.specs.Prelude.{Some, ◌≡◌, true, ◌&&◌, ◌+◌, ◌*◌, ◌≤◌, ◌<◌, length, take, drop, get_or};
 ghost use Rattle.format.specs.Bytes.{dimensions_from};
 ghost use Rattle.format.specs.Message.{storable_variable};
 ghost use Rattle.format.specs.Table.{all_below, type_at, members_at};
@@ -11,7 +11,7 @@ ghost use Rattle.measure.specs.Measure.{measure_of, measure_in, enum_measure_of,
 
 use names::valid_name;
 use primitives::{name_padding, offset_bytes_for_size, padding_to_8, skipped_bytes};
-use rows::{Entry, Member, both, entry_at, enum_member_at, member_at};
+use rows::{Entry, Member, entry_at, enum_member_at, member_at};
 use table::{capped, scaled};
 
 // The next row and pool place, the size, whether the type can be stored and the edition carries it, and the message's length, which stops at
@@ -26,13 +26,6 @@ pub struct Measure {
     pub length: u64,
 }
 
-// What measuring finds: a type, or none.
-#[derive(Clone, Copy)]
-pub enum Measured {
-    At(Measure),
-    Lost,
-}
-
 // Whether the names and values of an enumeration can be stored, and the length of the names, which stops at 4,294,967,296.
 #[derive(Clone, Copy)]
 pub struct EnumNames {
@@ -40,38 +33,26 @@ pub struct EnumNames {
     pub length: u64,
 }
 
-// A length, which stops at 4,294,967,296.
-fn most(n: u64) -> u64
-    ensures { (result ≡ most_length n) × (result ≤ 4294967296) }
-{
-    if n < 4294967296 { n } else { 4294967296 }
-}
-
 // A sum of lengths, which stops at 4,294,967,296.
+#[tactic(auto, unfolding(crate::specs::Measure::most_length))]
 fn add_lengths(a: u64, b: u64) -> u64
     ensures { (result ≡ most_length (a + b)) × (result ≤ 4294967296) }
 {
-    if a < 4294967296 {
-        if b < 4294967296 {
-            return most(a + b);
-        }
-    }
-    4294967296
+    a.saturating_add(b).min(4294967296)
 }
 
 // Whether place and size of exponent and mantissa fit a byte each.
+#[tactic(auto, unfolding(crate::specs::Measure::parts_fit_of))]
 fn parts_fit(table: &[u32], row: usize) -> bool
     requires { row * 16 + 16 ≤ length table.now }
     ensures { result ≡ parts_fit_of table.now row }
 {
     let at = row * 16;
-    both(
-        both(table[at + 9] < 256, table[at + 10] < 256),
-        both(table[at + 11] < 256, table[at + 12] < 256),
-    )
+    table[at + 9] < 256 && table[at + 10] < 256 && table[at + 11] < 256 && table[at + 12] < 256
 }
 
 // Whether the numbers of a leaf's row fit its message.
+#[tactic(auto, unfolding(crate::specs::Measure::leaf_storable_of))]
 fn leaf_storable(table: &[u32], row: usize, class: u32, size: u32, long: u32) -> bool
     requires { row * 16 + 16 ≤ length table.now }
     ensures is { result ≡ leaf_storable_of table.now row class size long }
@@ -85,19 +66,16 @@ fn leaf_storable(table: &[u32], row: usize, class: u32, size: u32, long: u32) ->
     let place = table[at + 7] < 65536;
     let precision = table[at + 8] < 65536;
     match class {
-        0 => both(order, both(place, precision)),
-        1 => both(
-            size <= 536870911,
-            both(place, both(precision, parts_fit(table, row))),
-        ),
-        2 => both(order, precision),
-        4 => both(order, both(place, precision)),
+        0 | 4 => order && place && precision,
+        1 => size <= 536870911 && place && precision && parts_fit(table, row),
+        2 => order && precision,
         5 => long < 256,
         _ => true,
     }
 }
 
 // The length of a leaf's message.
+#[tactic(auto, unfolding(crate::specs::Measure::leaf_length_of))]
 fn leaf_length(class: u32, long: u32) -> u64
     ensures { result ≡ leaf_length_of class long }
 {
@@ -106,12 +84,13 @@ fn leaf_length(class: u32, long: u32) -> u64
         1 => 20,
         2 => 10,
         4 => 12,
-        5 => 8 + (long as u64) + (padding_to_8(long as usize) as u64),
+        5 => 8 + u64::from(long) + padding_to_8(long as usize) as u64,
         _ => 8,
     }
 }
 
 // Whether an offset fits the width that edition 3 gives it.
+#[tactic(auto, unfolding(crate::specs::Measure::offset_fits_of, format::specs::Message::offset_width))]
 fn offset_fits(offset: u32, size: u32) -> bool
     ensures { result ≡ offset_fits_of offset size }
 {
@@ -125,48 +104,47 @@ fn offset_fits(offset: u32, size: u32) -> bool
 }
 
 // Whether a variable-length type has padding and charset exactly if it is a string.
+#[tactic(auto, unfolding(format::specs::Message::storable_variable))]
 fn variable_storable(string: u32, padding: u32, charset: u32) -> bool
     ensures { result ≡ storable_variable string padding charset }
 {
     if string == 0 {
-        return both(padding == 0, charset == 0);
+        return padding == 0 && charset == 0;
     }
-    both(
-        string == 1,
-        both(
-            both(padding > 0, padding < 4),
-            both(charset > 0, charset < 3),
-        ),
-    )
+    string == 1 && padding > 0 && padding < 4 && charset > 0 && charset < 3
 }
 
 // The bytes before an array's base type.
+#[tactic(auto, unfolding(crate::specs::Measure::array_head_of, format::specs::Message::reserved_bytes_of, format::specs::Message::permutation_bytes_of))]
 fn array_head(edition: u8, rank: u32) -> u64
     ensures { result ≡ array_head_of edition rank }
 {
     if edition < 3 {
-        return 12 + 8 * (rank as u64);
+        return 12 + 8 * u64::from(rank);
     }
-    9 + 4 * (rank as u64)
+    9 + 4 * u64::from(rank)
 }
 
 // The bytes of a name with its NUL and padding.
+#[tactic(auto, unfolding(crate::specs::Measure::name_length_of_lem))]
 fn name_length(edition: u8, long: u32) -> u64
     ensures { (result ≡ name_length_of_lem edition long) × (result < 4294967304) }
 {
     let n = long as usize;
-    (long as u64) + 1 + (name_padding(edition, n + 1) as u64)
+    u64::from(long) + 1 + name_padding(edition, n + 1) as u64
 }
 
 // The bytes before a member's type.
+#[tactic(auto, unfolding(crate::specs::Measure::member_head_of))]
 fn member_head(edition: u8, size: u32, long: u32) -> u64
     ensures { result ≡ member_head_of edition size long }
 {
     let width = offset_bytes_for_size(edition, size) as u64;
-    name_length(edition, long) + width + (skipped_bytes(edition) as u64)
+    name_length(edition, long) + width + skipped_bytes(edition) as u64
 }
 
 // What is measured so far of a compound's members, and one member more, of a valid name or not, with so many bytes before its type.
+#[tactic(auto, unfolding(crate::specs::Measure::with_member_of))]
 fn with_member(sum: Measure, valid: bool, offset: u32, head: u64, member: Measure) -> Measure
     ensures { result ≡ with_member_of sum valid offset head member }
 {
@@ -174,33 +152,31 @@ fn with_member(sum: Measure, valid: bool, offset: u32, head: u64, member: Measur
         row: member.row,
         place: member.place,
         size: sum.size,
-        storable: both(
-            sum.storable,
-            both(valid, both(offset_fits(offset, sum.size), member.storable)),
-        ),
-        carried: both(sum.carried, member.carried),
+        storable: sum.storable && valid && offset_fits(offset, sum.size) && member.storable,
+        carried: sum.carried && member.carried,
         length: add_lengths(sum.length, add_lengths(head, member.length)),
     }
 }
 
-// The same, of a member whose name is the next `name` bytes of the pool.
+// The same, of a member whose name is next in the pool, and what is measured of its type.
+#[tactic(auto, unfolding(crate::specs::Measure::valid_at))]
 fn with_named_member(
     pool: &[u8],
     sum: Measure,
-    offset: u32,
-    name: u32,
-    member: Measure,
+    member: Member,
+    inner: Measure,
     edition: u8,
 ) -> Measure
-    requires { sum.place + name ≤ length pool.now }
-    ensures { result ≡ with_member_of sum (valid_at pool.now sum.place name) offset (member_head_of edition sum.size name) member }
+    requires { sum.place + member.name ≤ length pool.now }
+    ensures { result ≡ with_member_of sum (valid_at pool.now sum.place member.name) member.number (member_head_of edition sum.size member.name) inner }
 {
     let from = sum.place;
-    let valid = valid_name(pool, from, from + name as usize);
-    let head = member_head(edition, sum.size, name);
-    with_member(sum, valid, offset, head, member)
+    let valid = valid_name(pool, from, from + member.name as usize);
+    let head = member_head(edition, sum.size, member.name);
+    with_member(sum, valid, member.number, head, inner)
 }
 
+#[tactic(auto, unfolding(crate::specs::Measure::leaf_measure_of, crate::specs::Measure::most_length))]
 fn leaf_measure(
     table: &[u32],
     row: usize,
@@ -217,42 +193,42 @@ fn leaf_measure(
     Measure {
         row: row + 1,
         place: next,
-        size: size,
+        size,
         storable: leaf_storable(table, row, class, size, long),
         carried: true,
-        length: most(leaf_length(class, long)),
+        length: leaf_length(class, long).min(4294967296),
     }
 }
 
+#[tactic(auto, unfolding(crate::specs::Measure::compound_measure_of))]
 fn compound_measure(size: u32, count: u32, members: Measure) -> Measure
     ensures { (result ≡ compound_measure_of size count members) × (size < 4294967296) }
 {
     Measure {
         row: members.row,
         place: members.place,
-        size: size,
-        storable: both(size > 0, both(count < 65536, members.storable)),
+        size,
+        storable: size > 0 && count < 65536 && members.storable,
         carried: members.carried,
         length: add_lengths(8, members.length),
     }
 }
 
+#[tactic(auto, unfolding(crate::specs::Measure::enumeration_measure_of))]
 fn enumeration_measure(size: u32, count: u32, base: Measure, members: Measure) -> Measure
     ensures { (result ≡ enumeration_measure_of size count base members) × (size < 4294967296) }
 {
     Measure {
         row: members.row,
         place: members.place,
-        size: size,
-        storable: both(
-            size > 0,
-            both(count < 65536, both(members.storable, base.storable)),
-        ),
+        size,
+        storable: size > 0 && count < 65536 && members.storable && base.storable,
         carried: base.carried,
         length: add_lengths(8, add_lengths(base.length, members.length)),
     }
 }
 
+#[tactic(auto, unfolding(crate::specs::Measure::variable_measure_of))]
 fn variable_measure(string: u32, padding: u32, charset: u32, base: Measure) -> Measure
     ensures { result ≡ variable_measure_of string padding charset base }
 {
@@ -260,12 +236,13 @@ fn variable_measure(string: u32, padding: u32, charset: u32, base: Measure) -> M
         row: base.row,
         place: base.place,
         size: 16,
-        storable: both(variable_storable(string, padding, charset), base.storable),
+        storable: variable_storable(string, padding, charset) && base.storable,
         carried: base.carried,
         length: add_lengths(8, base.length),
     }
 }
 
+#[tactic(auto, unfolding(crate::specs::Measure::array_measure_of))]
 fn array_measure(pool: &[u8], place: usize, rank: u32, edition: u8, base: Measure) -> Measure
     requires { place + rank * 4 ≤ length pool.now }
     ensures is { result ≡ array_measure_of edition rank (dimensions_from rank (take (rank * 4) (drop place pool.now))) base }
@@ -275,31 +252,30 @@ fn array_measure(pool: &[u8], place: usize, rank: u32, edition: u8, base: Measur
     Measure {
         row: base.row,
         place: base.place,
-        size: size,
-        storable: both(rank < 256, both(size > 0, base.storable)),
-        carried: both(edition > 1, base.carried),
+        size,
+        storable: rank < 256 && size > 0 && base.storable,
+        carried: edition > 1 && base.carried,
         length: add_lengths(array_head(edition, rank), base.length),
     }
 }
 
-// What is measured so far of an enumeration's names over a base of size `width`, and one more: `name` bytes at a place of the pool, its value
-// `value` bytes long.
+// What is measured so far of an enumeration's names over a base of size `width`, and one more, its name at a place of the pool.
+#[tactic(auto, unfolding(crate::specs::Measure::with_enum_name_of, crate::specs::Measure::valid_at))]
 fn with_enum_name(
     pool: &[u8],
     place: usize,
-    name: u32,
-    value: u32,
+    member: Member,
     width: u32,
     names: EnumNames,
     edition: u8,
 ) -> EnumNames
-    requires { place + name ≤ length pool.now }
-    ensures { result ≡ with_enum_name_of pool.now edition width names place name value }
+    requires { place + member.name ≤ length pool.now }
+    ensures { result ≡ with_enum_name_of pool.now edition width names place member.name member.number }
 {
-    let valid = valid_name(pool, place, place + name as usize);
+    let valid = valid_name(pool, place, place + member.name as usize);
     EnumNames {
-        storable: both(names.storable, both(valid, value == width)),
-        length: add_lengths(names.length, name_length(edition, name)),
+        storable: names.storable && valid && member.number == width,
+        length: add_lengths(names.length, name_length(edition, member.name)),
     }
 }
 
@@ -312,13 +288,13 @@ fn measure_enum_members(
     count: u32,
     edition: u8,
     width: u32,
-) -> Measured
+) -> Option<Measure>
     ensures { result ≡ enum_measure_of edition width table.now pool.now count row place }
 {
     if count == 0 {
-        return Measured::At(Measure {
-            row: row,
-            place: place,
+        return Some(Measure {
+            row,
+            place,
             size: width,
             storable: true,
             carried: true,
@@ -328,37 +304,28 @@ fn measure_enum_members(
     let mut r = row;
     let mut p = place;
     let mut values: usize = 0;
-    let mut left = count;
     let mut names = EnumNames {
         storable: true,
         length: 0,
     };
-    while left > 0 {
-        let member = enum_member_at(table, pool, r, p);
-        match member {
-            Member::Unnamed => {
-                return Measured::Lost;
-            }
-            Member::Named(name, value) => {
-                let value_length = value as usize;
-                if pool.len() - values < value_length {
-                    return Measured::Lost;
-                }
-                names = with_enum_name(pool, p, name, value, width, names, edition);
-                r += 1;
-                p += name as usize;
-                values += value_length;
-                left -= 1;
-            }
+    for _ in 0..count {
+        let member = enum_member_at(table, pool, r, p)?;
+        let long = member.number as usize;
+        if pool.len() - values < long {
+            return None;
         }
+        names = with_enum_name(pool, p, member, width, names, edition);
+        r += 1;
+        p += member.name as usize;
+        values += long;
     }
     if pool.len() < p {
-        return Measured::Lost;
+        return None;
     }
     if pool.len() - p < values {
-        return Measured::Lost;
+        return None;
     }
-    Measured::At(Measure {
+    Some(Measure {
         row: r,
         place: p + values,
         size: width,
@@ -377,20 +344,19 @@ pub fn measure_type(
     place: usize,
     levels: usize,
     edition: u8,
-) -> Measured
+) -> Option<Measure>
     ensures { result ≡ measure_of edition (type_at levels table.now pool.now row place) }
 {
     if levels == 0 {
-        return Measured::Lost;
+        return None;
     }
-    let entry = entry_at(table, pool, row, place);
+    let entry = entry_at(table, pool, row, place)?;
     match entry {
-        Entry::Unknown => Measured::Lost,
         Entry::Leaf(class, size, long, _) => {
-            Measured::At(leaf_measure(table, row, place, class, size, long))
+            Some(leaf_measure(table, row, place, class, size, long))
         }
         Entry::Compound(size, count) => {
-            let got = measure_members(
+            let members = measure_members(
                 table,
                 pool,
                 row + 1,
@@ -399,11 +365,8 @@ pub fn measure_type(
                 size,
                 levels - 1,
                 edition,
-            );
-            match got {
-                Measured::Lost => Measured::Lost,
-                Measured::At(members) => { Measured::At(compound_measure(size, count, members)) }
-            }
+            )?;
+            Some(compound_measure(size, count, members))
         }
         Entry::Enumeration(size, count) => measure_enumeration(
             table,
@@ -416,29 +379,19 @@ pub fn measure_type(
             edition,
         ),
         Entry::VariableLength(string, padding, charset) => {
-            let got = measure_type(table, pool, row + 1, place, levels - 1, edition);
-            match got {
-                Measured::Lost => Measured::Lost,
-                Measured::At(base) => {
-                    Measured::At(variable_measure(string, padding, charset, base))
-                }
-            }
+            let base = measure_type(table, pool, row + 1, place, levels - 1, edition)?;
+            Some(variable_measure(string, padding, charset, base))
         }
         Entry::Array(rank) => {
-            let got = measure_type(
+            let base = measure_type(
                 table,
                 pool,
                 row + 1,
                 place + (rank as usize) * 4,
                 levels - 1,
                 edition,
-            );
-            match got {
-                Measured::Lost => Measured::Lost,
-                Measured::At(base) => {
-                    Measured::At(array_measure(pool, place, rank, edition, base))
-                }
-            }
+            )?;
+            Some(array_measure(pool, place, rank, edition, base))
         }
     }
 }
@@ -454,25 +407,15 @@ fn measure_enumeration(
     count: u32,
     levels: usize,
     edition: u8,
-) -> Measured
+) -> Option<Measure>
     requires { row * 16 + 16 ≤ length table.now }
-    ensures { result ≡ measure_of edition (from_entry (type_at levels table.now pool.now) table.now pool.now row place (Enumeration size count)) }
+    ensures { result ≡ measure_of edition (from_entry (type_at levels table.now pool.now) table.now pool.now row place (Some (Enumeration size count))) }
 {
-    let got = measure_type(table, pool, row + 1, place, levels, edition);
-    match got {
-        Measured::Lost => Measured::Lost,
-        Measured::At(base) => {
-            let listed = measure_enum_members(
-                table, pool, base.row, base.place, count, edition, base.size,
-            );
-            match listed {
-                Measured::Lost => Measured::Lost,
-                Measured::At(members) => {
-                    Measured::At(enumeration_measure(size, count, base, members))
-                }
-            }
-        }
-    }
+    let base = measure_type(table, pool, row + 1, place, levels, edition)?;
+    let members = measure_enum_members(
+        table, pool, base.row, base.place, count, edition, base.size,
+    )?;
+    Some(enumeration_measure(size, count, base, members))
 }
 
 // As `measure_type`, of a member: a leaf is measured here, and `measure_type` reads any other row again.
@@ -484,16 +427,16 @@ fn measure_inner(
     place: usize,
     levels: usize,
     edition: u8,
-) -> Measured
+) -> Option<Measure>
     ensures { result ≡ measure_of edition (type_at levels table.now pool.now row place) }
 {
     if levels == 0 {
-        return Measured::Lost;
+        return None;
     }
-    let entry = entry_at(table, pool, row, place);
+    let entry = entry_at(table, pool, row, place)?;
     match entry {
         Entry::Leaf(class, size, long, _) => {
-            Measured::At(leaf_measure(table, row, place, class, size, long))
+            Some(leaf_measure(table, row, place, class, size, long))
         }
         _ => measure_type(table, pool, row, place, levels, edition),
     }
@@ -510,39 +453,22 @@ fn measure_members(
     size: u32,
     levels: usize,
     edition: u8,
-) -> Measured
+) -> Option<Measure>
     ensures { result ≡ measure_in edition size (members_at (type_at levels table.now pool.now) table.now pool.now count row place) }
 {
-    let mut left = count;
     let mut sum = Measure {
-        row: row,
-        place: place,
-        size: size,
+        row,
+        place,
+        size,
         storable: true,
         carried: true,
         length: 0,
     };
-    while left > 0 {
-        let r = sum.row;
-        let p = sum.place;
-        let member = member_at(table, pool, r, p);
-        match member {
-            Member::Unnamed => {
-                return Measured::Lost;
-            }
-            Member::Named(offset, name) => {
-                let got = measure_inner(table, pool, r + 1, p + name as usize, levels, edition);
-                match got {
-                    Measured::Lost => {
-                        return Measured::Lost;
-                    }
-                    Measured::At(m) => {
-                        sum = with_named_member(pool, sum, offset, name, m, edition);
-                        left -= 1;
-                    }
-                }
-            }
-        }
+    for _ in 0..count {
+        let member = member_at(table, pool, sum.row, sum.place)?;
+        let from = sum.place + member.name as usize;
+        let inner = measure_inner(table, pool, sum.row + 1, from, levels, edition)?;
+        sum = with_named_member(pool, sum, member, inner, edition);
     }
-    Measured::At(sum)
+    Some(sum)
 }

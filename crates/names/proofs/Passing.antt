@@ -1,5 +1,6 @@
 -- The pass over a name: what holds before each byte, and what it gives at the end.
-use mathlib.Core.Path.{◌≡◌, refl, sym, ap, ◌∙◌}
+use Rattle.std.specs.Prelude.{Ok, Err}
+use mathlib.Core.Path.{◌≡◌, refl, sym, ap, subst, ◌∙◌}
 use mathlib.Core.Option.{Option, none, some}
 use mathlib.Core.Logic.{◌⊎◌, inl, inr, ⊎_elim}
 use mathlib.Core.List.{List, [], ◌∷◌, ◌++◌, append_assoc, append-nil}
@@ -15,7 +16,8 @@ use Rattle.format.proofs.Lists.{sets_append}
 use Rattle.format.proofs.Utf8.{mended_resumes}
 use Rattle.names.specs.Pass.{carrying, state_of, Fits, Steps}
 use Rattle.names.specs.Names.{Stored, WholeName, Reads}
-use Rattle.names.specs.declared.Name.TheVariants.{Whole, Missing, Full}
+use Rattle.names.specs.declared.Name.{Name}
+use Rattle.names.specs.declared.NameError.TheVariants.{Missing, Full}
 use Rattle.names.specs.declared.Carry.{Carry}
 use Rattle.names.specs.declared.Stepped.{Stepped}
 
@@ -217,12 +219,12 @@ module _ (d : List ℕ) (at : ℕ) (before pool pool' : List ℕ) (place room i 
       at_last : Written before pool' place room r (mended (take (i - at) (drop at d)))
       at_last = rw whole-name (written-more before pool pool' place room pos (output_of ready (take (i - at) (drop at d))) (at_end (state_of st)) r was.written s)
 
-      pub ends-full : place ≤ room → room < r → Reads d at before pool' place room Full
+      pub ends-full : place ≤ room → room < r → Reads d at before pool' place room (Err Full)
       ends-full l k = record {
         same = at_last.same;
-        whole = λ n m e. absurd (let z : ◌≡◌ {A = ℕ} 0 1 = cc in omega arith);
+        whole = λ x e. absurd (cc);
         full = λ e. record { n = i - at; found = found; long = omega (arith, at_last.past k) };
-        missing = λ e. absurd (let z : ◌≡◌ {A = ℕ} 0 1 = cc in omega arith);
+        missing = λ e. absurd (cc);
       }
 
       is_whole : r ≤ room → WholeName d at before pool' place room (i - at) (r - place)
@@ -236,24 +238,23 @@ module _ (d : List ℕ) (at : ℕ) (before pool pool' : List ℕ) (place room i 
             pool = f.1;
           }
 
-      pub ends-whole : r ≤ room → Reads d at before pool' place room (Whole (i - at) (r - place))
+      pub ends-whole : r ≤ room → Reads d at before pool' place room (Ok (record { length = i - at; stored = r - place }))
       ends-whole k = record {
         same = at_last.same;
-        whole = λ n m e.
-            let en : i - at ≡ n = cc in
-            let em : r - place ≡ m = cc in
-            rw (← en, ← em) (is_whole k);
-        full = λ e. absurd (let z : ◌≡◌ {A = ℕ} 0 1 = cc in omega arith);
-        missing = λ e. absurd (let z : ◌≡◌ {A = ℕ} 0 1 = cc in omega arith);
+        whole = λ x e.
+            let q : record { length = i - at; stored = r - place } ≡ x = cc in
+            subst (λ (y : Name). WholeName d at before pool' place room y.length y.stored) q (is_whole k);
+        full = λ e. absurd (cc);
+        missing = λ e. absurd (cc);
       }
 
       pub ends-behind : r ≤ room → place ≤ r
       ends-behind k = omega (arith, (at_last.fits (omega arith)).0)
 
-  pub ends-missing : length d ≤ i → Reads d at before pool place room Missing
+  pub ends-missing : length d ≤ i → Reads d at before pool place room (Err Missing)
   ends-missing h = record {
     same = was.written.same;
-    whole = λ n m e. absurd (let z : ◌≡◌ {A = ℕ} 0 1 = cc in omega arith);
-    full = λ e. absurd (let z : ◌≡◌ {A = ℕ} 0 1 = cc in omega arith);
+    whole = λ x e. absurd (cc);
+    full = λ e. absurd (cc);
     missing = λ e. was.nul ∙ ap (shift (i - at)) (nul_end d i (omega arith));
   }

@@ -1,11 +1,12 @@
 -- What reading a name ensures, by what is returned.
-use Rattle.std.specs.Prelude.{◌≡◌, List, ℕ, ◌+◌, ◌-◌, ◌≤◌, ◌<◌, length, take, drop}
+use Rattle.std.specs.Prelude.{◌≡◌, List, ℕ, ◌+◌, ◌-◌, ◌≤◌, ◌<◌, length, take, drop, Result, Ok, Err}
 use Rattle.std.proofs.Math.Option.{none, some}
 use Rattle.std.proofs.lemmas.List.Edits.{sets}
 use Rattle.format.specs.Bytes.{first_nul}
 use Rattle.format.specs.Utf8.{mended}
 use Rattle.names.specs.declared.Name.{Name}
-use Rattle.names.specs.declared.Name.TheVariants.{Whole, Missing, Full}
+use Rattle.names.specs.declared.NameError.{NameError}
+use Rattle.names.specs.declared.NameError.TheVariants.{Missing, Full}
 
 -- bytes x are stored in the pool at pos, if there is room; r is the place behind them, or one past the room
 pub record Stored (before after : List ℕ) (pos room : ℕ) (x : List ℕ) (r : ℕ) : Type 0 where
@@ -27,8 +28,8 @@ pub record FullName (d : List ℕ) (at place room : ℕ) : Type 0 where
   pub found : first_nul (drop at d) ≡ some n
   pub long : room - place < length (mended (take n (drop at d)))
 
-pub record Reads (d : List ℕ) (at : ℕ) (before after : List ℕ) (place room : ℕ) (r : Name) : Type 0 where
+pub record Reads (d : List ℕ) (at : ℕ) (before after : List ℕ) (place room : ℕ) (r : Result Name NameError) : Type 0 where
   pub same : length after ≡ length before
-  pub whole : (n m : ℕ) → r ≡ Whole n m → WholeName d at before after place room n m
-  pub full : r ≡ Full → FullName d at place room
-  pub missing : r ≡ Missing → first_nul (drop at d) ≡ none
+  pub whole : (x : Name) → r ≡ Ok x → WholeName d at before after place room x.length x.stored
+  pub full : r ≡ Err Full → FullName d at place room
+  pub missing : r ≡ Err Missing → first_nul (drop at d) ≡ none

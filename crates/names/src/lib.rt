@@ -7,10 +7,16 @@ ghost use Rattle.format.specs.Utf8.{up_to, leads, begin, broken, going, step, ca
 ghost use Rattle.names.specs.Pass.{state_of, lead_of, carry_on_of, Fits, Sized, Steps};
 ghost use Rattle.names.specs.Names.{Stored, Reads};
 
-// A name's bytes before its NUL and, made valid, in the pool.
+// A name, by its bytes before its NUL, and those that are stored in the pool, made valid.
 #[derive(Clone, Copy)]
-pub enum Name {
-    Whole(usize, usize),
+pub struct Name {
+    pub length: usize,
+    pub stored: usize,
+}
+
+// Why a name is not read: no NUL ends it, or there is no room for it.
+#[derive(Clone, Copy, Debug, PartialEq, Eq)]
+pub enum NameError {
     Missing,
     Full,
 }
@@ -24,7 +30,8 @@ enum Start {
 }
 
 // The bytes of a character that is not whole yet, how many are to come, and from where to where the next one lies.
-#[derive(Clone, Copy)]
+// The count stands beside the bytes: an enum by their number would hold the same bytes in three variants.
+#[derive(Clone, Copy, Default)]
 struct Carry {
     count: u8,
     first: u8,
@@ -79,20 +86,6 @@ fn start_of(b: u8) -> Start
     Start::Ill
 }
 
-fn nothing() -> Carry
-    ensures { result.count ≡ 0 }
-{
-    Carry {
-        count: 0,
-        first: 0,
-        second: 0,
-        third: 0,
-        more: 0,
-        low: 0,
-        high: 0,
-    }
-}
-
 // A byte between characters.
 fn begin_with(b: u8) -> Stepped
     ensures { Steps result (begin b (up_to leads b)) }
@@ -102,12 +95,12 @@ fn begin_with(b: u8) -> Stepped
         Start::Single => Stepped {
             out: [b, 0, 0, 0, 0, 0],
             len: 1,
-            next: nothing(),
+            next: Carry::default(),
         },
         Start::Ill => Stepped {
             out: [0xef, 0xbf, 0xbd, 0, 0, 0],
             len: 3,
-            next: nothing(),
+            next: Carry::default(),
         },
         Start::More(more, low, high) => Stepped {
             out: [0, 0, 0, 0, 0, 0],
@@ -134,12 +127,12 @@ fn break_off(b: u8) -> Stepped
         Start::Single => Stepped {
             out: [0xef, 0xbf, 0xbd, b, 0, 0],
             len: 4,
-            next: nothing(),
+            next: Carry::default(),
         },
         Start::Ill => Stepped {
             out: [0xef, 0xbf, 0xbd, 0xef, 0xbf, 0xbd],
             len: 6,
-            next: nothing(),
+            next: Carry::default(),
         },
         Start::More(more, low, high) => Stepped {
             out: [0xef, 0xbf, 0xbd, 0, 0, 0],
@@ -186,7 +179,7 @@ fn go_on(st: Carry, b: u8) -> Stepped
             return Stepped {
                 out: [st.first, b, 0, 0, 0, 0],
                 len: 2,
-                next: nothing(),
+                next: Carry::default(),
             };
         }
         return carry_on(2, st.first, b, 0, st.more - 1);
@@ -196,7 +189,7 @@ fn go_on(st: Carry, b: u8) -> Stepped
             return Stepped {
                 out: [st.first, st.second, b, 0, 0, 0],
                 len: 3,
-                next: nothing(),
+                next: Carry::default(),
             };
         }
         return carry_on(3, st.first, st.second, b, st.more - 1);
@@ -204,7 +197,7 @@ fn go_on(st: Carry, b: u8) -> Stepped
     Stepped {
         out: [st.first, st.second, st.third, b, 0, 0],
         len: 4,
-        next: nothing(),
+        next: Carry::default(),
     }
 }
 
@@ -244,10 +237,8 @@ fn store(pool: &mut [u8], pos: usize, room: usize, bytes: [u8; 6], n: usize) -> 
     if room < pos + n {
         return room + 1;
     }
-    let mut i = 0;
-    while i < n {
+    for i in 0..n {
         pool[pos + i] = bytes[i];
-        i += 1;
     }
     pos + n
 }
@@ -265,37 +256,39 @@ fn close(pool: &mut [u8], pos: usize, room: usize, st: Carry) -> usize
 
 // The name at `at` of the message, stored at `place` of the pool, of which `room` bytes may be used. A name that does not
 // fit is still followed to its NUL.
-pub fn read_name(msg: &[u8], at: usize, pool: &mut [u8], place: usize, room: usize) -> Name
+pub fn read_name(
+    msg: &[u8],
+    at: usize,
+    pool: &mut [u8],
+    place: usize,
+    room: usize,
+) -> Result<Name, NameError>
     requires { ((room ≤ length pool.old) × (room ≤ 65536)) × (place ≤ room) }
     ensures { Reads msg.now at pool.old pool.new place room result }
 {
-    let mut i = at;
     let mut pos = place;
-    let mut st = nothing();
-    while i < msg.len() {
+    let mut st = Carry::default();
+    for i in at..msg.len() {
         let b = msg[i];
         if b == 0 {
             let end = close(pool, pos, room, st);
             if room < end {
-                return Name::Full;
+                return Err(NameError::Full);
             }
-            let n = i - at;
-            let m = end - place;
-            return Name::Whole(n, m);
+            return Ok(Name {
+                length: i - at,
+                stored: end - place,
+            });
         }
         if b < 0x80 && st.count == 0 {
             pos = store_one(pool, pos, room, b);
-            i += 1;
             continue;
         }
         let stepped = next_step(st, b);
-        let out = stepped.out;
-        let len = stepped.len;
         st = stepped.next;
-        pos = store(pool, pos, room, out, len);
-        i += 1;
+        pos = store(pool, pos, room, stepped.out, stepped.len);
     }
-    Name::Missing
+    Err(NameError::Missing)
 }
 
 // Where the ASCII bytes but NUL that begin at `from` end: at the first other byte, or at `to`. They do not decide whether the name is valid.
@@ -304,8 +297,7 @@ fn plain_end(pool: &[u8], from: usize, to: usize) -> usize
     ensures inside { result ≤ to }
     ensures rest { (no_nul (take (to - from) (drop from pool.now)) && well_formed (take (to - from) (drop from pool.now))) ≡ (no_nul (take (to - result) (drop result pool.now)) && well_formed (take (to - result) (drop result pool.now))) }
 {
-    let mut i = from;
-    while i < to {
+    for i in from..to {
         let byte = pool[i];
         if byte == 0 {
             return i;
@@ -313,9 +305,8 @@ fn plain_end(pool: &[u8], from: usize, to: usize) -> usize
         if byte >= 0x80 {
             return i;
         }
-        i += 1;
     }
-    i
+    to
 }
 
 // Whether the bytes from `from` up to `to` are valid UTF-8 without NUL.
@@ -323,34 +314,26 @@ pub fn valid_name(pool: &[u8], from: usize, to: usize) -> bool
     requires { (from ≤ to) × (to ≤ length pool.now) }
     ensures { result ≡ (no_nul (take (to - from) (drop from pool.now)) && well_formed (take (to - from) (drop from pool.now))) }
 {
-    let mut i = plain_end(pool, from, to);
     let mut more: u8 = 0;
     let mut low: u8 = 0;
     let mut high: u8 = 0;
-    while i < to {
+    for i in plain_end(pool, from, to)..to {
         let byte = pool[i];
         if byte == 0 {
             return false;
         }
         if more == 0 {
             if byte < 0x80 {
-                i += 1;
                 continue;
             }
             let start = start_of(byte);
             match start {
-                Start::Single => {
-                    i += 1;
-                    continue;
-                }
-                Start::Ill => {
-                    return false;
-                }
+                Start::Single => continue,
+                Start::Ill => return false,
                 Start::More(n, first, last) => {
                     more = n;
                     low = first;
                     high = last;
-                    i += 1;
                     continue;
                 }
             }
@@ -364,7 +347,6 @@ pub fn valid_name(pool: &[u8], from: usize, to: usize) -> bool
         more -= 1;
         low = 0x80;
         high = 0xbf;
-        i += 1;
     }
     more == 0
 }

@@ -13,10 +13,8 @@ pub fn read_uint(data: &[u8], offset: usize, width: usize) -> u32
     ensures { result ≡ number_from (take width (drop offset «data».now)) }
 {
     let mut value: u32 = 0;
-    let mut i = 0;
-    while i < width {
-        i += 1;
-        value = 256 * value + wide32(data[offset + (width - i)]);
+    for i in (0..width).rev() {
+        value = 256 * value + u32::from(data[offset + i]);
     }
     value
 }
@@ -27,11 +25,9 @@ pub fn write_uint(out: &mut [u8], offset: usize, width: usize, value: u32)
     ensures { out.new ≡ sets out.old offset (little_endian width value) }
 {
     let mut rest = value;
-    let mut i = 0;
-    while i < width {
+    for i in 0..width {
         out[offset + i] = (rest % 256) as u8;
-        rest = rest / 256;
-        i += 1;
+        rest /= 256;
     }
 }
 
@@ -49,25 +45,19 @@ pub fn high4(b: u8) -> u8
     b >> 4
 }
 
-// Bit 0 of a byte.
-pub fn bit0(b: u8) -> u32
-    ensures { (result ≡ bit_at 0 b) × (result < 2) }
+// Bit k of a byte.
+pub fn bit(b: u8, k: u32) -> u32
+    requires { k < 8 }
+    ensures { (result ≡ bit_at k b) × (result < 2) }
 {
-    wide32(b & 1)
-}
-
-// Bit 3 of a byte.
-pub fn bit3(b: u8) -> u32
-    ensures { (result ≡ bit_at 3 b) × (result < 2) }
-{
-    wide32((b >> 3) & 1)
+    u32::from((b >> k) & 1)
 }
 
 // The byte order of class 1: VAX is 2.
 pub fn float_order(f0: u8) -> u32
     ensures { (result ≡ float_order_of f0) × (result < 3) }
 {
-    if ((f0 >> 6) & 1) == 1 { 2 } else { bit0(f0) }
+    if bit(f0, 6) == 1 { 2 } else { bit(f0, 0) }
 }
 
 // The first byte of a header.
@@ -170,11 +160,7 @@ pub fn put_row(table: &mut [u32], row: usize, words: [u32; 16])
     ensures { table.new ≡ sets table.old (row * 16) words }
 {
     let at = row * 16;
-    let mut i = 0;
-    while i < 16 {
-        table[at + i] = words[i];
-        i += 1;
-    }
+    table[at..at + 16].copy_from_slice(&words);
 }
 
 // Copies n bytes of `from`, from `start` on, into `to` at `place`.
@@ -182,54 +168,5 @@ pub fn copy_bytes(from: &[u8], start: usize, n: usize, to: &mut [u8], place: usi
     requires { (start + n ≤ length from.now) × (place + n ≤ length to.old) }
     ensures { to.new ≡ sets to.old place (take n (drop start from.now)) }
 {
-    let mut i = 0;
-    while i < n {
-        to[place + i] = from[start + i];
-        i += 1;
-    }
-}
-
-// Sets every word from `from` on to 0.
-pub fn zero_words(table: &mut [u32], from: usize)
-    requires { from ≤ length table.old }
-    ensures { table.new ≡ take from table.old ++ zeros (length table.old - from) }
-{
-    let mut i = from;
-    while i < table.len() {
-        table[i] = 0;
-        i += 1;
-    }
-}
-
-// Sets every byte from `from` on to 0.
-pub fn zero_bytes(pool: &mut [u8], from: usize)
-    requires { from ≤ length pool.old }
-    ensures { pool.new ≡ take from pool.old ++ zeros (length pool.old - from) }
-{
-    let mut i = from;
-    while i < pool.len() {
-        pool[i] = 0;
-        i += 1;
-    }
-}
-
-// The lesser of two.
-pub fn least(a: usize, b: usize) -> usize
-    ensures { result ≡ min a b }
-{
-    if a < b { a } else { b }
-}
-
-// A byte as a word.
-pub fn wide32(x: u8) -> u32
-    ensures { (result ≡ x) × (result < 256) }
-{
-    x as u32
-}
-
-// A byte as a size.
-pub fn wide(x: u8) -> usize
-    ensures { (result ≡ x) × (result < 256) }
-{
-    x as usize
+    to[place..place + n].copy_from_slice(&from[start..start + n]);
 }

@@ -8,27 +8,35 @@ ghost use Rattle.reading.specs.Members.{CompoundEnds};
 ghost use Rattle.reading.specs.Reads.{Reads};
 
 use format::Header;
-use primitives::{least, put_row, zero_bytes, zero_words};
-use reader_before::open_type;
+use primitives::put_row;
+use reader_before::{open_headed, open_header};
 use reader_behind::{end_based, enter_member, member_count};
 use reader_leaf::read_leaf;
-use reading::{Limits, Opened, Reading, State, Step};
+use reading::{Limits, Opened, State};
 use refusal::Refusal;
 
 // A compound's own row, once its members are read.
-fn end_compound(table: &mut [u32], used: usize, header: Header, count: u32, inner: State) -> Step
+// Inlined, as is `end_based`: where a call writes the answer, `read_type` passes each answer through memory, a third slower on compounds.
+#[inline(always)]
+fn end_compound(
+    table: &mut [u32],
+    used: usize,
+    header: Header,
+    count: u32,
+    inner: State,
+) -> Result<State, Refusal>
     requires { used * 16 + 16 ≤ length table.old }
     ensures { CompoundEnds used header count inner result table.old table.new }
 {
     if header.size == 0 {
-        return Step::Refused(Refusal::ZeroSize(header.class));
+        return Err(Refusal::ZeroSize(header.class));
     }
     put_row(
         table,
         used,
         [7, header.size, 0, 0, count, 0, 0, 0, 0, 0, 0, 0, 0, 0, 0, 0],
     );
-    Step::Done(State {
+    Ok(State {
         at: inner.at,
         rows: inner.rows,
         pooled: inner.pooled,
@@ -49,7 +57,7 @@ fn read_members(
     header: Header,
     version: u8,
     count: usize,
-) -> Step
+) -> Result<State, Refusal>
     requires { (Ready limits used pooled table.old pool.old × (8 ≤ length «data».now)) × (count < 65536) }
     ensures { AfterMembers count (run (read_members_of (read_type_of limits.version levels) version header.size count) «data».now limits 8 used pooled)
         «data».now limits used pooled result table.old table.new pool.old pool.new }
@@ -57,9 +65,8 @@ fn read_members(
     let mut at = 8;
     let mut rows = used;
     let mut place = pooled;
-    let mut i = 0;
-    while i < count {
-        let entered = enter_member(
+    for _i in 0..count {
+        let next = enter_member(
             data,
             table,
             pool,
@@ -69,25 +76,15 @@ fn read_members(
             place,
             version,
             header.size,
-        );
-        match entered {
-            Step::Refused(e) => return Step::Refused(e),
-            Step::Done(s) => {
-                let from = s.at;
-                let got = read_type(&data[from..], table, pool, limits, s.rows, s.pooled, levels);
-                match got {
-                    Step::Refused(e) => return Step::Refused(e),
-                    Step::Done(q) => {
-                        at = from + q.at;
-                        rows = q.rows;
-                        place = q.pooled;
-                    }
-                }
-            }
-        }
-        i += 1;
+        )?;
+        let from = next.at;
+        let part = &data[from..];
+        let inner = read_type(part, table, pool, limits, next.rows, next.pooled, levels)?;
+        at = from + inner.at;
+        rows = inner.rows;
+        place = inner.pooled;
     }
-    Step::Done(State {
+    Ok(State {
         at: at,
         rows: rows,
         pooled: place,
@@ -105,21 +102,21 @@ fn read_type(
     used: usize,
     pooled: usize,
     levels: usize,
-) -> Step
+) -> Result<State, Refusal>
     requires { Ready limits used pooled table.old pool.old }
     ensures { AfterType (run (read_type_of limits.version levels) «data».now limits 0 used pooled)
         «data».now limits used pooled result table.old table.new pool.old pool.new }
 {
     if levels == 0 {
-        return Step::Refused(Refusal::TooDeep);
+        return Err(Refusal::TooDeep);
     }
-    let opened = open_type(data, limits, used, pooled);
+    let header = open_header(data, limits, used)?;
+    let opened = open_headed(data, limits, used, pooled, header)?;
     match opened {
-        Opened::Refused(e) => Step::Refused(e),
-        Opened::Leaf(header) => read_leaf(data, table, pool, limits, used, pooled, header),
-        Opened::Compound(header, version) => {
+        Opened::Leaf => read_leaf(data, table, pool, limits, used, pooled, header),
+        Opened::Compound(version) => {
             let count = member_count(header);
-            let got = read_members(
+            let members = read_members(
                 data,
                 table,
                 pool,
@@ -130,29 +127,13 @@ fn read_type(
                 header,
                 version,
                 count as usize,
-            );
-            match got {
-                Step::Refused(first) => Step::Refused(first),
-                Step::Done(s) => end_compound(table, used, header, count, s),
-            }
+            )?;
+            end_compound(table, used, header, count, members)
         }
-        Opened::Based(header, base) => {
-            let from = base.from;
-            let got = read_type(
-                &data[from..],
-                table,
-                pool,
-                limits,
-                used + 1,
-                base.place,
-                levels - 1,
-            );
-            match got {
-                Step::Refused(e) => Step::Refused(e),
-                Step::Done(inner) => {
-                    end_based(data, table, pool, limits, used, pooled, header, base, inner)
-                }
-            }
+        Opened::Based(base) => {
+            let part = &data[base.from..];
+            let inner = read_type(part, table, pool, limits, used + 1, base.place, levels - 1)?;
+            end_based(data, table, pool, limits, used, pooled, header, base, inner)
         }
     }
 }
@@ -160,11 +141,11 @@ fn read_type(
 // Reads a message under a version limit into the rows of `table` and the bytes of `pool`; what is not used is zero, and all of both
 // where the message is refused. Refused, by the first met in message order: TooDeep, TooMany, Short, TooNew, BadClass, BadVersion, BadPadding,
 // BadCharset, BadReferenceKind, PoolFull, ZeroSize. Cost: one pass over the message and one over what is lent.
-pub fn read(data: &[u8], limit: u32, table: &mut [u32], pool: &mut [u8]) -> Reading
+pub fn read(data: &[u8], limit: u32, table: &mut [u32], pool: &mut [u8]) -> Result<usize, Refusal>
     ensures { Reads limit «data».now table.old pool.old result table.new pool.new }
 {
-    let rows = least(table.len() / 16, 4096);
-    let room = least(pool.len(), 65536);
+    let rows = (table.len() / 16).min(4096);
+    let room = pool.len().min(65536);
     let got = read_type(
         data,
         table,
@@ -179,15 +160,15 @@ pub fn read(data: &[u8], limit: u32, table: &mut [u32], pool: &mut [u8]) -> Read
         32,
     );
     match got {
-        Step::Done(s) => {
-            zero_words(table, s.rows * 16);
-            zero_bytes(pool, s.pooled);
-            Reading::Read(s.at)
+        Ok(s) => {
+            table[s.rows * 16..].fill(0);
+            pool[s.pooled..].fill(0);
+            Ok(s.at)
         }
-        Step::Refused(e) => {
-            zero_words(table, 0);
-            zero_bytes(pool, 0);
-            Reading::Refused(e)
+        Err(e) => {
+            table.fill(0);
+            pool.fill(0);
+            Err(e)
         }
     }
 }

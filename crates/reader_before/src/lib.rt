@@ -7,25 +7,25 @@ ghost use Rattle.format.specs.Table.{isVariableLength, isArray};
 ghost use Rattle.reading.specs.Contract.{Heads, Begun, Opens};
 
 use format::Header;
-use primitives::{high4, low4, permutation_bytes, read_uint, reserved_bytes, wide};
-use reading::{Base, Headed, Limits, Opened};
+use primitives::{high4, low4, permutation_bytes, read_uint, reserved_bytes};
+use reading::{Base, Limits, Opened};
 use refusal::Refusal;
 
 // The header, once a row is free for the type: TooMany, Short 8, TooNew.
-fn open_header(data: &[u8], limits: Limits, used: usize) -> Headed
+pub fn open_header(data: &[u8], limits: Limits, used: usize) -> Result<Header, Refusal>
     ensures { Heads «data».now limits used result }
 {
     if limits.rows <= used {
-        return Headed::Refused(Refusal::TooMany);
+        return Err(Refusal::TooMany);
     }
     if data.len() < 8 {
-        return Headed::Refused(Refusal::Short(8, data.len()));
+        return Err(Refusal::Short(8, data.len()));
     }
     let version = high4(data[0]);
     if limits.version < version as u32 {
-        return Headed::Refused(Refusal::TooNew(version));
+        return Err(Refusal::TooNew(version));
     }
-    Headed::Head(Header {
+    Ok(Header {
         class: low4(data[0]),
         version: version,
         f0: data[1],
@@ -35,9 +35,15 @@ fn open_header(data: &[u8], limits: Limits, used: usize) -> Headed
 }
 
 // Class 9: the codes of a string.
-fn open_variable(data: &[u8], limits: Limits, used: usize, pooled: usize, header: Header) -> Opened
+fn open_variable(
+    data: &[u8],
+    limits: Limits,
+    used: usize,
+    pooled: usize,
+    header: Header,
+) -> Result<Opened, Refusal>
     requires { (Begun «data».now limits used header × (pooled ≤ limits.pool)) × (class_kind header.class ≡ isVariableLength) }
-    ensures { Opens «data».now limits used pooled result }
+    ensures { Opens «data».now limits used pooled header result }
 {
     let kind = low4(header.f0);
     match kind {
@@ -46,98 +52,95 @@ fn open_variable(data: &[u8], limits: Limits, used: usize, pooled: usize, header
             match padding {
                 0..=2 => {}
                 _ => {
-                    return Opened::Refused(Refusal::BadPadding(padding));
+                    return Err(Refusal::BadPadding(padding));
                 }
             }
             let charset = low4(header.f1);
             match charset {
                 0..=1 => {}
                 _ => {
-                    return Opened::Refused(Refusal::BadCharset(charset));
+                    return Err(Refusal::BadCharset(charset));
                 }
             }
         }
         _ => {}
     }
-    Opened::Based(
-        header,
-        Base {
-            from: 8,
-            place: pooled,
-            start: 8,
-            rank: 0,
-        },
-    )
+    Ok(Opened::Based(Base {
+        from: 8,
+        place: pooled,
+        start: 8,
+        rank: 0,
+    }))
 }
 
 // Class 10: the dimensions, with the permutation of version 2.
-fn open_array(data: &[u8], limits: Limits, used: usize, pooled: usize, header: Header) -> Opened
+fn open_array(
+    data: &[u8],
+    limits: Limits,
+    used: usize,
+    pooled: usize,
+    header: Header,
+) -> Result<Opened, Refusal>
     requires { (Begun «data».now limits used header × ((pooled ≤ limits.pool) × (limits.pool ≤ 65536))) × (class_kind header.class ≡ isArray) }
-    ensures { Opens «data».now limits used pooled result }
+    ensures { Opens «data».now limits used pooled header result }
 {
     let version = header.version;
     match version {
         2..=3 => {
             let start = 9 + reserved_bytes(version);
             if data.len() < start {
-                return Opened::Refused(Refusal::Short(start, data.len()));
+                return Err(Refusal::Short(start, data.len()));
             }
-            let rank = wide(data[8]);
+            let rank = usize::from(data[8]);
             let from = start + 4 * rank + permutation_bytes(version, rank);
             if data.len() < from {
-                return Opened::Refused(Refusal::Short(from, data.len()));
+                return Err(Refusal::Short(from, data.len()));
             }
             if limits.pool - pooled < 4 * rank {
-                return Opened::Refused(Refusal::PoolFull);
+                return Err(Refusal::PoolFull);
             }
-            Opened::Based(
-                header,
-                Base {
-                    from: from,
-                    place: pooled + 4 * rank,
-                    start: start,
-                    rank: rank,
-                },
-            )
+            Ok(Opened::Based(Base {
+                from: from,
+                place: pooled + 4 * rank,
+                start: start,
+                rank: rank,
+            }))
         }
-        _ => Opened::Refused(Refusal::BadVersion(header.class, version)),
+        _ => Err(Refusal::BadVersion(header.class, version)),
     }
 }
 
-// What a message begins, up to its properties or its first nested message.
-pub fn open_type(data: &[u8], limits: Limits, used: usize, pooled: usize) -> Opened
-    requires { (pooled ≤ limits.pool) × (limits.pool ≤ 65536) }
-    ensures { Opens «data».now limits used pooled result }
+// What a header begins, up to its properties or its first nested message.
+pub fn open_headed(
+    data: &[u8],
+    limits: Limits,
+    used: usize,
+    pooled: usize,
+    header: Header,
+) -> Result<Opened, Refusal>
+    requires { Begun «data».now limits used header × ((pooled ≤ limits.pool) × (limits.pool ≤ 65536)) }
+    ensures { Opens «data».now limits used pooled header result }
 {
-    let headed = open_header(data, limits, used);
-    match headed {
-        Headed::Refused(e) => Opened::Refused(e),
-        Headed::Head(header) => {
-            let class = header.class;
-            match class {
-                0..=5 => Opened::Leaf(header),
-                6 => {
-                    let version = header.version;
-                    match version {
-                        1..=4 => Opened::Compound(header, version),
-                        _ => Opened::Refused(Refusal::BadVersion(6, version)),
-                    }
-                }
-                7 => Opened::Leaf(header),
-                8 => Opened::Based(
-                    header,
-                    Base {
-                        from: 8,
-                        place: pooled,
-                        start: 8,
-                        rank: 0,
-                    },
-                ),
-                9 => open_variable(data, limits, used, pooled, header),
-                10 => open_array(data, limits, used, pooled, header),
-                11 => Opened::Compound(header, 3),
-                _ => Opened::Refused(Refusal::BadClass(class)),
+    let class = header.class;
+    match class {
+        0..=5 => Ok(Opened::Leaf),
+        6 => {
+            let version = header.version;
+            match version {
+                1..=4 => Ok(Opened::Compound(version)),
+                _ => Err(Refusal::BadVersion(6, version)),
             }
         }
+        7 => Ok(Opened::Leaf),
+        8 => Ok(Opened::Based(Base {
+            from: 8,
+            place: pooled,
+            start: 8,
+            rank: 0,
+        })),
+        9 => open_variable(data, limits, used, pooled, header),
+        10 => open_array(data, limits, used, pooled, header),
+        11 => Ok(Opened::Compound(3)),
+        _ => Err(Refusal::BadClass(class)),
     }
 }

@@ -1,4 +1,5 @@
 -- The ways out of the functions that end a type over a base.
+use Rattle.std.specs.Prelude.{Err, Ok, Result}
 use mathlib.Core.Path.{◌≡◌, refl, sym, ap, ◌∙◌}
 use mathlib.Core.Bool.{true, false}
 use mathlib.Core.List.{List, [], ◌∷◌, ◌++◌, append-nil}
@@ -23,8 +24,6 @@ use Rattle.format.proofs.Bytes.{length_dimensions, length-dimensions_from, dimen
 use Rattle.reading.specs.declared.Limits.{Limits}
 use Rattle.reading.specs.declared.State.{State}
 use Rattle.reading.specs.declared.Base.{Base}
-use Rattle.reading.specs.declared.Step.{Step}
-use Rattle.reading.specs.declared.Step.TheVariants.{Done as StepDone, Refused as StepRefused}
 use Rattle.reading.specs.Contract.{run, here, Ready, AfterEnum, read_enum_members_of, behind, variable_of, dimensions_of_lem, BasedKind, OpensBased, BaseRead, Ended, Ends}
 use Rattle.reading.proofs.Steps.{sized_no, sized-go, sized-zero}
 use Rattle.reading.proofs.Contracts.{by_done, not_done, by_refused, not-refused, part-near}
@@ -35,7 +34,7 @@ module _ {d : List ℕ} {lim : Limits} {used pooled : ℕ} {h : Header} {ds : Li
   ends : {s : State}
       → ((base : Datatype) → type_size_of base ≡ size → rows₀ ≡ used + 1 + row_count base → pooled₀ ≡ pooled + 4 * length ds + length (pool_bytes base)
       → Ended d lim used pooled h ds base at rows₀ pooled₀ s t t' p p')
-      → Ends d lim used pooled h ds at rows₀ pooled₀ size (StepDone s) t t' p p'
+      → Ends d lim used pooled h ds at rows₀ pooled₀ size (Ok s) t t' p p'
   ends w =
       record {
         done = by_done
@@ -47,7 +46,7 @@ module _ {d : List ℕ} {lim : Limits} {used pooled : ℕ} {h : Header} {ds : Li
       }
 
   stops : {e : Refusal} → ((base : Datatype) → type_size_of base ≡ size → run (sized h (behind h ds (class_kind h.class) base)) d lim at rows₀ pooled₀ ≡ refused e)
-      → Ends d lim used pooled h ds at rows₀ pooled₀ size (StepRefused e) t t' p p'
+      → Ends d lim used pooled h ds at rows₀ pooled₀ size (Err e) t t' p p'
   stops w =
       record {
         done = not_done
@@ -77,7 +76,7 @@ module _ (d : List ℕ) (lim : Limits) (used pooled : ℕ) (h : Header) (b : Bas
   variable_ends : (i a c : ℕ) → ((base : Datatype) → variable_of h (eqb (low_bits 4 h.f0) 1) base ≡ variable_length i a c base)
       → t' ≡ sets t (used * 16) (10 ∷ 0 ∷ 0 ∷ 0 ∷ 0 ∷ i ∷ a ∷ c ∷ 0 ∷ 0 ∷ 0 ∷ 0 ∷ 0 ∷ 0 ∷ 0 ∷ 0 ∷ [])
       → Ends d lim used pooled h (dimensions_of_lem d b) inner.at inner.rows inner.pooled inner.size
-      (StepDone (record { at = inner.at; rows = inner.rows; pooled = inner.pooled; size = 16 })) t t' p p
+      (Ok (record { at = inner.at; rows = inner.rows; pooled = inner.pooled; size = 16 })) t t' p p
   unfolding behind type_size_of row_count pool_bytes rows row enumeration_row variable_length_row array_row
   variable_ends i a c of et =
       ends
@@ -111,7 +110,7 @@ module _ (d : List ℕ) (lim : Limits) (used pooled : ℕ) (h : Header) (b : Bas
   pub string-ends : {k x y u v : ℕ} → k ≡ low_bits 4 h.f0 → k ≡ 1 → x ≡ high_bits 4 h.f0 → u ≡ x → y ≡ low_bits 4 h.f1 → v ≡ y
       → t' ≡ sets t (used * 16) (10 ∷ 0 ∷ 0 ∷ 0 ∷ 0 ∷ 1 ∷ (u + 1) ∷ (v + 1) ∷ 0 ∷ 0 ∷ 0 ∷ 0 ∷ 0 ∷ 0 ∷ 0 ∷ 0 ∷ [])
       → Ends d lim used pooled h (dimensions_of_lem d b) inner.at inner.rows inner.pooled inner.size
-      (StepDone (record { at = inner.at; rows = inner.rows; pooled = inner.pooled; size = 16 })) t t' p p
+      (Ok (record { at = inner.at; rows = inner.rows; pooled = inner.pooled; size = 16 })) t t' p p
   unfolding variable_of
   string-ends {k} {x} {y} {u} {v} ek e1 ex eu ey ev et =
       let one : eqb (low_bits 4 h.f0) 1 ≡ true = eq-eqb (low_bits 4 h.f0) 1 (omega arith) in
@@ -122,7 +121,7 @@ module _ (d : List ℕ) (lim : Limits) (used pooled : ℕ) (h : Header) (b : Bas
   -- all else is a sequence
   pub sequence_ends : {k : ℕ} → k ≡ low_bits 4 h.f0 → (k ≡ 1 → ⊥) → t' ≡ sets t (used * 16) (10 ∷ 0 ∷ 0 ∷ 0 ∷ 0 ∷ 0 ∷ 0 ∷ 0 ∷ 0 ∷ 0 ∷ 0 ∷ 0 ∷ 0 ∷ 0 ∷ 0 ∷ 0 ∷ [])
       → Ends d lim used pooled h (dimensions_of_lem d b) inner.at inner.rows inner.pooled inner.size
-      (StepDone (record { at = inner.at; rows = inner.rows; pooled = inner.pooled; size = 16 })) t t' p p
+      (Ok (record { at = inner.at; rows = inner.rows; pooled = inner.pooled; size = 16 })) t t' p p
   unfolding variable_of
   sequence_ends {k} ek e1 et =
       let no : eqb (low_bits 4 h.f0) 1 ≡ false = ne_eqb (low_bits 4 h.f0) 1 (λ e. e1 (ek ∙ e)) in
@@ -142,7 +141,7 @@ module _ (d : List ℕ) (lim : Limits) (used pooled : ℕ) (h : Header) (b : Bas
   array-given base = rw kind
 
   pub array_empty : {t' p' : List ℕ} → z ≡ 0
-      → Ends d lim used pooled h (dimensions_of_lem d b) inner.at inner.rows inner.pooled inner.size (StepRefused (ZeroSize h.class)) t t' p p'
+      → Ends d lim used pooled h (dimensions_of_lem d b) inner.at inner.rows inner.pooled inner.size (Err (ZeroSize h.class)) t t' p p'
   array_empty e =
       stops
       λ base en.
@@ -153,7 +152,7 @@ module _ (d : List ℕ) (lim : Limits) (used pooled : ℕ) (h : Header) (b : Bas
       → t' ≡ sets t (used * 16) (11 ∷ 0 ∷ pooled ∷ b.rank ∷ 0 ∷ 0 ∷ 0 ∷ 0 ∷ 0 ∷ 0 ∷ 0 ∷ 0 ∷ 0 ∷ 0 ∷ 0 ∷ 0 ∷ [])
       → p' ≡ sets p pooled (take (4 * b.rank) (drop b.start d))
       → Ends d lim used pooled h (dimensions_of_lem d b) inner.at inner.rows inner.pooled inner.size
-      (StepDone (record { at = inner.at; rows = inner.rows; pooled = inner.pooled; size = z })) t t' p p'
+      (Ok (record { at = inner.at; rows = inner.rows; pooled = inner.pooled; size = z })) t t' p p'
   unfolding row_count pool_bytes rows row enumeration_row variable_length_row array_row
   array-ends ready near long small some et ep =
       let ds = dimensions_of_lem d b in
@@ -188,7 +187,7 @@ module _ (d : List ℕ) (lim : Limits) (used pooled : ℕ) (h : Header) (b : Bas
 
 -- ---- class 8
 
-module _ (d : List ℕ) (lim : Limits) (used pooled : ℕ) (h : Header) (b : Base) (inner : State) (count : ℕ) (r : Step) (t t₁ p p₁ : List ℕ)
+module _ (d : List ℕ) (lim : Limits) (used pooled : ℕ) (h : Header) (b : Base) (inner : State) (count : ℕ) (r : Result State Refusal) (t t₁ p p₁ : List ℕ)
     (kind : class_kind h.class ≡ isEnumeration) (counted : count ≡ count_of h)
     (members : AfterEnum count (run (read_enum_members_of h.version count inner.size) d lim inner.at inner.rows inner.pooled) d lim inner.rows inner.pooled r t t₁ p p₁) where
   members-are : (base : Datatype) → type_size_of base ≡ inner.size → run (behind h (dimensions_of_lem d b) (class_kind h.class) base) d lim inner.at inner.rows inner.pooled
@@ -196,8 +195,8 @@ module _ (d : List ℕ) (lim : Limits) (used pooled : ℕ) (h : Header) (b : Bas
   unfolding behind
   members-are base e = rw (kind, e, ← counted)
 
-  pub enum_stops : {e : Refusal} → r ≡ StepRefused e
-      → Ends d lim used pooled h (dimensions_of_lem d b) inner.at inner.rows inner.pooled inner.size (StepRefused e) t t₁ p p₁
+  pub enum_stops : {e : Refusal} → r ≡ Err e
+      → Ends d lim used pooled h (dimensions_of_lem d b) inner.at inner.rows inner.pooled inner.size (Err e) t t₁ p p₁
   unfolding then
   enum_stops {e} er =
       stops
@@ -205,14 +204,14 @@ module _ (d : List ℕ) (lim : Limits) (used pooled : ℕ) (h : Header) (b : Bas
       sized_no h (behind h (dimensions_of_lem d b) (class_kind h.class) base) (length d) inner.at (drop inner.at d) (lim.rows - inner.rows) (lim.pool - inner.pooled) e
       (members-are base en ∙ rw (members.denied e er))
 
-  module _ (s : State) (done : r ≡ StepDone s) where
+  module _ (s : State) (done : r ≡ Ok s) where
     enum_given : (base : Datatype) → type_size_of base ≡ inner.size → run (behind h (dimensions_of_lem d b) (class_kind h.class) base) d lim inner.at inner.rows inner.pooled
         ≡ here (enumeration h.size base (members.done s done).tree) d lim s
     unfolding then
     enum_given base en = members-are base en ∙ rw (members.done s done).is
 
     pub enum_empty : h.size ≡ 0
-        → Ends d lim used pooled h (dimensions_of_lem d b) inner.at inner.rows inner.pooled inner.size (StepRefused (ZeroSize h.class)) t t₁ p p₁
+        → Ends d lim used pooled h (dimensions_of_lem d b) inner.at inner.rows inner.pooled inner.size (Err (ZeroSize h.class)) t t₁ p p₁
     unfolding type_size_of
     enum_empty z =
         stops
@@ -223,7 +222,7 @@ module _ (d : List ℕ) (lim : Limits) (used pooled : ℕ) (h : Header) (b : Bas
     pub enum_ends : {t' : List ℕ} → b.rank ≡ 0 → (h.size ≡ 0 → ⊥)
         → t' ≡ sets t₁ (used * 16) (9 ∷ h.size ∷ 0 ∷ 0 ∷ count ∷ 0 ∷ 0 ∷ 0 ∷ 0 ∷ 0 ∷ 0 ∷ 0 ∷ 0 ∷ 0 ∷ 0 ∷ 0 ∷ [])
         → Ends d lim used pooled h (dimensions_of_lem d b) inner.at inner.rows inner.pooled inner.size
-        (StepDone (record { at = s.at; rows = s.rows; pooled = s.pooled; size = h.size })) t t' p p₁
+        (Ok (record { at = s.at; rows = s.rows; pooled = s.pooled; size = h.size })) t t' p p₁
     unfolding type_size_of row_count pool_bytes rows row enumeration_row variable_length_row array_row
     enum_ends rank some et =
         let l = members.done s done in

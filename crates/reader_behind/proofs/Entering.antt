@@ -1,4 +1,5 @@
 -- A compound's member up to its type: the ways out of `enter_member`.
+use Rattle.std.specs.Prelude.{Err, Ok}
 use mathlib.Core.Path.{◌≡◌, refl, ap, ◌∙◌}
 use mathlib.Core.List.{List, [], ◌∷◌}
 use Prim.Native.Nat.{ℕ, suc, ◌+◌, ◌-◌, ◌*◌, ◌<◌, ◌≤◌}
@@ -6,22 +7,21 @@ use native.Mathlib.Omega.{arith}
 use lib.ListN.{length, take, drop}
 use lib.Seq.{sets, length-sets}
 use Rattle.refusal.specs.declared.Refusal.{Refusal}
-use Rattle.refusal.specs.declared.Refusal.TheVariants.{TooMany, Short, PoolFull}
+use Rattle.refusal.specs.declared.Refusal.TheVariants.{Short}
 use Rattle.format.specs.Bytes.{number_from}
 use Rattle.format.specs.Datatype.{Datatype, member}
 use Rattle.format.specs.Message.{name_padding_of, offset_width, skipped_bytes_of}
 use Rattle.format.specs.Reading.{Reader, got, refused, then, inner, read_name_of, read_members_of}
 use Rattle.format.specs.Table.{row, member_row}
 use Rattle.format.specs.Utf8.{mended}
-use Rattle.names.specs.Names.{Reads, WholeName}
+use Rattle.names.specs.Names.{WholeName}
 use Rattle.names.specs.declared.Name.{Name}
-use Rattle.names.specs.declared.Name.TheVariants.{Whole, Missing, Full}
 use Rattle.reading.specs.declared.Limits.{Limits}
-use Rattle.reading.specs.declared.Step.TheVariants.{Done as StepDone, Refused as StepRefused}
 use Rattle.reading.specs.Contract.{run, Ready, Entered, Enters}
 use Rattle.reading.proofs.Contracts.{by_done, not_done, by_refused, not-refused, ready_at}
 use Rattle.reading.proofs.Steps.{number-go, number_short, bytes-go, bytes-short}
-use Rattle.reader_behind.proofs.Naming.{name_rowless, name-missing, name_over, name-whole}
+use Rattle.reader_behind.specs.Naming.{NameBegins}
+use Rattle.reader_behind.proofs.Naming.{name-whole}
 
 -- ---- the definition: a member begins with its name
 
@@ -68,52 +68,44 @@ module _ (d : List ℕ) (lim : Limits) (ver size at used pooled : ℕ) (rd : Rea
 -- ---- the ways out
 
 module _ {d : List ℕ} {lim : Limits} {ver size at used pooled : ℕ} {t t' p p' : List ℕ} where
-  stops : {e : Refusal} → ((rd : Reader Datatype) (k : ℕ) → run (read_members_of rd ver size (suc k)) d lim at used pooled ≡ refused e) → Enters d lim ver size at used pooled (StepRefused e) t t' p p'
+  stops : {e : Refusal} → ((rd : Reader Datatype) (k : ℕ) → run (read_members_of rd ver size (suc k)) d lim at used pooled ≡ refused e) → Enters d lim ver size at used pooled (Err e) t t' p p'
   stops q =
       record {
         entered = not_done (λ s. Entered d lim ver size at used pooled s t t' p p');
         stopped = by_refused (λ e. (rd : Reader Datatype) (k : ℕ) → run (read_members_of rd ver size (suc k)) d lim at used pooled ≡ refused e) q;
       }
 
-  nameless : {e : Refusal} → run (read_name_of ver) d lim at used pooled ≡ refused e → Enters d lim ver size at used pooled (StepRefused e) t t' p p'
-  nameless {e} q = stops (λ rd k. member_no d lim ver size at used pooled rd k e q)
+  pub enter_stops : {e : Refusal} → NameBegins d lim at used pooled (Err e) p p' → Enters d lim ver size at used pooled (Err e) t t' p p'
+  enter_stops {e} w = stops (λ rd k. member_no d lim ver size at used pooled rd k e (w.stopped e refl ver))
 
-  pub enter_full : lim.rows ≤ used → Enters d lim ver size at used pooled (StepRefused TooMany) t t' p p'
-  enter_full h = nameless (name_rowless d lim ver at used pooled h)
+  module _ {x : Name} (w : NameBegins d lim at used pooled (Ok x) p p') where
+    module _ {pad width : ℕ} (pe : (pad ≡ name_padding_of ver (x.length + 1)) × (pad < 8)) (we : (width ≡ offset_width ver size) × ((0 < width) × (width ≤ 4))) where
+      pub enter_narrow : length d < at + (x.length + 1) + pad + width → Enters d lim ver size at used pooled (Err (Short (at + (x.length + 1) + pad + width) (length d))) t t' p p'
+      enter_narrow h = stops (λ rd k. member_narrow d lim ver size at used pooled rd k (w.free x refl) x.length x.stored pad width (w.whole x refl) pe.0 we.0 we.1.0 h)
 
-  module _ {x : Name} (free : used < lim.rows) (w : Reads d at p p' pooled lim.pool x) where
-    pub enter_unnamed : x ≡ Missing → Enters d lim ver size at used pooled (StepRefused (Short (at + 1) (length d))) t t' p p'
-    enter_unnamed q = nameless (name-missing d lim ver at used pooled free (w.missing q))
+      module _ {sk : ℕ} (wide : at + (x.length + 1) + pad + width ≤ length d) (se : (sk ≡ skipped_bytes_of ver) × (sk ≤ 28)) where
+        pub enter_cut : length d < at + (x.length + 1) + pad + width + sk → Enters d lim ver size at used pooled (Err (Short (at + (x.length + 1) + pad + width + sk) (length d))) t t' p p'
+        enter_cut h = stops (λ rd k. member_cut d lim ver size at used pooled rd k (w.free x refl) x.length x.stored pad width (w.whole x refl) pe.0 we.0 wide sk se.0 h)
 
-    pub enter_over : x ≡ Full → Enters d lim ver size at used pooled (StepRefused PoolFull) t t' p p'
-    enter_over q = nameless (name_over d lim ver at used pooled free (w.full q))
-
-    module _ {n m pad width : ℕ} (q : x ≡ Whole n m) (pe : (pad ≡ name_padding_of ver (n + 1)) × (pad < 8)) (we : (width ≡ offset_width ver size) × ((0 < width) × (width ≤ 4))) where
-      pub enter_narrow : length d < at + (n + 1) + pad + width → Enters d lim ver size at used pooled (StepRefused (Short (at + (n + 1) + pad + width) (length d))) t t' p p'
-      enter_narrow h = stops (λ rd k. member_narrow d lim ver size at used pooled rd k free n m pad width (w.whole n m q) pe.0 we.0 we.1.0 h)
-
-      module _ {sk : ℕ} (wide : at + (n + 1) + pad + width ≤ length d) (se : (sk ≡ skipped_bytes_of ver) × (sk ≤ 28)) where
-        pub enter_cut : length d < at + (n + 1) + pad + width + sk → Enters d lim ver size at used pooled (StepRefused (Short (at + (n + 1) + pad + width + sk) (length d))) t t' p p'
-        enter_cut h = stops (λ rd k. member_cut d lim ver size at used pooled rd k free n m pad width (w.whole n m q) pe.0 we.0 wide sk se.0 h)
-
-        pub enter_inner : {o : ℕ} → Ready lim used pooled t p → at + (n + 1) + pad + width + sk ≤ length d → o ≡ number_from (take width (drop (at + (n + 1) + pad) d))
-            → t' ≡ sets t (used * 16) (row 12 ((1, o) ∷ (2, pooled) ∷ (3, m) ∷ (4, 0) ∷ []))
-            → Enters d lim ver size at used pooled (StepDone (record { at = at + (n + 1) + pad + width + sk; rows = used + 1; pooled = pooled + m; size = 0 })) t t' p p'
+        pub enter_inner : {o : ℕ} → Ready lim used pooled t p → at + (x.length + 1) + pad + width + sk ≤ length d → o ≡ number_from (take width (drop (at + (x.length + 1) + pad) d))
+            → t' ≡ sets t (used * 16) (row 12 ((1, o) ∷ (2, pooled) ∷ (3, x.stored) ∷ (4, 0) ∷ []))
+            → Enters d lim ver size at used pooled (Ok (record { at = at + (x.length + 1) + pad + width + sk; rows = used + 1; pooled = pooled + x.stored; size = 0 })) t t' p p'
         unfolding member_row row
         enter_inner {o} ready long oe et =
-            let y = w.whole n m q in
+            let y = w.whole x refl in
+            let free = w.free x refl in
             let l = y.long in
             let f = y.fits in
             record {
               entered = by_done (λ s. Entered d lim ver size at used pooled s t t' p p') (record {
-                name = mended (take n (drop at d));
-                offset = number_from (take width (drop (at + (n + 1) + pad) d));
-                is = λ rd k. member-entered d lim ver size at used pooled rd k free n m pad width y pe.0 we.0 wide sk se.0 long;
+                name = mended (take x.length (drop at d));
+                offset = number_from (take width (drop (at + (x.length + 1) + pad) d));
+                is = λ rd k. member-entered d lim ver size at used pooled rd k (w.free x refl) x.length x.stored pad width y pe.0 we.0 wide sk se.0 long;
                 rows_are = refl;
                 pooled_are = ap (λ (k : ℕ). pooled + k) l;
-                table = et ∙ ap (λ (k : ℕ). sets t (used * 16) (member_row pooled k m)) oe ∙ ap (λ (k : ℕ). sets t (used * 16) (member_row pooled (number_from (take width (drop (at + (n + 1) + pad) d))) k)) l;
+                table = et ∙ ap (λ (k : ℕ). sets t (used * 16) (member_row pooled k x.stored)) oe ∙ ap (λ (k : ℕ). sets t (used * 16) (member_row pooled (number_from (take width (drop (at + (x.length + 1) + pad) d))) k)) l;
                 pool = y.pool;
-                ready = ready_at (used + 1) (pooled + m) ready (omega arith) f (ap length et ∙ length-sets t (used * 16) (row 12 ((1, o) ∷ (2, pooled) ∷ (3, m) ∷ (4, 0) ∷ []))) (ap length y.pool ∙ length-sets p pooled (mended (take n (drop at d))));
+                ready = ready_at (used + 1) (pooled + x.stored) ready (omega arith) f (ap length et ∙ length-sets t (used * 16) (row 12 ((1, o) ∷ (2, pooled) ∷ (3, x.stored) ∷ (4, 0) ∷ []))) (ap length y.pool ∙ length-sets p pooled (mended (take x.length (drop at d))));
                 within = long;
               });
               stopped = not-refused (λ e. (rd : Reader Datatype) (k : ℕ) → run (read_members_of rd ver size (suc k)) d lim at used pooled ≡ refused e);

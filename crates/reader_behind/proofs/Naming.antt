@@ -1,4 +1,5 @@
 -- A name at a place of the message, by what `read_name` found there: the laws of `read_name_of`, and the ways out of `enter_enum_member`.
+use Rattle.std.specs.Prelude.{Err, Ok, Result}
 use mathlib.Core.Path.{◌≡◌, refl, ap, ◌∙◌}
 use mathlib.Core.Option.{none}
 use mathlib.Core.List.{List, [], ◌∷◌}
@@ -17,10 +18,11 @@ use Rattle.format.specs.Table.{row, enum_member_row}
 use Rattle.format.specs.Utf8.{mended}
 use Rattle.names.specs.Names.{Reads, WholeName, FullName}
 use Rattle.names.specs.declared.Name.{Name}
-use Rattle.names.specs.declared.Name.TheVariants.{Whole, Missing, Full}
+use Rattle.names.specs.declared.NameError.{NameError}
+use Rattle.names.specs.declared.NameError.TheVariants.{Missing, Full}
 use Rattle.reading.specs.declared.Limits.{Limits}
-use Rattle.reading.specs.declared.Step.TheVariants.{Done as StepDone, Refused as StepRefused}
 use Rattle.reading.specs.Contract.{run, Named, Names}
+use Rattle.reader_behind.specs.Naming.{NameBegins}
 use Rattle.reading.proofs.Contracts.{by_done, not_done, by_refused, not-refused}
 use Rattle.reading.proofs.Steps.{row-go, row-full, name-go, name-none, piece-go, piece-full, skip-go}
 
@@ -65,73 +67,91 @@ module _ (d : List ℕ) (lim : Limits) (ver at used pooled : ℕ) where
             skip-go pad (at + (n + 1)) d (lim.rows - (used + 1)) (lim.pool - (pooled + m)) (length d),
           )
 
--- ---- what `read_name` ensures of the numbers that it returns
+-- ---- the ways out of `begin_member`
 
-module _ {d : List ℕ} {at : ℕ} {p p' : List ℕ} {place room n m : ℕ} {x : Name} (w : Reads d at p p' place room x) (q : x ≡ Whole n m) where
-  pub whole-inside : at + n < length d
-  whole-inside = (w.whole n m q).inside
+module _ {d : List ℕ} {lim : Limits} {at used pooled : ℕ} {p p' : List ℕ} where
+  unnamed : {e : Refusal} → ((v : ℕ) → run (read_name_of v) d lim at used pooled ≡ refused e) → NameBegins d lim at used pooled (Err e) p p'
+  unnamed q = record {
+    free = not_done _;
+    whole = not_done _;
+    stopped = by_refused (λ e. (v : ℕ) → run (read_name_of v) d lim at used pooled ≡ refused e) q;
+  }
 
-  pub whole-fits : place + m ≤ room
-  whole-fits = (w.whole n m q).fits
+  pub member_full : lim.rows ≤ used → NameBegins d lim at used pooled (Err TooMany) p p'
+  member_full h = unnamed (λ v. name_rowless d lim v at used pooled h)
+
+  module _ {r : Result Name NameError} (free : used < lim.rows) (w : Reads d at p p' pooled lim.pool r) where
+    pub member_unnamed : {e : NameError} → r ≡ Err e → e ≡ Missing → NameBegins d lim at used pooled (Err (Short (at + 1) (length d))) p p'
+    member_unnamed q k = unnamed (λ v. name-missing d lim v at used pooled free (w.missing (q ∙ ap Err k)))
+
+    pub member_over : {e : NameError} → r ≡ Err e → e ≡ Full → NameBegins d lim at used pooled (Err PoolFull) p p'
+    member_over q k = unnamed (λ v. name_over d lim v at used pooled free (w.full (q ∙ ap Err k)))
+
+    pub member_named : {x : Name} → r ≡ Ok x → NameBegins d lim at used pooled (Ok x) p p'
+    member_named {x} q = record {
+      free = λ y e. free;
+      whole = by_done (λ y. WholeName d at p p' pooled lim.pool y.length y.stored) (w.whole x q);
+      stopped = not-refused _;
+    }
+
+-- ---- what is known of a name that was read
+
+module _ {d : List ℕ} {lim : Limits} {at used pooled : ℕ} {p p' : List ℕ} {x : Name} (w : NameBegins d lim at used pooled (Ok x) p p') where
+  pub whole-inside : at + x.length < length d
+  whole-inside = (w.whole x refl).inside
+
+  pub whole-fits : pooled + x.stored ≤ lim.pool
+  whole-fits = (w.whole x refl).fits
 
   -- the same in the form of a need: what is counted from them does not wrap
-  pub whole-one : length d < 18446744073709551616 → Fits w64 (n + 1)
+  pub whole-one : length d < 18446744073709551616 → Fits w64 (x.length + 1)
   whole-one l = let i = whole-inside in record { fits = omega arith }
 
-  pub whole-next : length d < 18446744073709551616 → Fits w64 (at + (n + 1))
+  pub whole-next : length d < 18446744073709551616 → Fits w64 (at + (x.length + 1))
   whole-next l = let i = whole-inside in record { fits = omega arith }
 
-  pub whole-padded : {pad : ℕ} → pad < 8 → length d * 1 < 9223372036854775808 → Fits w64 (at + (n + 1) + pad)
+  pub whole-padded : {pad : ℕ} → pad < 8 → length d * 1 < 9223372036854775808 → Fits w64 (at + (x.length + 1) + pad)
   whole-padded k l = let i = whole-inside in record { fits = omega arith }
 
-  pub whole-offset : {pad width : ℕ} → pad < 8 → width ≤ 4 → length d * 1 < 9223372036854775808 → Fits w64 (at + (n + 1) + pad + width)
+  pub whole-offset : {pad width : ℕ} → pad < 8 → width ≤ 4 → length d * 1 < 9223372036854775808 → Fits w64 (at + (x.length + 1) + pad + width)
   whole-offset k h l = let i = whole-inside in record { fits = omega arith }
 
-  pub whole_pooled : room ≤ 65536 → Fits w64 (place + m)
+  pub whole_pooled : lim.pool ≤ 65536 → Fits w64 (pooled + x.stored)
   whole_pooled l = let i = whole-fits in record { fits = omega arith }
 
-  pub whole_word : room ≤ 65536 → m < 4294967296
+  pub whole_word : lim.pool ≤ 65536 → x.stored < 4294967296
   whole_word l = let i = whole-fits in omega arith
 
 -- ---- the ways out of `enter_enum_member`
 
 module _ {d : List ℕ} {lim : Limits} {ver width at used pooled : ℕ} {t t' p p' : List ℕ} where
-  stops : {e : Refusal} → run (read_name_of ver) d lim at used pooled ≡ refused e → Names d lim ver width at used pooled (StepRefused e) t t' p p'
-  stops q =
+  pub enum_stops : {e : Refusal} → NameBegins d lim at used pooled (Err e) p p' → Names d lim ver width at used pooled (Err e) t t' p p'
+  enum_stops {e} w =
       record {
         named = not_done (λ s. Named d lim ver width at used pooled s t t' p p');
-        stopped = by_refused (λ e. run (read_name_of ver) d lim at used pooled ≡ refused e) q;
+        stopped = by_refused (λ f. run (read_name_of ver) d lim at used pooled ≡ refused f) (w.stopped e refl ver);
       }
 
-  pub enum_full : lim.rows ≤ used → Names d lim ver width at used pooled (StepRefused TooMany) t t' p p'
-  enum_full h = stops (name_rowless d lim ver at used pooled h)
-
-  module _ {x : Name} (free : used < lim.rows) (w : Reads d at p p' pooled lim.pool x) where
-    pub enum_unnamed : x ≡ Missing → Names d lim ver width at used pooled (StepRefused (Short (at + 1) (length d))) t t' p p'
-    enum_unnamed q = stops (name-missing d lim ver at used pooled free (w.missing q))
-
-    pub enum_over : x ≡ Full → Names d lim ver width at used pooled (StepRefused PoolFull) t t' p p'
-    enum_over q = stops (name_over d lim ver at used pooled free (w.full q))
-
-    pub enum_named : {n m pad : ℕ} → x ≡ Whole n m → (pad ≡ name_padding_of ver (n + 1)) × (pad < 8)
-        → t' ≡ sets t (used * 16) (row 13 ((1, 0) ∷ (2, pooled) ∷ (3, m) ∷ (4, width) ∷ []))
-        → Names d lim ver width at used pooled (StepDone (record { at = at + (n + 1) + pad; rows = used + 1; pooled = pooled + m; size = 0 })) t t' p p'
-    unfolding enum_member_row row
-    enum_named {n} {m} {pad} q pe et =
-        let y = w.whole n m q in
-        let i = y.inside in
-        let l = y.long in
-        record {
-          named = by_done (λ s. Named d lim ver width at used pooled s t t' p p') (record {
-            name = mended (take n (drop at d));
-            is = name-whole d lim ver at used pooled free n m pad y pe.0;
-            rows_are = refl;
-            pooled_are = ap (λ (k : ℕ). pooled + k) l;
-            table = et ∙ ap (λ (k : ℕ). sets t (used * 16) (enum_member_row pooled k width)) l;
-            pool = y.pool;
-            filled = omega arith;
-            room = y.fits;
-            near = omega arith;
-          });
-          stopped = not-refused (λ e. run (read_name_of ver) d lim at used pooled ≡ refused e);
-        }
+  pub enum_named : {x : Name} {pad : ℕ} → NameBegins d lim at used pooled (Ok x) p p' → (pad ≡ name_padding_of ver (x.length + 1)) × (pad < 8)
+      → t' ≡ sets t (used * 16) (row 13 ((1, 0) ∷ (2, pooled) ∷ (3, x.stored) ∷ (4, width) ∷ []))
+      → Names d lim ver width at used pooled (Ok (record { at = at + (x.length + 1) + pad; rows = used + 1; pooled = pooled + x.stored; size = 0 })) t t' p p'
+  unfolding enum_member_row row
+  enum_named {x} {pad} w pe et =
+      let y = w.whole x refl in
+      let free = w.free x refl in
+      let i = y.inside in
+      let l = y.long in
+      record {
+        named = by_done (λ s. Named d lim ver width at used pooled s t t' p p') (record {
+          name = mended (take x.length (drop at d));
+          is = name-whole d lim ver at used pooled free x.length x.stored pad y pe.0;
+          rows_are = refl;
+          pooled_are = ap (λ (k : ℕ). pooled + k) l;
+          table = et ∙ ap (λ (k : ℕ). sets t (used * 16) (enum_member_row pooled k width)) l;
+          pool = y.pool;
+          filled = omega arith;
+          room = y.fits;
+          near = omega arith;
+        });
+        stopped = not-refused (λ e. run (read_name_of ver) d lim at used pooled ≡ refused e);
+      }

@@ -1,4 +1,5 @@
 -- An enumeration's names, one a turn: the names read so far, and the laws of the loop of `read_names`.
+use Rattle.std.specs.Prelude.{Err, Ok, Result}
 use mathlib.Core.Path.{◌≡◌, refl, sym, ap, ◌∙◌}
 use mathlib.Core.List.{List, [], ◌∷◌, ◌++◌, append_assoc, append-nil}
 use Prim.Native.Nat.{ℕ, zero, suc, ◌+◌, ◌-◌, ◌*◌, ◌<◌, ◌≤◌}
@@ -12,8 +13,6 @@ use Rattle.format.proofs.Rows.{length-enum_member_row}
 use Rattle.format.proofs.Lists.{sets_append}
 use Rattle.reading.specs.declared.Limits.{Limits}
 use Rattle.reading.specs.declared.State.{State}
-use Rattle.reading.specs.declared.Step.{Step}
-use Rattle.reading.specs.declared.Step.TheVariants.{Done as StepDone, Refused as StepRefused}
 use Rattle.reading.specs.Contract.{run, here, Ready, Names, name_rows, joined_names, AfterNames}
 use Rattle.reading.proofs.Contracts.{lands, refuses, ready_at}
 
@@ -104,7 +103,7 @@ module _ {d : List ℕ} {lim : Limits} {v count width from used₀ pooled₀ : �
       }
 
   module _ {i at used pooled : ℕ} {t₁ p₁ : List ℕ} (w : NamesRead d lim v count width from used₀ pooled₀ t p i at used pooled t₁ p₁) where
-    pub names-ended : count ≤ i → AfterNames count width (run (read_names_of v count) d lim from used₀ pooled₀) d lim used₀ pooled₀ (StepDone (record { at = at; rows = used; pooled = pooled; size = 0 })) t t₁ p p₁
+    pub names-ended : count ≤ i → AfterNames count width (run (read_names_of v count) d lim from used₀ pooled₀) d lim used₀ pooled₀ (Ok (record { at = at; rows = used; pooled = pooled; size = 0 })) t t₁ p p₁
     unfolding then
     names-ended h =
         let m = w.many in
@@ -122,12 +121,12 @@ module _ {d : List ℕ} {lim : Limits} {v count width from used₀ pooled₀ : �
           near = w.near;
         })
 
-    module _ {x : Step} {t₂ p₂ : List ℕ} (more : i < count) (y : Names d lim v width at used pooled x t₁ t₂ p₁ p₂) where
-      pub names-stopped : {e : Refusal} → x ≡ StepRefused e → AfterNames count width (run (read_names_of v count) d lim from used₀ pooled₀) d lim used₀ pooled₀ (StepRefused e) t t₂ p p₂
+    module _ {x : Result State Refusal} {t₂ p₂ : List ℕ} (more : i < count) (y : Names d lim v width at used pooled x t₁ t₂ p₁ p₂) where
+      pub names-stopped : {e : Refusal} → x ≡ Err e → AfterNames count width (run (read_names_of v count) d lim from used₀ pooled₀) d lim used₀ pooled₀ (Err e) t t₂ p p₂
       unfolding then
       names-stopped {e} q = refuses (w.is ∙ rw (names_no d lim v at used pooled (count - i) (count - (i + 1)) (omega arith) e (y.stopped e q)))
 
-      pub names-turned : {s : State} → x ≡ StepDone s → NamesRead d lim v count width from used₀ pooled₀ t p (i + 1) s.at s.rows s.pooled t₂ p₂
+      pub names-turned : {s : State} → x ≡ Ok s → NamesRead d lim v count width from used₀ pooled₀ t p (i + 1) s.at s.rows s.pooled t₂ p₂
       names-turned {s} q =
           let n = y.named s q in
           let b = n.name in

@@ -9,22 +9,22 @@ ghost use Rattle.format.specs.Columns.{member_offset_column, place_column, lengt
 ghost use Rattle.format.specs.Datatype.{product};
 ghost use Rattle.format.specs.Reading.{class_kind, count_of, read_names_of, read_values_of};
 ghost use Rattle.format.specs.Table.{row, isEnumeration, isVariableLength, isArray};
+ghost use Rattle.reader_behind.specs.Naming.{NameBegins};
 ghost use Rattle.reading.specs.Contract.{run, Ready, Enters, Names, AfterNames, Values, AfterEnum, read_enum_members_of, OpensBased, BaseRead, Ends, dimensions_of_lem};
 
 use format::Header;
-use names::{Name, read_name};
+use names::{Name, NameError, read_name};
 use primitives::{
-    copy_bytes, high4, low4, name_padding, offset_bytes_for_size, put_row, read_uint,
-    skipped_bytes, wide32,
+    copy_bytes, high4, low4, name_padding, offset_bytes_for_size, put_row, read_uint, skipped_bytes,
 };
-use reading::{Base, Limits, State, Step};
+use reading::{Base, Limits, State};
 use refusal::Refusal;
 
 // The number of members of a compound or an enumeration.
 pub fn member_count(header: Header) -> u32
     ensures { (result ≡ count_of header) × (result < 65536) }
 {
-    wide32(header.f0) + 256 * wide32(header.f1)
+    u32::from(header.f0) + 256 * u32::from(header.f1)
 }
 
 // A member's row, by its kind (12 of a compound, 13 of an enumeration): its offset, where its name lies in the pool, its value's length.
@@ -64,6 +64,30 @@ fn put_member_row(
     );
 }
 
+// A member's name, once a row is free for it: TooMany, Short, PoolFull.
+// Inlined: a call that hands on the name's answer makes an enumeration a quarter slower.
+#[inline(always)]
+fn begin_member(
+    data: &[u8],
+    pool: &mut [u8],
+    limits: Limits,
+    at: usize,
+    used: usize,
+    pooled: usize,
+) -> Result<Name, Refusal>
+    requires { ((pooled ≤ limits.pool) × (limits.pool ≤ length pool.old)) × ((limits.pool ≤ 65536) × (at ≤ length «data».now + 7)) }
+    ensures { NameBegins «data».now limits at used pooled result pool.old pool.new }
+{
+    if limits.rows <= used {
+        return Err(Refusal::TooMany);
+    }
+    match read_name(data, at, pool, pooled, limits.pool) {
+        Ok(name) => Ok(name),
+        Err(NameError::Missing) => Err(Refusal::Short(at + 1, data.len())),
+        Err(NameError::Full) => Err(Refusal::PoolFull),
+    }
+}
+
 // One member up to its type: its row and name are stored.
 pub fn enter_member(
     data: &[u8],
@@ -75,36 +99,29 @@ pub fn enter_member(
     pooled: usize,
     version: u8,
     size: u32,
-) -> Step
+) -> Result<State, Refusal>
     requires { Ready limits used pooled table.old pool.old × (at ≤ length «data».now + 7) }
     ensures { Enters «data».now limits version size at used pooled result table.old table.new pool.old pool.new }
 {
-    if limits.rows <= used {
-        return Step::Refused(Refusal::TooMany);
+    let name = begin_member(data, pool, limits, at, used, pooled)?;
+    let n = name.length + 1;
+    let from = at + n + name_padding(version, n);
+    let width = offset_bytes_for_size(version, size);
+    if data.len() < from + width {
+        return Err(Refusal::Short(from + width, data.len()));
     }
-    let name = read_name(data, at, pool, pooled, limits.pool);
-    match name {
-        Name::Missing => Step::Refused(Refusal::Short(at + 1, data.len())),
-        Name::Full => Step::Refused(Refusal::PoolFull),
-        Name::Whole(n, m) => {
-            let from = at + (n + 1) + name_padding(version, n + 1);
-            let width = offset_bytes_for_size(version, size);
-            if data.len() < from + width {
-                return Step::Refused(Refusal::Short(from + width, data.len()));
-            }
-            let inner = from + width + skipped_bytes(version);
-            if data.len() < inner {
-                return Step::Refused(Refusal::Short(inner, data.len()));
-            }
-            put_member_row(table, used, 12, read_uint(data, from, width), pooled, m, 0);
-            Step::Done(State {
-                at: inner,
-                rows: used + 1,
-                pooled: pooled + m,
-                size: 0,
-            })
-        }
+    let inner = from + width + skipped_bytes(version);
+    if data.len() < inner {
+        return Err(Refusal::Short(inner, data.len()));
     }
+    let offset = read_uint(data, from, width);
+    put_member_row(table, used, 12, offset, pooled, name.stored, 0);
+    Ok(State {
+        at: inner,
+        rows: used + 1,
+        pooled: pooled + name.stored,
+        size: 0,
+    })
 }
 
 // One name of an enumeration, with the length that its value will have.
@@ -118,28 +135,19 @@ fn enter_enum_member(
     pooled: usize,
     version: u8,
     width: u32,
-) -> Step
+) -> Result<State, Refusal>
     requires { Ready limits used pooled table.old pool.old × (at ≤ length «data».now + 7) }
     ensures { Names «data».now limits version width at used pooled result table.old table.new pool.old pool.new }
 {
-    if limits.rows <= used {
-        return Step::Refused(Refusal::TooMany);
-    }
-    let name = read_name(data, at, pool, pooled, limits.pool);
-    match name {
-        Name::Missing => Step::Refused(Refusal::Short(at + 1, data.len())),
-        Name::Full => Step::Refused(Refusal::PoolFull),
-        Name::Whole(n, m) => {
-            put_member_row(table, used, 13, 0, pooled, m, width);
-            let next = at + (n + 1) + name_padding(version, n + 1);
-            Step::Done(State {
-                at: next,
-                rows: used + 1,
-                pooled: pooled + m,
-                size: 0,
-            })
-        }
-    }
+    let name = begin_member(data, pool, limits, at, used, pooled)?;
+    let n = name.length + 1;
+    put_member_row(table, used, 13, 0, pooled, name.stored, width);
+    Ok(State {
+        at: at + n + name_padding(version, n),
+        rows: used + 1,
+        pooled: pooled + name.stored,
+        size: 0,
+    })
 }
 
 // All names of an enumeration.
@@ -152,7 +160,7 @@ fn read_names(
     version: u8,
     count: usize,
     width: u32,
-) -> Step
+) -> Result<State, Refusal>
     requires { Ready limits start.rows start.pooled table.old pool.old × (start.at ≤ length «data».now + 7) }
     ensures { AfterNames count width (run (read_names_of version count) «data».now limits start.at start.rows start.pooled)
         «data».now limits start.rows start.pooled result table.old table.new pool.old pool.new }
@@ -160,20 +168,13 @@ fn read_names(
     let mut at = start.at;
     let mut rows = start.rows;
     let mut pooled = start.pooled;
-    let mut i = 0;
-    while i < count {
-        let step = enter_enum_member(data, table, pool, limits, at, rows, pooled, version, width);
-        match step {
-            Step::Refused(e) => return Step::Refused(e),
-            Step::Done(s) => {
-                at = s.at;
-                rows = s.rows;
-                pooled = s.pooled;
-            }
-        }
-        i += 1;
+    for _i in 0..count {
+        let next = enter_enum_member(data, table, pool, limits, at, rows, pooled, version, width)?;
+        at = next.at;
+        rows = next.rows;
+        pooled = next.pooled;
     }
-    Step::Done(State {
+    Ok(State {
         at: at,
         rows: rows,
         pooled: pooled,
@@ -189,27 +190,25 @@ fn read_values(
     start: State,
     count: usize,
     width: usize,
-) -> Step
+) -> Result<State, Refusal>
     requires { (((start.pooled ≤ limits.pool) × (limits.pool ≤ length pool.old)) × (start.at ≤ length «data».now + 7)) × ((0 < width) × (width < 4294967296)) }
     ensures { (bs : List (List ℕ)) → length bs ≡ count → Values bs (run (read_values_of width bs) «data».now limits start.at start.rows start.pooled) width
         «data».now limits start.rows start.pooled result pool.old pool.new }
 {
     let mut at = start.at;
     let mut pooled = start.pooled;
-    let mut i = 0;
-    while i < count {
+    for _i in 0..count {
         if data.len() < at + width {
-            return Step::Refused(Refusal::Short(at + width, data.len()));
+            return Err(Refusal::Short(at + width, data.len()));
         }
         if limits.pool - pooled < width {
-            return Step::Refused(Refusal::PoolFull);
+            return Err(Refusal::PoolFull);
         }
         copy_bytes(data, at, width, pool, pooled);
         at += width;
         pooled += width;
-        i += 1;
     }
-    Step::Done(State {
+    Ok(State {
         at: at,
         rows: start.rows,
         pooled: pooled,
@@ -226,16 +225,13 @@ fn read_enum_members(
     start: State,
     version: u8,
     count: usize,
-) -> Step
+) -> Result<State, Refusal>
     requires { (Ready limits start.rows start.pooled table.old pool.old × (start.at ≤ length «data».now + 7)) × (0 < start.size) }
     ensures { AfterEnum count (run (read_enum_members_of version count start.size) «data».now limits start.at start.rows start.pooled)
         «data».now limits start.rows start.pooled result table.old table.new pool.old pool.new }
 {
-    let named = read_names(data, table, pool, limits, start, version, count, start.size);
-    match named {
-        Step::Refused(e) => Step::Refused(e),
-        Step::Done(s) => read_values(data, pool, limits, s, count, start.size as usize),
-    }
+    let named = read_names(data, table, pool, limits, start, version, count, start.size)?;
+    read_values(data, pool, limits, named, count, start.size as usize)
 }
 
 // Class 8, behind its base.
@@ -249,14 +245,14 @@ fn end_enumeration(
     header: Header,
     base: Base,
     inner: State,
-) -> Step
+) -> Result<State, Refusal>
     requires { (((Ready limits inner.rows inner.pooled table.old pool.old × (inner.at ≤ length «data».now + 7)) × (0 < inner.size)) × ((used < limits.rows) × (used < inner.rows)))
         × ((class_kind header.class ≡ isEnumeration) × (base.rank ≡ 0)) }
     ensures { Ends «data».now limits used pooled header (dimensions_of_lem «data».now base) inner.at inner.rows inner.pooled inner.size result
         table.old table.new pool.old pool.new }
 {
     let count = member_count(header);
-    let got = read_enum_members(
+    let members = read_enum_members(
         data,
         table,
         pool,
@@ -264,26 +260,21 @@ fn end_enumeration(
         inner,
         header.version,
         count as usize,
-    );
-    match got {
-        Step::Refused(e) => Step::Refused(e),
-        Step::Done(s) => {
-            if header.size == 0 {
-                return Step::Refused(Refusal::ZeroSize(header.class));
-            }
-            put_row(
-                table,
-                used,
-                [9, header.size, 0, 0, count, 0, 0, 0, 0, 0, 0, 0, 0, 0, 0, 0],
-            );
-            Step::Done(State {
-                at: s.at,
-                rows: s.rows,
-                pooled: s.pooled,
-                size: header.size,
-            })
-        }
+    )?;
+    if header.size == 0 {
+        return Err(Refusal::ZeroSize(header.class));
     }
+    put_row(
+        table,
+        used,
+        [9, header.size, 0, 0, count, 0, 0, 0, 0, 0, 0, 0, 0, 0, 0, 0],
+    );
+    Ok(State {
+        at: members.at,
+        rows: members.rows,
+        pooled: members.pooled,
+        size: header.size,
+    })
 }
 
 // Class 9, behind its base.
@@ -297,7 +288,7 @@ fn end_variable(
     header: Header,
     base: Base,
     inner: State,
-) -> Step
+) -> Result<State, Refusal>
     requires { (((Ready limits inner.rows inner.pooled table.old pool.old × (inner.at ≤ length «data».now + 7)) × (0 < inner.size)) × ((used < limits.rows) × (used < inner.rows)))
         × ((class_kind header.class ≡ isVariableLength) × (base.rank ≡ 0)) }
     ensures { Ends «data».now limits used pooled header (dimensions_of_lem «data».now base) inner.at inner.rows inner.pooled inner.size result
@@ -305,8 +296,8 @@ fn end_variable(
 {
     let kind = low4(header.f0);
     if kind == 1 {
-        let padding = wide32(high4(header.f0)) + 1;
-        let charset = wide32(low4(header.f1)) + 1;
+        let padding = u32::from(high4(header.f0)) + 1;
+        let charset = u32::from(low4(header.f1)) + 1;
         put_row(
             table,
             used,
@@ -319,7 +310,7 @@ fn end_variable(
             [10, 0, 0, 0, 0, 0, 0, 0, 0, 0, 0, 0, 0, 0, 0, 0],
         );
     }
-    Step::Done(State {
+    Ok(State {
         at: inner.at,
         rows: inner.rows,
         pooled: inner.pooled,
@@ -333,15 +324,9 @@ fn scaled_size(data: &[u8], start: usize, rank: usize, size: u32) -> u32
     ensures { result ≡ min (size * product (dimensions_from rank (take (4 * rank) (drop start «data».now)))) 4294967295 }
 {
     let mut scaled = size as u64;
-    let mut i = 0;
-    while i < rank {
-        let next = scaled * (read_uint(data, start + 4 * i, 4) as u64);
-        if next < 4294967295 {
-            scaled = next;
-        } else {
-            scaled = 4294967295;
-        }
-        i += 1;
+    for i in 0..rank {
+        let dimension = read_uint(data, start + 4 * i, 4);
+        scaled = (scaled * dimension as u64).min(4294967295);
     }
     scaled as u32
 }
@@ -357,7 +342,7 @@ fn end_array(
     header: Header,
     base: Base,
     inner: State,
-) -> Step
+) -> Result<State, Refusal>
     requires { (((Ready limits inner.rows inner.pooled table.old pool.old × (inner.at ≤ length «data».now + 7)) × (0 < inner.size)) × ((used < limits.rows) × (used < inner.rows)))
         × (((class_kind header.class ≡ isArray) × (base.rank ≤ 255)) × ((base.start + 4 * base.rank ≤ length «data».now) × (pooled + 4 * base.rank ≤ inner.pooled))) }
     ensures { Ends «data».now limits used pooled header (dimensions_of_lem «data».now base) inner.at inner.rows inner.pooled inner.size result
@@ -365,7 +350,7 @@ fn end_array(
 {
     let size = scaled_size(data, base.start, base.rank, inner.size);
     if size == 0 {
-        return Step::Refused(Refusal::ZeroSize(header.class));
+        return Err(Refusal::ZeroSize(header.class));
     }
     copy_bytes(data, base.start, 4 * base.rank, pool, pooled);
     put_row(
@@ -390,7 +375,7 @@ fn end_array(
             0,
         ],
     );
-    Step::Done(State {
+    Ok(State {
         at: inner.at,
         rows: inner.rows,
         pooled: inner.pooled,
@@ -400,6 +385,8 @@ fn end_array(
 
 // What stands behind the base of a class 8, 9 or 10 type, and the type's own row. The base was read as a message of its own: `inner` counts
 // from where that begins.
+// Inlined: where a call writes the answer, `read_type` of the reader passes each answer through memory, a third slower on compounds.
+#[inline(always)]
 pub fn end_based(
     data: &[u8],
     table: &mut [u32],
@@ -410,7 +397,7 @@ pub fn end_based(
     header: Header,
     base: Base,
     inner: State,
-) -> Step
+) -> Result<State, Refusal>
     requires { OpensBased «data».now limits used pooled header base × BaseRead «data».now limits used base inner table.old pool.old }
     ensures { Ends «data».now limits used pooled header (dimensions_of_lem «data».now base) (base.from + inner.at) inner.rows inner.pooled inner.size result
         table.old table.new pool.old pool.new }

@@ -1,4 +1,5 @@
 -- The types with no type inside: a law for each way out of a function that reads one.
+use Rattle.std.specs.Prelude.{Err, Ok, Result}
 use mathlib.Core.Path.{◌≡◌, refl, sym, ap, ◌∙◌}
 use mathlib.Core.Bool.{true, false}
 use mathlib.Core.List.{List, [], ◌∷◌}
@@ -19,8 +20,6 @@ use Rattle.format.specs.Table.{columns_of, leaf_row, Kind, is_leaf, isFixedPoint
 use Rattle.format.proofs.Lists.{drop-take, length_part}
 use Rattle.reading.specs.declared.Limits.{Limits}
 use Rattle.reading.specs.declared.State.{State}
-use Rattle.reading.specs.declared.Step.{Step}
-use Rattle.reading.specs.declared.Step.TheVariants.{Done, Refused}
 use Rattle.reading.specs.Contract.{run, here, Ready, AfterType, leaf_kind, read_leaf_of}
 use Rattle.reading.proofs.Steps.{bytes-go, bytes-short, skip-go, piece-go, piece-full, sized_no, sized-go, sized-zero}
 use Rattle.reading.proofs.Contracts.{lands, refuses, one-row}
@@ -31,7 +30,7 @@ use Rattle.reading.proofs.Contracts.{lands, refuses, one-row}
 abbrev Asked : Kind → Header → List ℕ → Limits → (used pooled : ℕ) (t p : List ℕ) → Type 0
 Asked k h d lim used pooled t p = ((Ready lim used pooled t p × (used < lim.rows)) × (8 ≤ length d)) × (class_kind h.class ≡ k)
 
-abbrev Ends : Header → List ℕ → Limits → (used pooled : ℕ) (t p : List ℕ) → Step → (t' p' : List ℕ) → Type 0
+abbrev Ends : Header → List ℕ → Limits → (used pooled : ℕ) (t p : List ℕ) → Result State Refusal → (t' p' : List ℕ) → Type 0
 Ends h d lim used pooled t p r t' p' = AfterType (run (sized h (read_leaf_of h)) d lim 8 (used + 1) pooled) d lim used pooled r t t' p p'
 
 -- where it ends, its row and its pool bytes counted
@@ -46,19 +45,19 @@ record Leaf (h : Header) (pooled : ℕ) (tree : Datatype) (words bytes : List �
   bytes-are : pool_bytes tree ≡ bytes
 
 module _ {k : Kind} (h : Header) (d : List ℕ) {lim : Limits} {used pooled : ℕ} {t t' p p' : List ℕ} (asked : Asked k h d lim used pooled t p) where
-  leaf-refuses : {e : Refusal} → run (read_properties (refuse TooDeep) h k) d lim 8 (used + 1) pooled ≡ refused e → Ends h d lim used pooled t p (Refused e) t' p'
+  leaf-refuses : {e : Refusal} → run (read_properties (refuse TooDeep) h k) d lim 8 (used + 1) pooled ≡ refused e → Ends h d lim used pooled t p (Err e) t' p'
   unfolding read_leaf_of
   leaf-refuses q = refuses (sized_no h (read_leaf_of h) (length d) 8 (drop 8 d) (lim.rows - (used + 1)) (lim.pool - pooled) _ (rw asked.1 q))
 
   leaf-zero : {w b : List ℕ} (tree : Datatype) (s : State) → run (read_properties (refuse TooDeep) h k) d lim 8 (used + 1) pooled ≡ here tree d lim s → Leaf h pooled tree w b → h.size ≡ 0
-      → Ends h d lim used pooled t p (Refused (ZeroSize h.class)) t' p'
+      → Ends h d lim used pooled t p (Err (ZeroSize h.class)) t' p'
   unfolding read_leaf_of
   leaf-zero tree s q l z =
       refuses (sized-zero h (read_leaf_of h) (length d) 8 (drop 8 d) (lim.rows - (used + 1)) (lim.pool - pooled) tree s.at (drop s.at d) (lim.rows - s.rows) (lim.pool - s.pooled) (rw asked.1 q) (l.size ∙ z))
 
   leaf-lands : {w b : List ℕ} (tree : Datatype) (s : State) → run (read_properties (refuse TooDeep) h k) d lim 8 (used + 1) pooled ≡ here tree d lim s → Leaf h pooled tree w b
       → (h.size ≡ 0 → ⊥) → s.size ≡ h.size → s.rows ≡ used + 1 → s.pooled ≡ pooled + length b → s.pooled ≤ lim.pool → s.at ≤ length d + 7
-      → t' ≡ sets t (used * 16) w → p' ≡ sets p pooled b → Ends h d lim used pooled t p (Done s) t' p'
+      → t' ≡ sets t (used * 16) w → p' ≡ sets p pooled b → Ends h d lim used pooled t p (Ok s) t' p'
   unfolding read_leaf_of
   leaf-lands {w} {b} tree s q l z es er ep room near et eb =
       let some : 0 < type_size_of tree = omega (arith, l.size) in
@@ -102,17 +101,17 @@ module _ {k : Kind} {widths : List ℕ} {end : ℕ} {type : Header → List ℕ 
 
 module _ {k : Kind} {widths : List ℕ} {end : ℕ} {type : Header → List ℕ → Datatype} (b : Block k widths end type) (h : Header) (d : List ℕ) {lim : Limits} {used pooled : ℕ} {t t' p : List ℕ}
     (asked : Asked k h d lim used pooled t p) where
-  pub block_cut : {p' : List ℕ} → length d < end → Ends h d lim used pooled t p (Refused (Short end (length d))) t' p'
+  pub block_cut : {p' : List ℕ} → length d < end → Ends h d lim used pooled t p (Err (Short end (length d))) t' p'
   block_cut l = leaf-refuses h d asked (block-short b h d (lim.rows - (used + 1)) (lim.pool - pooled) l)
 
   module _ (long : end ≤ length d) where
-    pub block-zero : {p' : List ℕ} → h.size ≡ 0 → Ends h d lim used pooled t p (Refused (ZeroSize h.class)) t' p'
+    pub block-zero : {p' : List ℕ} → h.size ≡ 0 → Ends h d lim used pooled t p (Err (ZeroSize h.class)) t' p'
     block-zero z =
         leaf-zero h d asked (type h (numbers_at widths 8 d)) (ended h end used pooled)
         (block-go b h d (lim.rows - (used + 1)) (lim.pool - pooled) long) (b.leaf h pooled (numbers_at widths 8 d)) z
 
     block-lands : (h.size ≡ 0 → ⊥) → t' ≡ sets t (used * 16) (rows pooled (type h (numbers_at widths 8 d)))
-        → Ends h d lim used pooled t p (Done (ended h end used pooled)) t' p
+        → Ends h d lim used pooled t p (Ok (ended h end used pooled)) t' p
     block-lands z et =
         leaf-lands h d asked (type h (numbers_at widths 8 d)) (ended h end used pooled)
         (block-go b h d (lim.rows - (used + 1)) (lim.pool - pooled) long) (b.leaf h pooled (numbers_at widths 8 d)) z refl refl (omega arith) asked.0.0.0.room (omega arith) et refl
@@ -146,30 +145,30 @@ module _ (h : Header) (d : List ℕ) {lim : Limits} {used pooled : ℕ} {t t' p 
   pub fixed_point_lands : (o s f q : ℕ) → Asked (is_leaf isFixedPoint) h d lim used pooled t p → 12 ≤ length d → (h.size ≡ 0 → ⊥)
       → (o ≡ bit_at 0 h.f0) × (o < 2) → (s ≡ bit_at 3 h.f0) × (s < 2) → f ≡ number_from (take 2 (drop 8 d)) → q ≡ number_from (take 2 (drop 10 d))
       → t' ≡ sets t (used * 16) (1 ∷ h.size ∷ 0 ∷ 0 ∷ 0 ∷ o ∷ s ∷ f ∷ q ∷ 0 ∷ 0 ∷ 0 ∷ 0 ∷ 0 ∷ 0 ∷ 0 ∷ [])
-      → Ends h d lim used pooled t p (Done (ended h 12 used pooled)) t' p
+      → Ends h d lim used pooled t p (Ok (ended h 12 used pooled)) t' p
   unfolding rows leaf_row leaf_class leaf_pool columns_of row float_layout numbers_at
   fixed_point_lands o s f q asked long z eo es ef eq et = block-lands fixed_points h d asked long z (rw (eo.0, es.0, ef, eq) at et)
 
   pub floating_point_lands : (o f q el es ml ms x : ℕ) → Asked (is_leaf isFloatingPoint) h d lim used pooled t p → 20 ≤ length d → (h.size ≡ 0 → ⊥)
       → (o ≡ float_order_of h.f0) × (o < 3) → f ≡ number_from (take 2 (drop 8 d)) → q ≡ number_from (take 2 (drop 10 d))
-      → (el ≡ get_or d 12 0) × (el < 256) → (es ≡ get_or d 13 0) × (es < 256) → (ml ≡ get_or d 14 0) × (ml < 256) → (ms ≡ get_or d 15 0) × (ms < 256) → x ≡ number_from (take 4 (drop 16 d))
+      → el ≡ get_or d 12 0 → es ≡ get_or d 13 0 → ml ≡ get_or d 14 0 → ms ≡ get_or d 15 0 → x ≡ number_from (take 4 (drop 16 d))
       → t' ≡ sets t (used * 16) (2 ∷ h.size ∷ 0 ∷ 0 ∷ 0 ∷ o ∷ 0 ∷ f ∷ q ∷ el ∷ es ∷ ml ∷ ms ∷ x ∷ 0 ∷ 0 ∷ [])
-      → Ends h d lim used pooled t p (Done (ended h 20 used pooled)) t' p
+      → Ends h d lim used pooled t p (Ok (ended h 20 used pooled)) t' p
   unfolding rows leaf_row leaf_class leaf_pool columns_of row float_layout numbers_at
   floating_point_lands o f q el es ml ms x asked long z eo ef eq a b c e ex et =
-      block-lands floating_points h d asked long z (rw (eo.0, ef, eq, a.0 ∙ sym (one_byte 12 d), b.0 ∙ sym (one_byte 13 d), c.0 ∙ sym (one_byte 14 d), e.0 ∙ sym (one_byte 15 d), ex) at et)
+      block-lands floating_points h d asked long z (rw (eo.0, ef, eq, a ∙ sym (one_byte 12 d), b ∙ sym (one_byte 13 d), c ∙ sym (one_byte 14 d), e ∙ sym (one_byte 15 d), ex) at et)
 
   pub time-lands : (o q : ℕ) → Asked (is_leaf isTime) h d lim used pooled t p → 10 ≤ length d → (h.size ≡ 0 → ⊥)
       → (o ≡ bit_at 0 h.f0) × (o < 2) → q ≡ number_from (take 2 (drop 8 d))
       → t' ≡ sets t (used * 16) (3 ∷ h.size ∷ 0 ∷ 0 ∷ 0 ∷ o ∷ 0 ∷ 0 ∷ q ∷ 0 ∷ 0 ∷ 0 ∷ 0 ∷ 0 ∷ 0 ∷ 0 ∷ [])
-      → Ends h d lim used pooled t p (Done (ended h 10 used pooled)) t' p
+      → Ends h d lim used pooled t p (Ok (ended h 10 used pooled)) t' p
   unfolding rows leaf_row leaf_class leaf_pool columns_of row float_layout numbers_at
   time-lands o q asked long z eo eq et = block-lands times h d asked long z (rw (eo.0, eq) at et)
 
   pub bit_field-lands : (o f q : ℕ) → Asked (is_leaf isBitField) h d lim used pooled t p → 12 ≤ length d → (h.size ≡ 0 → ⊥)
       → (o ≡ bit_at 0 h.f0) × (o < 2) → f ≡ number_from (take 2 (drop 8 d)) → q ≡ number_from (take 2 (drop 10 d))
       → t' ≡ sets t (used * 16) (5 ∷ h.size ∷ 0 ∷ 0 ∷ 0 ∷ o ∷ 0 ∷ f ∷ q ∷ 0 ∷ 0 ∷ 0 ∷ 0 ∷ 0 ∷ 0 ∷ 0 ∷ [])
-      → Ends h d lim used pooled t p (Done (ended h 12 used pooled)) t' p
+      → Ends h d lim used pooled t p (Ok (ended h 12 used pooled)) t' p
   unfolding rows leaf_row leaf_class leaf_pool columns_of row float_layout numbers_at
   bit_field-lands o f q asked long z eo ef eq et = block-lands bit_fields h d asked long z (rw (eo.0, ef, eq) at et)
 
@@ -185,12 +184,12 @@ reference-leaf h pooled c = record { size = refl; count = refl; words_are = refl
 
 module _ (h : Header) (d : List ℕ) {lim : Limits} {used pooled : ℕ} {t p : List ℕ} where
   module _ (a : ℕ) (asked : Asked (is_leaf is_string_of) h d lim used pooled t p) (ea : (a ≡ low_bits 4 h.f0) × (a < 16)) where
-    pub string_padding : {t' p' : List ℕ} → 2 < a → Ends h d lim used pooled t p (Refused (BadPadding a)) t' p'
+    pub string_padding : {t' p' : List ℕ} → 2 < a → Ends h d lim used pooled t p (Err (BadPadding a)) t' p'
     unfolding read_properties leaf_properties then require
     string_padding m = leaf-refuses h d asked (rw (← ea.0, lt-leb a 2 m))
 
     module _ (c : ℕ) (ok : a < 3) (ec : (c ≡ high_bits 4 h.f0) × (c < 16)) where
-      pub string-charset : {t' p' : List ℕ} → 1 < c → Ends h d lim used pooled t p (Refused (BadCharset c)) t' p'
+      pub string-charset : {t' p' : List ℕ} → 1 < c → Ends h d lim used pooled t p (Err (BadCharset c)) t' p'
       unfolding read_properties leaf_properties then require
       string-charset m = leaf-refuses h d asked (rw (← ea.0, ← ec.0, le-leb a 2 (omega arith), lt-leb c 1 m))
 
@@ -200,17 +199,17 @@ module _ (h : Header) (d : List ℕ) {lim : Limits} {used pooled : ℕ} {t p : L
         unfolding read_properties leaf_properties then require
         string-is = rw (← ea.0, ← ec.0, le-leb a 2 (omega arith), le-leb c 1 (omega arith))
 
-        pub string-zero : {t' p' : List ℕ} → h.size ≡ 0 → Ends h d lim used pooled t p (Refused (ZeroSize h.class)) t' p'
+        pub string-zero : {t' p' : List ℕ} → h.size ≡ 0 → Ends h d lim used pooled t p (Err (ZeroSize h.class)) t' p'
         string-zero z = leaf-zero h d asked _ (ended h 8 used pooled) string-is (string-leaf h pooled a c) z
 
-        pub string-lands : {t' : List ℕ} (x y : ℕ) → (x ≡ a) × (x < 256) → (y ≡ c) × (y < 256) → (h.size ≡ 0 → ⊥)
+        pub string-lands : {t' : List ℕ} (x y : ℕ) → x ≡ a → y ≡ c → (h.size ≡ 0 → ⊥)
             → t' ≡ sets t (used * 16) (4 ∷ h.size ∷ 0 ∷ 0 ∷ 0 ∷ x ∷ y ∷ 0 ∷ 0 ∷ 0 ∷ 0 ∷ 0 ∷ 0 ∷ 0 ∷ 0 ∷ 0 ∷ [])
-            → Ends h d lim used pooled t p (Done (ended h 8 used pooled)) t' p
+            → Ends h d lim used pooled t p (Ok (ended h 8 used pooled)) t' p
         string-lands x y ex ey z et =
-            leaf-lands h d asked _ _ string-is (string-leaf h pooled a c) z refl refl (omega arith) asked.0.0.0.room (omega arith) (rw (ex.0, ey.0) at et) refl
+            leaf-lands h d asked _ _ string-is (string-leaf h pooled a c) z refl refl (omega arith) asked.0.0.0.room (omega arith) (rw (ex, ey) at et) refl
 
   module _ (c : ℕ) (asked : Asked (is_leaf isReference) h d lim used pooled t p) (ec : (c ≡ low_bits 4 h.f0) × (c < 16)) where
-    pub reference-kind : {t' p' : List ℕ} → 1 < c → Ends h d lim used pooled t p (Refused (BadReferenceKind c)) t' p'
+    pub reference-kind : {t' p' : List ℕ} → 1 < c → Ends h d lim used pooled t p (Err (BadReferenceKind c)) t' p'
     unfolding read_properties leaf_properties then require
     reference-kind m = leaf-refuses h d asked (rw (← ec.0, lt-leb c 1 m))
 
@@ -220,14 +219,14 @@ module _ (h : Header) (d : List ℕ) {lim : Limits} {used pooled : ℕ} {t p : L
       unfolding read_properties leaf_properties then require
       reference-is = rw (← ec.0, le-leb c 1 (omega arith))
 
-      pub reference-zero : {t' p' : List ℕ} → h.size ≡ 0 → Ends h d lim used pooled t p (Refused (ZeroSize h.class)) t' p'
+      pub reference-zero : {t' p' : List ℕ} → h.size ≡ 0 → Ends h d lim used pooled t p (Err (ZeroSize h.class)) t' p'
       reference-zero z = leaf-zero h d asked _ (ended h 8 used pooled) reference-is (reference-leaf h pooled c) z
 
-      pub reference-lands : {t' : List ℕ} (x : ℕ) → (x ≡ c) × (x < 256) → (h.size ≡ 0 → ⊥)
+      pub reference-lands : {t' : List ℕ} (x : ℕ) → x ≡ c → (h.size ≡ 0 → ⊥)
           → t' ≡ sets t (used * 16) (8 ∷ h.size ∷ 0 ∷ 0 ∷ 0 ∷ x ∷ 0 ∷ 0 ∷ 0 ∷ 0 ∷ 0 ∷ 0 ∷ 0 ∷ 0 ∷ 0 ∷ 0 ∷ [])
-          → Ends h d lim used pooled t p (Done (ended h 8 used pooled)) t' p
+          → Ends h d lim used pooled t p (Ok (ended h 8 used pooled)) t' p
       reference-lands x ex z et =
-          leaf-lands h d asked _ _ reference-is (reference-leaf h pooled c) z refl refl (omega arith) asked.0.0.0.room (omega arith) (rw ex.0 at et) refl
+          leaf-lands h d asked _ _ reference-is (reference-leaf h pooled c) z refl refl (omega arith) asked.0.0.0.room (omega arith) (rw ex at et) refl
 
 -- ---- opaque: a tag, and its padding
 
@@ -236,20 +235,20 @@ unfolding type_size_of row_count pool_bytes leaf_pool leaf_class columns_of leaf
 opaque-leaf h pooled n d long = record { size = refl; count = refl; words_are = rw (length_part d 8 n long); bytes-are = refl }
 
 module _ (h : Header) (d : List ℕ) {lim : Limits} {used pooled : ℕ} {t p : List ℕ} where
-  module _ (n : ℕ) (asked : Asked (is_leaf isOpaque) h d lim used pooled t p) (en : (n ≡ h.f0) × (n < 256)) where
-    pub opaque_cut : {t' p' : List ℕ} → length d < 8 + n → Ends h d lim used pooled t p (Refused (Short (8 + n) (length d))) t' p'
+  module _ (n : ℕ) (asked : Asked (is_leaf isOpaque) h d lim used pooled t p) (en : n ≡ h.f0) where
+    pub opaque_cut : {t' p' : List ℕ} → length d < 8 + n → Ends h d lim used pooled t p (Err (Short (8 + n) (length d))) t' p'
     unfolding read_properties leaf_properties then
     opaque_cut l =
         let k = asked.0.1 in
-        leaf-refuses h d asked (rw (← en.0, bytes-short n 8 d (lim.rows - (used + 1)) (lim.pool - pooled) (omega arith) l))
+        leaf-refuses h d asked (rw (← en, bytes-short n 8 d (lim.rows - (used + 1)) (lim.pool - pooled) (omega arith) l))
 
     module _ (long : 8 + n ≤ length d) where
-      pub opaque-full : {t' p' : List ℕ} → lim.pool - pooled < n → Ends h d lim used pooled t p (Refused PoolFull) t' p'
+      pub opaque-full : {t' p' : List ℕ} → lim.pool - pooled < n → Ends h d lim used pooled t p (Err PoolFull) t' p'
       unfolding read_properties leaf_properties then
       opaque-full m =
           let k : lim.pool - pooled < length (take n (drop 8 d)) = omega (arith, length_part d 8 n long) in
           leaf-refuses h d asked (rw (
-            ← en.0,
+            ← en,
             bytes-go n 8 d (lim.rows - (used + 1)) (lim.pool - pooled) long,
             piece-full (take n (drop 8 d)) (length d) (8 + n) (drop (8 + n) d) (lim.rows - (used + 1)) lim.pool pooled k,
           ))
@@ -261,19 +260,19 @@ module _ (h : Header) (d : List ℕ) {lim : Limits} {used pooled : ℕ} {t p : L
         opaque-is =
             let k : length (take n (drop 8 d)) ≤ lim.pool - pooled = omega (arith, length_part d 8 n long) in
             rw (
-              ← en.0,
+              ← en,
               bytes-go n 8 d (lim.rows - (used + 1)) (lim.pool - pooled) long,
               piece-go (take n (drop 8 d)) (length d) (8 + n) (drop (8 + n) d) (lim.rows - (used + 1)) lim.pool pooled k,
               length_part d 8 n long,
               skip-go (padding_to8 n) (8 + n) d (lim.rows - (used + 1)) (lim.pool - (pooled + n)) (length d),
             )
 
-        pub opaque-zero : {t' p' : List ℕ} → h.size ≡ 0 → Ends h d lim used pooled t p (Refused (ZeroSize h.class)) t' p'
+        pub opaque-zero : {t' p' : List ℕ} → h.size ≡ 0 → Ends h d lim used pooled t p (Err (ZeroSize h.class)) t' p'
         opaque-zero z = leaf-zero h d asked _ (ended h (8 + n + padding_to8 n) used (pooled + n)) opaque-is (opaque-leaf h pooled n d long) z
 
         pub opaque-lands : {t' p' : List ℕ} (pad : ℕ) → (pad ≡ padding_to8 n) × (pad < 8) → (h.size ≡ 0 → ⊥) → p' ≡ sets p pooled (take n (drop 8 d))
             → t' ≡ sets t (used * 16) (6 ∷ h.size ∷ pooled ∷ n ∷ 0 ∷ 0 ∷ 0 ∷ 0 ∷ 0 ∷ 0 ∷ 0 ∷ 0 ∷ 0 ∷ 0 ∷ 0 ∷ 0 ∷ [])
-            → Ends h d lim used pooled t p (Done (ended h (8 + n + pad) used (pooled + n))) t' p'
+            → Ends h d lim used pooled t p (Ok (ended h (8 + n + pad) used (pooled + n))) t' p'
         opaque-lands pad e z ep et =
             let place = asked.0.0.0.room in
             leaf-lands h d asked _ _ (rw e.0 opaque-is) (opaque-leaf h pooled n d long) z refl refl (omega (arith, length_part d 8 n long)) (omega arith) (omega arith) et ep

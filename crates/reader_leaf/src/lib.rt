@@ -7,11 +7,8 @@ ghost use Rattle.format.specs.Table.{is_leaf, isFixedPoint, isFloatingPoint, isT
 ghost use Rattle.reading.specs.Contract.{run, Ready, AfterType, leaf_kind, read_leaf_of};
 
 use format::Header;
-use primitives::{
-    bit0, bit3, copy_bytes, float_order, high4, low4, padding_to_8, put_row, read_uint, wide,
-    wide32,
-};
-use reading::{Limits, State, Step};
+use primitives::{bit, copy_bytes, float_order, high4, low4, padding_to_8, put_row, read_uint};
+use reading::{Limits, State};
 use refusal::Refusal;
 
 fn read_fixed_point(
@@ -22,19 +19,19 @@ fn read_fixed_point(
     used: usize,
     pooled: usize,
     header: Header,
-) -> Step
+) -> Result<State, Refusal>
     requires { ((Ready limits used pooled table.old pool.old × (used < limits.rows)) × (8 ≤ length «data».now)) × (class_kind header.class ≡ is_leaf isFixedPoint) }
     ensures { AfterType (run (sized header (read_leaf_of header)) «data».now limits 8 (used + 1) pooled)
         «data».now limits used pooled result table.old table.new pool.old pool.new }
 {
     if data.len() < 12 {
-        return Step::Refused(Refusal::Short(12, data.len()));
+        return Err(Refusal::Short(12, data.len()));
     }
     if header.size == 0 {
-        return Step::Refused(Refusal::ZeroSize(header.class));
+        return Err(Refusal::ZeroSize(header.class));
     }
-    let order = bit0(header.f0);
-    let signed = bit3(header.f0);
+    let order = bit(header.f0, 0);
+    let signed = bit(header.f0, 3);
     let offset = read_uint(data, 8, 2);
     let precision = read_uint(data, 10, 2);
     put_row(
@@ -59,7 +56,7 @@ fn read_fixed_point(
             0,
         ],
     );
-    Step::Done(State {
+    Ok(State {
         at: 12,
         rows: used + 1,
         pooled: pooled,
@@ -75,24 +72,24 @@ fn read_floating_point(
     used: usize,
     pooled: usize,
     header: Header,
-) -> Step
+) -> Result<State, Refusal>
     requires { ((Ready limits used pooled table.old pool.old × (used < limits.rows)) × (8 ≤ length «data».now)) × (class_kind header.class ≡ is_leaf isFloatingPoint) }
     ensures { AfterType (run (sized header (read_leaf_of header)) «data».now limits 8 (used + 1) pooled)
         «data».now limits used pooled result table.old table.new pool.old pool.new }
 {
     if data.len() < 20 {
-        return Step::Refused(Refusal::Short(20, data.len()));
+        return Err(Refusal::Short(20, data.len()));
     }
     if header.size == 0 {
-        return Step::Refused(Refusal::ZeroSize(header.class));
+        return Err(Refusal::ZeroSize(header.class));
     }
     let order = float_order(header.f0);
     let offset = read_uint(data, 8, 2);
     let precision = read_uint(data, 10, 2);
-    let exponent_location = wide32(data[12]);
-    let exponent_size = wide32(data[13]);
-    let mantissa_location = wide32(data[14]);
-    let mantissa_size = wide32(data[15]);
+    let exponent_location = u32::from(data[12]);
+    let exponent_size = u32::from(data[13]);
+    let mantissa_location = u32::from(data[14]);
+    let mantissa_size = u32::from(data[15]);
     let bias = read_uint(data, 16, 4);
     put_row(
         table,
@@ -116,7 +113,7 @@ fn read_floating_point(
             0,
         ],
     );
-    Step::Done(State {
+    Ok(State {
         at: 20,
         rows: used + 1,
         pooled: pooled,
@@ -132,18 +129,18 @@ fn read_time(
     used: usize,
     pooled: usize,
     header: Header,
-) -> Step
+) -> Result<State, Refusal>
     requires { ((Ready limits used pooled table.old pool.old × (used < limits.rows)) × (8 ≤ length «data».now)) × (class_kind header.class ≡ is_leaf isTime) }
     ensures { AfterType (run (sized header (read_leaf_of header)) «data».now limits 8 (used + 1) pooled)
         «data».now limits used pooled result table.old table.new pool.old pool.new }
 {
     if data.len() < 10 {
-        return Step::Refused(Refusal::Short(10, data.len()));
+        return Err(Refusal::Short(10, data.len()));
     }
     if header.size == 0 {
-        return Step::Refused(Refusal::ZeroSize(header.class));
+        return Err(Refusal::ZeroSize(header.class));
     }
-    let order = bit0(header.f0);
+    let order = bit(header.f0, 0);
     let precision = read_uint(data, 8, 2);
     put_row(
         table,
@@ -167,7 +164,7 @@ fn read_time(
             0,
         ],
     );
-    Step::Done(State {
+    Ok(State {
         at: 10,
         rows: used + 1,
         pooled: pooled,
@@ -183,7 +180,7 @@ fn read_string(
     used: usize,
     pooled: usize,
     header: Header,
-) -> Step
+) -> Result<State, Refusal>
     requires { ((Ready limits used pooled table.old pool.old × (used < limits.rows)) × (8 ≤ length «data».now)) × (class_kind header.class ≡ is_leaf is_string_of) }
     ensures { AfterType (run (sized header (read_leaf_of header)) «data».now limits 8 (used + 1) pooled)
         «data».now limits used pooled result table.old table.new pool.old pool.new }
@@ -192,18 +189,18 @@ fn read_string(
     match padding {
         0..=2 => {}
         _ => {
-            return Step::Refused(Refusal::BadPadding(padding));
+            return Err(Refusal::BadPadding(padding));
         }
     }
     let charset = high4(header.f0);
     match charset {
         0..=1 => {}
         _ => {
-            return Step::Refused(Refusal::BadCharset(charset));
+            return Err(Refusal::BadCharset(charset));
         }
     }
     if header.size == 0 {
-        return Step::Refused(Refusal::ZeroSize(header.class));
+        return Err(Refusal::ZeroSize(header.class));
     }
     put_row(
         table,
@@ -214,8 +211,8 @@ fn read_string(
             0,
             0,
             0,
-            wide32(padding),
-            wide32(charset),
+            u32::from(padding),
+            u32::from(charset),
             0,
             0,
             0,
@@ -227,7 +224,7 @@ fn read_string(
             0,
         ],
     );
-    Step::Done(State {
+    Ok(State {
         at: 8,
         rows: used + 1,
         pooled: pooled,
@@ -243,18 +240,18 @@ fn read_bit_field(
     used: usize,
     pooled: usize,
     header: Header,
-) -> Step
+) -> Result<State, Refusal>
     requires { ((Ready limits used pooled table.old pool.old × (used < limits.rows)) × (8 ≤ length «data».now)) × (class_kind header.class ≡ is_leaf isBitField) }
     ensures { AfterType (run (sized header (read_leaf_of header)) «data».now limits 8 (used + 1) pooled)
         «data».now limits used pooled result table.old table.new pool.old pool.new }
 {
     if data.len() < 12 {
-        return Step::Refused(Refusal::Short(12, data.len()));
+        return Err(Refusal::Short(12, data.len()));
     }
     if header.size == 0 {
-        return Step::Refused(Refusal::ZeroSize(header.class));
+        return Err(Refusal::ZeroSize(header.class));
     }
-    let order = bit0(header.f0);
+    let order = bit(header.f0, 0);
     let offset = read_uint(data, 8, 2);
     let precision = read_uint(data, 10, 2);
     put_row(
@@ -279,7 +276,7 @@ fn read_bit_field(
             0,
         ],
     );
-    Step::Done(State {
+    Ok(State {
         at: 12,
         rows: used + 1,
         pooled: pooled,
@@ -296,20 +293,20 @@ fn read_opaque(
     used: usize,
     pooled: usize,
     header: Header,
-) -> Step
+) -> Result<State, Refusal>
     requires { ((Ready limits used pooled table.old pool.old × (used < limits.rows)) × (8 ≤ length «data».now)) × (class_kind header.class ≡ is_leaf isOpaque) }
     ensures { AfterType (run (sized header (read_leaf_of header)) «data».now limits 8 (used + 1) pooled)
         «data».now limits used pooled result table.old table.new pool.old pool.new }
 {
-    let n = wide(header.f0);
+    let n = usize::from(header.f0);
     if data.len() < 8 + n {
-        return Step::Refused(Refusal::Short(8 + n, data.len()));
+        return Err(Refusal::Short(8 + n, data.len()));
     }
     if limits.pool - pooled < n {
-        return Step::Refused(Refusal::PoolFull);
+        return Err(Refusal::PoolFull);
     }
     if header.size == 0 {
-        return Step::Refused(Refusal::ZeroSize(header.class));
+        return Err(Refusal::ZeroSize(header.class));
     }
     copy_bytes(data, 8, n, pool, pooled);
     put_row(
@@ -334,7 +331,7 @@ fn read_opaque(
             0,
         ],
     );
-    Step::Done(State {
+    Ok(State {
         at: 8 + n + padding_to_8(n),
         rows: used + 1,
         pooled: pooled + n,
@@ -350,7 +347,7 @@ fn read_reference(
     used: usize,
     pooled: usize,
     header: Header,
-) -> Step
+) -> Result<State, Refusal>
     requires { ((Ready limits used pooled table.old pool.old × (used < limits.rows)) × (8 ≤ length «data».now)) × (class_kind header.class ≡ is_leaf isReference) }
     ensures { AfterType (run (sized header (read_leaf_of header)) «data».now limits 8 (used + 1) pooled)
         «data».now limits used pooled result table.old table.new pool.old pool.new }
@@ -359,11 +356,11 @@ fn read_reference(
     match kind {
         0..=1 => {}
         _ => {
-            return Step::Refused(Refusal::BadReferenceKind(kind));
+            return Err(Refusal::BadReferenceKind(kind));
         }
     }
     if header.size == 0 {
-        return Step::Refused(Refusal::ZeroSize(header.class));
+        return Err(Refusal::ZeroSize(header.class));
     }
     put_row(
         table,
@@ -374,7 +371,7 @@ fn read_reference(
             0,
             0,
             0,
-            wide32(kind),
+            u32::from(kind),
             0,
             0,
             0,
@@ -387,7 +384,7 @@ fn read_reference(
             0,
         ],
     );
-    Step::Done(State {
+    Ok(State {
         at: 8,
         rows: used + 1,
         pooled: pooled,
@@ -404,7 +401,7 @@ pub fn read_leaf(
     used: usize,
     pooled: usize,
     header: Header,
-) -> Step
+) -> Result<State, Refusal>
     requires { ((Ready limits used pooled table.old pool.old × (used < limits.rows)) × (8 ≤ length «data».now)) × (leaf_kind (class_kind header.class) ≡ true) }
     ensures { AfterType (run (sized header (read_leaf_of header)) «data».now limits 8 (used + 1) pooled)
         «data».now limits used pooled result table.old table.new pool.old pool.new }

@@ -1,10 +1,13 @@
 -- Laws that put a contract together, or take one apart.
+use Rattle.std.specs.Prelude.{Err, Ok, Result}
 use mathlib.Core.Path.{◌≡◌, refl, sym, ap, ◌∙◌}
 use mathlib.Core.List.{List, [], ◌∷◌, ◌++◌}
 use Prim.Native.Nat.{ℕ, suc, ◌+◌, ◌-◌, ◌*◌, ◌<◌, ◌≤◌}
 use native.Mathlib.Omega.{arith}
 use lib.ListN.{length, set, take, drop, length-drop}
 use lib.Seq.{sets, length-sets, set_comm}
+use Rattle.std.specs.Result.{IsErr, IsErrAnd}
+use Rattle.std.proofs.lemmas.Result.{err_from_is_err_and}
 use Rattle.refusal.specs.declared.Refusal.{Refusal}
 use Rattle.format.specs.Datatype.{Datatype, type_size_of, row_count, pool_bytes}
 use Rattle.format.specs.Reading.{Answer, refused}
@@ -12,44 +15,37 @@ use Rattle.format.specs.Table.{rows}
 use Rattle.format.proofs.Lists.{part-all}
 use Rattle.reading.specs.declared.Limits.{Limits}
 use Rattle.reading.specs.declared.State.{State}
-use Rattle.reading.specs.declared.Step.{Step}
-use Rattle.reading.specs.declared.Step.TheVariants.{Done as StepDone, Refused as StepRefused}
 use Rattle.reading.specs.Contract.{here, Ready, Landed, After}
 
-done-is : {s z : State} → StepDone s ≡ StepDone z → s ≡ z
-done-is e = cc
+-- a property of what is returned, by cases: a result, or a refusal
+module _ {A : Type 0} (P : A → Type 0) where
+  pub by_done : {s : A} → P s → (z : A) → ◌≡◌ {A = Result A Refusal} (Ok s) (Ok z) → P z
+  by_done {s} w z q = let e : s ≡ z = cc in rw e at w
 
-refused-is : {e f : Refusal} → StepRefused e ≡ StepRefused f → e ≡ f
-refused-is e = cc
+  pub not_done : {e : Refusal} → (z : A) → ◌≡◌ {A = Result A Refusal} (Err e) (Ok z) → P z
+  not_done z q = absurd (cc)
 
-no_done : {s : State} {e : Refusal} → StepDone s ≡ StepRefused e → ⊥
-no_done q = let z : ◌≡◌ {A = ℕ} 0 1 = cc in omega arith
+module _ {A : Type 0} (P : Refusal → Type 0) where
+  pub by_refused : {e : Refusal} → P e → (f : Refusal) → ◌≡◌ {A = Result A Refusal} (Err e) (Err f) → P f
+  by_refused {e} w f q = let k : e ≡ f = cc in rw k at w
 
--- a property of what is returned, by cases: a state, or a refusal
-module _ (P : State → Type 0) where
-  pub by_done : {s : State} → P s → (z : State) → StepDone s ≡ StepDone z → P z
-  by_done w z e = rw (done-is e) at w
+  pub not-refused : {s : A} → (f : Refusal) → ◌≡◌ {A = Result A Refusal} (Ok s) (Err f) → P f
+  not-refused f q = absurd (cc)
 
-  pub not_done : {e : Refusal} → (z : State) → StepRefused e ≡ StepDone z → P z
-  not_done z q = absurd (no_done (sym q))
-
-module _ (P : Refusal → Type 0) where
-  pub by_refused : {e : Refusal} → P e → (f : Refusal) → StepRefused e ≡ StepRefused f → P f
-  by_refused w f q = rw (refused-is q) at w
-
-  pub not-refused : {s : State} → (f : Refusal) → StepDone s ≡ StepRefused f → P f
-  not-refused f q = absurd (no_done q)
+-- the exit of a `?` returns the refusal that was met
+pub passed_on : {A : Type 0} {e : Refusal} (r : Result A Refusal) → IsErr r × IsErrAnd r (λ x. x ≡ e) → r ≡ Err e
+passed_on r h = let p = err_from_is_err_and r h.1 in rw (p.1, p.2)
 
 module _ {A : Type 0} {words : ℕ → A → List ℕ} {bytes : A → List ℕ} {count : A → ℕ} {Q : A → State → Type 0} {d : List ℕ} {lim : Limits} {used pooled : ℕ} {t t' p p' : List ℕ} {o : Answer A} where
   -- what equals an answer has its contract
-  pub same : {o' : Answer A} {r : Step} → o ≡ o' → After words bytes count Q o' d lim used pooled r t t' p p' → After words bytes count Q o d lim used pooled r t t' p p'
+  pub same : {o' : Answer A} {r : Result State Refusal} → o ≡ o' → After words bytes count Q o' d lim used pooled r t t' p p' → After words bytes count Q o d lim used pooled r t t' p p'
   same e w = rw e w
 
-  pub lands : {s : State} → Landed words bytes count Q o d lim used pooled s t t' p p' → After words bytes count Q o d lim used pooled (StepDone s) t t' p p'
-  lands w = record { done = λ z e. rw (done-is e) at w; denied = λ z e. absurd (no_done e) }
+  pub lands : {s : State} → Landed words bytes count Q o d lim used pooled s t t' p p' → After words bytes count Q o d lim used pooled (Ok s) t t' p p'
+  lands w = record { done = by_done _ w; denied = not-refused _ }
 
-  pub refuses : {e : Refusal} → o ≡ refused e → After words bytes count Q o d lim used pooled (StepRefused e) t t' p p'
-  refuses q = record { done = λ z e. absurd (no_done (sym e)); denied = λ z e. q ∙ ap refused (refused-is e) }
+  pub refuses : {e : Refusal} → o ≡ refused e → After words bytes count Q o d lim used pooled (Err e) t t' p p'
+  refuses q = record { done = not_done _; denied = by_refused (λ e. o ≡ refused e) q }
 
 -- rows and bytes more are used, and the table and the pool keep their lengths
 pub ready_at : {lim : Limits} {used pooled : ℕ} {t t' p p' : List ℕ} (u v : ℕ) → Ready lim used pooled t p → u ≤ lim.rows → v ≤ lim.pool → length t' ≡ length t → length p' ≡ length p

@@ -1,4 +1,5 @@
 -- The members of a compound, one turn of the loop after another.
+use Rattle.std.specs.Prelude.{Err, Ok, Result}
 use mathlib.Core.Path.{◌≡◌, refl, sym, ap, ◌∙◌}
 use mathlib.Core.List.{List, ◌++◌, append_assoc, append-nil}
 use Prim.Native.Nat.{ℕ, suc, ◌+◌, ◌-◌, ◌*◌, ◌<◌, ◌≤◌}
@@ -16,8 +17,6 @@ use Rattle.format.proofs.Rows.{length-member_row, length-member_rows}
 use Rattle.format.proofs.Lists.{sets_more, part-all}
 use Rattle.reading.specs.declared.Limits.{Limits}
 use Rattle.reading.specs.declared.State.{State}
-use Rattle.reading.specs.declared.Step.{Step}
-use Rattle.reading.specs.declared.Step.TheVariants.{Done as StepDone, Refused as StepRefused}
 use Rattle.reading.specs.Contract.{run, Ready, Landed, AfterType, AfterMembers, Entered, Enters}
 use Rattle.reading.proofs.Contracts.{lands, refuses, part-near}
 use Rattle.reading.proofs.Steps.{inner-go, inner_no}
@@ -153,15 +152,15 @@ module _ {rd : Reader Datatype} {d : List ℕ} {lim : Limits} {v size count used
       pool-turned h g = g ∙ h ∙ progress_pool
 
 -- what a member's entering leaves for its type
-pub entered-ready : {d : List ℕ} {lim : Limits} {v size at rows place : ℕ} {t t₂ p p₂ : List ℕ} {x : Step} {s : State}
-    → Enters d lim v size at rows place x t t₂ p p₂ → x ≡ StepDone s → Ready lim s.rows s.pooled t₂ p₂
+pub entered-ready : {d : List ℕ} {lim : Limits} {v size at rows place : ℕ} {t t₂ p p₂ : List ℕ} {x : Result State Refusal} {s : State}
+    → Enters d lim v size at rows place x t t₂ p p₂ → x ≡ Ok s → Ready lim s.rows s.pooled t₂ p₂
 entered-ready {s = s} m q = (m.entered s q).ready
 
 -- the place behind that type and the number of the next member do not wrap
 module _ {rd : Reader Datatype} {d : List ℕ} {lim : Limits} {v size count used pooled i at rows place : ℕ} {t t₁ p p₁ : List ℕ}
     (w : Progress rd d lim v size count used pooled i at rows place t t₁ p p₁) where
-  pub entered-behind : {t₂ t₃ p₂ p₃ : List ℕ} {o : Answer Datatype} {x y : Step} {s z : State} → Enters d lim v size at rows place x t₁ t₂ p₁ p₂ → x ≡ StepDone s
-      → AfterType o (take (length d - s.at) (drop s.at d)) lim s.rows s.pooled y t₂ t₃ p₂ p₃ → y ≡ StepDone z → Fits w64 (s.at + z.at)
+  pub entered-behind : {t₂ t₃ p₂ p₃ : List ℕ} {o : Answer Datatype} {x y : Result State Refusal} {s z : State} → Enters d lim v size at rows place x t₁ t₂ p₁ p₂ → x ≡ Ok s
+      → AfterType o (take (length d - s.at) (drop s.at d)) lim s.rows s.pooled y t₂ t₃ p₂ p₃ → y ≡ Ok z → Fits w64 (s.at + z.at)
   entered-behind {s = s} {z = z} m q n k =
       let near = part-near d (m.entered s q).within (n.done z k).near in
       let l = w.short in
@@ -192,7 +191,7 @@ module _ (rd : Reader Datatype) (d : List ℕ) (lim : Limits) (v size count used
 
   module _ {i at rows place : ℕ} {t t₁ p p₁ : List ℕ} (w : Progress rd d lim v size count used pooled i at rows place t t₁ p p₁) where
     pub members-ended : count ≤ i
-        → AfterMembers count (run (read_members_of rd v size count) d lim 8 used pooled) d lim used pooled (StepDone (record { at = at; rows = rows; pooled = place; size = 0 })) t t₁ p p₁
+        → AfterMembers count (run (read_members_of rd v size count) d lim 8 used pooled) d lim used pooled (Ok (record { at = at; rows = rows; pooled = place; size = 0 })) t t₁ p p₁
     unfolding read_members_of then
     members-ended h =
         let none_left : count - i ≡ 0 = omega (arith, w.inside) in
@@ -212,24 +211,24 @@ module _ (rd : Reader Datatype) (d : List ℕ) (lim : Limits) (v size count used
       one_left : count - i ≡ suc (count - (i + 1))
       one_left = omega arith
 
-      module _ {x : Step} {t₂ p₂ : List ℕ} (m : Enters d lim v size at rows place x t₁ t₂ p₁ p₂) where
-        pub members-stopped : {e : Refusal} → x ≡ StepRefused e
-            → AfterMembers count (run (read_members_of rd v size count) d lim 8 used pooled) d lim used pooled (StepRefused e) t t₂ p p₂
+      module _ {x : Result State Refusal} {t₂ p₂ : List ℕ} (m : Enters d lim v size at rows place x t₁ t₂ p₁ p₂) where
+        pub members-stopped : {e : Refusal} → x ≡ Err e
+            → AfterMembers count (run (read_members_of rd v size count) d lim 8 used pooled) d lim used pooled (Err e) t t₂ p p₂
         unfolding then
         members-stopped {e} q = refuses (w.is ∙ rw (one_left, m.stopped e q rd (count - (i + 1))))
 
-        module _ {s : State} (q : x ≡ StepDone s) where
+        module _ {s : State} (q : x ≡ Ok s) where
           pub entered-within : s.at ≤ length d
           entered-within = (m.entered s q).within
 
-          module _ {y : Step} {t₃ p₃ : List ℕ}
+          module _ {y : Result State Refusal} {t₃ p₃ : List ℕ}
               (n : AfterType (run rd (take (length d - s.at) (drop s.at d)) lim 0 s.rows s.pooled) (take (length d - s.at) (drop s.at d)) lim s.rows s.pooled y t₂ t₃ p₂ p₃) where
-            pub members-refused : {e : Refusal} → y ≡ StepRefused e
-                → AfterMembers count (run (read_members_of rd v size count) d lim 8 used pooled) d lim used pooled (StepRefused e) t t₃ p p₃
+            pub members-refused : {e : Refusal} → y ≡ Err e
+                → AfterMembers count (run (read_members_of rd v size count) d lim 8 used pooled) d lim used pooled (Err e) t t₃ p p₃
             unfolding then
             members-refused {e} k =
                 refuses (w.is ∙ rw (one_left, (m.entered s q).is rd (count - (i + 1)), inner_no rd d _ s.at (part-all d s.at) lim s.rows s.pooled e (n.denied e k)))
 
-            pub members-turned : {z : State} → y ≡ StepDone z
+            pub members-turned : {z : State} → y ≡ Ok z
                 → Progress rd d lim v size count used pooled (i + 1) (s.at + z.at) z.rows z.pooled t t₃ p p₃
             members-turned {z} k = turned rd d lim v size count used pooled w more (m.entered s q) (n.done z k)

@@ -1,4 +1,5 @@
 -- What `Reads` says of `read`, in document 01's words.
+use Rattle.std.specs.Prelude.{Err, Ok, Result}
 use Prim.Native.Nat.{ℕ, ◌+◌, ◌*◌, ◌/◌, ◌<◌, ◌≤◌, min}
 use mathlib.Core.Path.{◌≡◌, refl, sym, ap, ◌∙◌}
 use mathlib.Core.Bool.{true}
@@ -13,7 +14,8 @@ use Rattle.refusal.specs.declared.Refusal.TheVariants.{Short, TooNew, BadClass, 
 use Rattle.format.specs.Bytes.{AllBytes, zeros, padded}
 use Rattle.format.specs.Datatype.{fixed_point, opaque, reference, Datatype, leaf, array, depth, row_count, pool_bytes}
 use Rattle.format.specs.Message.{message, versions, storable, carried, first_above}
-use Rattle.format.specs.Outcome.{Outcome, gives, refuses, outcome_number, outcome_values}
+use Rattle.refusal.specs.Refusal.{answer_number, answer_values}
+use Rattle.format.specs.Outcome.{Outcome, gives, refuses, outcome_number, outcome_values, answer_of}
 use Rattle.format.specs.Reading.{Answer, got, refused, Read, read_outcome_of, reading_into, reading, reads_back, table_after, pool_after}
 use Rattle.format.specs.Table.{WithinLimits, SetsOut, type_of, rows, max_rows, max_pool, table_of, pool_of}
 use Rattle.format.proofs.Cases.{U1, P, type_p, two_r, seven_zeros, computing}
@@ -25,19 +27,17 @@ use Rattle.format.proofs.Rows.{length-rows}
 use Rattle.format.proofs.Sure.{Sure, met}
 use Rattle.format.proofs.Table.{sets_out_of, type_of_complete}
 use Rattle.format.proofs.Bytes.{length-padded}
-use Rattle.reading.specs.declared.Reading.{Reading}
-use Rattle.reading.specs.declared.Reading.TheVariants.{Read as AnswerRead, Refused as AnswerRefused}
-use Rattle.reading.specs.Reads.{Reads, answer_of, reading_number, reading_values}
+use Rattle.reading.specs.Reads.{Reads}
 
 -- a refusal, with table and pool all zero
-pub record Refuses (e : Refusal) (table pool : List ℕ) (r : Reading) (table' pool' : List ℕ) : Type 0 where
-  pub answer : r ≡ AnswerRefused e
+pub record Refuses (e : Refusal) (table pool : List ℕ) (r : Result ℕ Refusal) (table' pool' : List ℕ) : Type 0 where
+  pub answer : r ≡ Err e
   pub table_is : table' ≡ zeros (length table)
   pub pool-is : pool' ≡ zeros (length pool)
 
 -- "The same type is the same rows and pool bytes, in number and order, with zeros after; its length is the count consumed"
-pub record GivesBack (t : Datatype) (consumed : ℕ) (table pool : List ℕ) (r : Reading) (table' pool' : List ℕ) : Type 0 where
-  pub answer : r ≡ AnswerRead consumed
+pub record GivesBack (t : Datatype) (consumed : ℕ) (table pool : List ℕ) (r : Result ℕ Refusal) (table' pool' : List ℕ) : Type 0 where
+  pub answer : r ≡ Ok consumed
   pub table_is : table' ≡ table_of (length table) t
   pub pool-is : pool' ≡ pool_of (length pool) t
 
@@ -69,7 +69,7 @@ pub record GivesType (limit : ℕ) (d table pool table' pool' : List ℕ) (n : �
   pub sets-out : SetsOut type table' pool'
   pub type-of : type_of table' pool' ≡ gives type
 
-module _ {limit : ℕ} {d table pool : List ℕ} {r : Reading} {table' pool' : List ℕ} (h : Reads limit d table pool r table' pool') where
+module _ {limit : ℕ} {d table pool : List ℕ} {r : Result ℕ Refusal} {table' pool' : List ℕ} (h : Reads limit d table pool r table' pool') where
   -- "15 or more is the Rust's reading": such a limit gives what 15 gives
   pub reads_as_at_15 : AllBytes d → 15 ≤ limit → Reads 15 d table pool r table' pool'
   reads_as_at_15 b l =
@@ -96,7 +96,7 @@ module _ {limit : ℕ} {d table pool : List ℕ} {r : Reading} {table' pool' : L
   gives_as y q = record { answer = rw q at h.answer; table_is = rw q at h.table_is; pool-is = rw q at h.pool-is }
 
   -- "A refused reading leaves table and pool all zero"
-  pub refused-leaves-zeros : (e : Refusal) → r ≡ AnswerRefused e → (table' ≡ zeros (length table)) × (pool' ≡ zeros (length pool))
+  pub refused-leaves-zeros : (e : Refusal) → r ≡ Err e → (table' ≡ zeros (length table)) × (pool' ≡ zeros (length pool))
   refused-leaves-zeros e q = go (reading limit (length table) (length pool) d) refl
     where
       go : (x : Outcome Read) → reading limit (length table) (length pool) d ≡ x → (table' ≡ zeros (length table)) × (pool' ≡ zeros (length pool))
@@ -116,7 +116,7 @@ module _ {limit : ℕ} {d table pool : List ℕ} {r : Reading} {table' pool' : L
           (ap length (rw k at h.table_is) ∙ length-padded _ _ f.0, ap length (rw k at h.pool-is) ∙ length-padded _ _ f.1)
       go (refuses f) k = (ap length (rw k at h.table_is) ∙ length-padded _ [] (omega arith), ap length (rw k at h.pool-is) ∙ length-padded _ [] (omega arith))
 
-  pub read_gives-type : (n : ℕ) → AllBytes d → r ≡ AnswerRead n → GivesType limit d table pool table' pool' n
+  pub read_gives-type : (n : ℕ) → AllBytes d → r ≡ Ok n → GivesType limit d table pool table' pool' n
   read_gives-type n b q = go (reading limit (length table) (length pool) d) refl
     where
       go : (x : Outcome Read) → reading limit (length table) (length pool) d ≡ x → GivesType limit d table pool table' pool' n
@@ -143,7 +143,7 @@ pub record Written (e : ℕ) (t : Datatype) (d behind table pool : List ℕ) : T
   pub rows_fit : 16 * row_count t ≤ length table
   pub pool-fits : length (pool_bytes t) ≤ length pool
 
-module _ {limit : ℕ} {d table pool : List ℕ} {r : Reading} {table' pool' : List ℕ} (h : Reads limit d table pool r table' pool') {e : ℕ} {t : Datatype} {behind : List ℕ} (w : Written e t d behind table pool) where
+module _ {limit : ℕ} {d table pool : List ℕ} {r : Result ℕ Refusal} {table' pool' : List ℕ} (h : Reads limit d table pool r table' pool') {e : ℕ} {t : Datatype} {behind : List ℕ} (w : Written e t d behind table pool) where
   back : reading limit (length table) (length pool) d ≡ reads_back (first_above limit (versions e t)) t (length (message e t))
   back = rw w.is (round_trip e limit (length table) (length pool) t behind w.edition.0 w.edition.1 w.may_be_stored w.may_be_carried w.within w.rows_fit w.pool-fits)
 
@@ -168,9 +168,9 @@ pub record ReadCase : Type 0 where
   -- 0 and the count consumed, or the refusal's number and values
   pub says : List ℕ
 
-pub record Answers (c : ReadCase) (r : Reading) (table' pool' : List ℕ) : Type 0 where
-  pub answer : r ≡ answer_of c.outcome
-  pub says_so : reading_number r ∷ reading_values r ≡ c.says
+pub record Answers (c : ReadCase) (r : Result ℕ Refusal) (table' pool' : List ℕ) : Type 0 where
+  pub answer : r ≡ answer_of (λ x. x.consumed) c.outcome
+  pub says_so : answer_number r ∷ answer_values (λ n. n ∷ []) r ≡ c.says
   pub table_is : table' ≡ table_after 1024 c.outcome
   pub pool-is : pool' ≡ pool_after 256 c.outcome
 
@@ -223,7 +223,7 @@ of-each [] k l m = absurd (Memᴰ.not-nil m)
 of-each {c} (d ∷ cs) k l m =
     ⊎_elim (λ (e : c ≡ d). rw e (cc, cc)) (λ (n : Memᴰ c cs). of-each cs (cc) (cc) n) (Memᴰ.cases_cons m)
 
-pub starred_readings_lem : {c : ReadCase} {table pool : List ℕ} {r : Reading} {table' pool' : List ℕ} → Memᴰ c starred_readings
+pub starred_readings_lem : {c : ReadCase} {table pool : List ℕ} {r : Result ℕ Refusal} {table' pool' : List ℕ} → Memᴰ c starred_readings
     → Reads c.limit c.message table pool r table' pool' → length table ≡ 1024 → length pool ≡ 256 → Answers c r table' pool'
 starred_readings_lem m h lt lp =
     let k = of-each starred_readings outcomes_computed spoken_computed m in

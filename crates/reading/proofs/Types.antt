@@ -1,4 +1,5 @@
 -- A type, by what its header opens: one law for each way out of the reader's function.
+use Rattle.std.specs.Prelude.{Err, Ok, Result}
 use mathlib.Core.Path.{◌≡◌, refl, sym, ap, ◌∙◌}
 use mathlib.Core.Bool.{true}
 use mathlib.Core.List.{List, ◌++◌}
@@ -18,11 +19,9 @@ use Rattle.format.proofs.Lists.{part-all, sets_more}
 use Rattle.reading.specs.declared.Base.{Base}
 use Rattle.reading.specs.declared.Limits.{Limits}
 use Rattle.reading.specs.declared.State.{State}
-use Rattle.reading.specs.declared.Step.{Step}
-use Rattle.reading.specs.declared.Step.TheVariants.{Done as StepDone, Refused as StepRefused}
 use Rattle.reading.specs.declared.Opened.{Opened}
-use Rattle.reading.specs.declared.Opened.TheVariants.{Leaf, Compound, Based, Refused as OpenRefused}
-use Rattle.reading.specs.Contract.{run, here, Ready, AfterType, AfterMembers, Opens, leaf_kind, read_leaf_of, read_compound, read_based, behind, dimensions_of_lem, OpensBased, BaseRead, Ended, Ends}
+use Rattle.reading.specs.declared.Opened.TheVariants.{Leaf, Compound, Based}
+use Rattle.reading.specs.Contract.{run, here, Ready, AfterType, AfterMembers, Heads, Opens, leaf_kind, read_leaf_of, read_compound, read_based, behind, dimensions_of_lem, OpensBased, BaseRead, Ended, Ends}
 use Rattle.reading.specs.Members.{CompoundEnds}
 use Rattle.reading.proofs.Contracts.{same, refuses, ready_at, sets-before, by_done, by_refused, not_done, not-refused}
 use Rattle.reading.proofs.Members.{LandedType}
@@ -31,12 +30,12 @@ use Rattle.reading.proofs.Steps.{type-deep, sized_no, sized-go, sized-zero, inne
 -- ---- a compound's own row
 
 module _ {used : ℕ} {h : Header} {count : ℕ} {inner : State} {t : List ℕ} where
-  pub compound_empty : h.size ≡ 0 → CompoundEnds used h count inner (StepRefused (ZeroSize h.class)) t t
+  pub compound_empty : h.size ≡ 0 → CompoundEnds used h count inner (Err (ZeroSize h.class)) t t
   compound_empty z =
       record { done = not_done _; denied = by_refused (λ e. (e ≡ ZeroSize h.class) × (h.size ≡ 0)) (refl, z) }
 
   pub compound-stored : {t' : List ℕ} → (h.size ≡ 0 → ⊥) → t' ≡ sets t (used * 16) (compound_row h.size count)
-      → CompoundEnds used h count inner (StepDone (record { at = inner.at; rows = inner.rows; pooled = inner.pooled; size = h.size })) t t'
+      → CompoundEnds used h count inner (Ok (record { at = inner.at; rows = inner.rows; pooled = inner.pooled; size = h.size })) t t'
   compound-stored {t'} z e =
       record {
         done = by_done (λ s. (s ≡ record { at = inner.at; rows = inner.rows; pooled = inner.pooled; size = h.size }) × (0 < h.size) × (t' ≡ sets t (used * 16) (compound_row h.size count))) (refl, omega arith, e);
@@ -45,42 +44,42 @@ module _ {used : ℕ} {h : Header} {count : ℕ} {inner : State} {t : List ℕ} 
 
 -- ---- what is known of an opened type, whatever the levels left
 
-module _ {d : List ℕ} {lim : Limits} {used pooled : ℕ} {o : Opened} (w : Opens d lim used pooled o) where
-  module _ {h : Header} (q : o ≡ Leaf h) where
+module _ {d : List ℕ} {lim : Limits} {used pooled : ℕ} {h : Header} {o : Opened} (w : Opens d lim used pooled h (Ok o)) where
+  module _ (q : o ≡ Leaf) where
     pub leaf-free : used < lim.rows
-    leaf-free = (w.leaf h q).free
+    leaf-free = (w.leaf (ap Ok q)).free
 
     pub leaf-long : 8 ≤ length d
-    leaf-long = (w.leaf h q).long
+    leaf-long = (w.leaf (ap Ok q)).long
 
     pub leaf-kind : leaf_kind (class_kind h.class) ≡ true
-    leaf-kind = (w.leaf h q).leaf
+    leaf-kind = (w.leaf (ap Ok q)).leaf
 
-  module _ {h : Header} {v : ℕ} (q : o ≡ Compound h v) where
+  module _ {v : ℕ} (q : o ≡ Compound v) where
     pub compound-free : used < lim.rows
-    compound-free = (w.compound h v q).free
+    compound-free = (w.compound v (ap Ok q)).free
 
     pub compound-long : 8 ≤ length d
-    compound-long = (w.compound h v q).long
+    compound-long = (w.compound v (ap Ok q)).long
 
     pub compound-ready : {t p : List ℕ} → Ready lim used pooled t p → Ready lim (used + 1) pooled t p
     compound-ready ready = ready_at (used + 1) pooled ready (omega (arith, compound-free)) ready.room refl refl
 
-  module _ {h : Header} {b : Base} (q : o ≡ Based h b) where
+  module _ {b : Base} (q : o ≡ Based b) where
     pub based-free : used < lim.rows
-    based-free = (w.based h b q).free
+    based-free = (w.based b (ap Ok q)).free
 
     pub based-within : b.from ≤ length d
-    based-within = (w.based h b q).within
+    based-within = (w.based b (ap Ok q)).within
 
     pub based-ready : {t p : List ℕ} → Ready lim used pooled t p → Ready lim (used + 1) b.place t p
-    based-ready ready = ready_at (used + 1) b.place ready (omega (arith, based-free)) (w.based h b q).room refl refl
+    based-ready ready = ready_at (used + 1) b.place ready (omega (arith, based-free)) (w.based b (ap Ok q)).room refl refl
 
     pub based_opened : OpensBased d lim used pooled h b
-    based_opened = w.based h b q
+    based_opened = w.based b (ap Ok q)
 
-pub based_read : {d : List ℕ} {lim : Limits} {used : ℕ} {b : Base} {inner : Answer Datatype} {r : Step} {t t₂ p p₂ : List ℕ} {s : State}
-    → AfterType inner (take (length d - b.from) (drop b.from d)) lim (used + 1) b.place r t t₂ p p₂ → r ≡ StepDone s → BaseRead d lim used b s t₂ p₂
+pub based_read : {d : List ℕ} {lim : Limits} {used : ℕ} {b : Base} {inner : Answer Datatype} {r : Result State Refusal} {t t₂ p p₂ : List ℕ} {s : State}
+    → AfterType inner (take (length d - b.from) (drop b.from d)) lim (used + 1) b.place r t t₂ p p₂ → r ≡ Ok s → BaseRead d lim used b s t₂ p₂
 based_read {s = s} n k =
     let l = n.done s k in
     record {
@@ -91,8 +90,8 @@ based_read {s = s} n k =
       place = omega (arith, l.pooled_are);
     }
 
-pub compound-filled : (used : ℕ) {d : List ℕ} {lim : Limits} {pooled count : ℕ} {inner : Answer Members} {r : Step} {t t₂ p p₂ : List ℕ} {s : State}
-    → AfterMembers count inner d lim (used + 1) pooled r t t₂ p p₂ → r ≡ StepDone s → used * 16 + 16 ≤ length t₂
+pub compound-filled : (used : ℕ) {d : List ℕ} {lim : Limits} {pooled count : ℕ} {inner : Answer Members} {r : Result State Refusal} {t t₂ p p₂ : List ℕ} {s : State}
+    → AfterMembers count inner d lim (used + 1) pooled r t t₂ p p₂ → r ≡ Ok s → used * 16 + 16 ≤ length t₂
 compound-filled used {s = s} m k =
     let l = m.done s k in
     let n = l.ready.filled in
@@ -105,26 +104,32 @@ level : {levels : ℕ} → (levels ≡ 0 → ⊥) → levels ≡ suc (levels - 1
 level more = omega arith
 
 module _ {d : List ℕ} {lim : Limits} {used pooled levels : ℕ} where
-  pub type-ends : {t t' p p' : List ℕ} → levels ≡ 0 → AfterType (run (read_type_of lim.version levels) d lim 0 used pooled) d lim used pooled (StepRefused TooDeep) t t' p p'
+  pub type-ends : {t t' p p' : List ℕ} → levels ≡ 0 → AfterType (run (read_type_of lim.version levels) d lim 0 used pooled) d lim used pooled (Err TooDeep) t t' p p'
   type-ends h = refuses (type-deep lim.version levels d lim used pooled h)
 
-  module _ {o : Opened} (more : levels ≡ 0 → ⊥) (w : Opens d lim used pooled o) where
+  pub type-headless : {r : Result Header Refusal} {e : Refusal} {t t' p p' : List ℕ} → (levels ≡ 0 → ⊥) → Heads d lim used r → r ≡ Err e
+      → AfterType (run (read_type_of lim.version levels) d lim 0 used pooled) d lim used pooled (Err e) t t' p p'
+  type-headless {e = e} more w q =
+      refuses (ap (λ (n : ℕ). run (read_type_of lim.version n) d lim 0 used pooled) (level more) ∙ w.shut e q (levels - 1) pooled)
+
+  module _ {h : Header} {r : Result Opened Refusal} (more : levels ≡ 0 → ⊥) (w : Opens d lim used pooled h r) where
     at_level : {x : Answer Datatype} → run (read_type_of lim.version (suc (levels - 1))) d lim 0 used pooled ≡ x → run (read_type_of lim.version levels) d lim 0 used pooled ≡ x
     at_level e = ap (λ (n : ℕ). run (read_type_of lim.version n) d lim 0 used pooled) (level more) ∙ e
 
-    pub type-shuts : {e : Refusal} {t t' p p' : List ℕ} → o ≡ OpenRefused e
-        → AfterType (run (read_type_of lim.version levels) d lim 0 used pooled) d lim used pooled (StepRefused e) t t' p p'
+    pub type-shuts : {e : Refusal} {t t' p p' : List ℕ} → r ≡ Err e
+        → AfterType (run (read_type_of lim.version levels) d lim 0 used pooled) d lim used pooled (Err e) t t' p p'
     type-shuts {e} q = refuses (at_level (w.shut e q (levels - 1)))
 
-    module _ {h : Header} (q : o ≡ Leaf h) where
-      pub type-leaf : {r : Step} {t t' p p' : List ℕ} → AfterType (run (sized h (read_leaf_of h)) d lim 8 (used + 1) pooled) d lim used pooled r t t' p p'
+  module _ {h : Header} {o : Opened} (more : levels ≡ 0 → ⊥) (w : Opens d lim used pooled h (Ok o)) where
+    module _ (q : o ≡ Leaf) where
+      pub type-leaf : {r : Result State Refusal} {t t' p p' : List ℕ} → AfterType (run (sized h (read_leaf_of h)) d lim 8 (used + 1) pooled) d lim used pooled r t t' p p'
           → AfterType (run (read_type_of lim.version levels) d lim 0 used pooled) d lim used pooled r t t' p p'
-      type-leaf = same (at_level ((w.leaf h q).is (levels - 1)))
+      type-leaf = same (at_level more w ((w.leaf (ap Ok q)).is (levels - 1)))
 
     -- ---- a compound
 
-    module _ {h : Header} {v : ℕ} (q : o ≡ Compound h v) where
-      module _ {count : ℕ} {r : Step} {t t₂ p p₂ : List ℕ} (counted : count ≡ count_of h)
+    module _ {v : ℕ} (q : o ≡ Compound v) where
+      module _ {count : ℕ} {r : Result State Refusal} {t t₂ p p₂ : List ℕ} (counted : count ≡ count_of h)
           (m : AfterMembers count (run (read_members_of (read_type_of lim.version (levels - 1)) v h.size count) d lim 8 (used + 1) pooled) d lim (used + 1) pooled r t t₂ p p₂) where
         compound_no : (e : Refusal) → run (read_members_of (read_type_of lim.version (levels - 1)) v h.size count) d lim 8 (used + 1) pooled ≡ refused e
             → run (read_compound (read_type_of lim.version (levels - 1)) h v) d lim 8 (used + 1) pooled ≡ refused e
@@ -136,14 +141,14 @@ module _ {d : List ℕ} {lim : Limits} {used pooled levels : ℕ} where
         unfolding read_compound then
         compound-is ms s k = rw (← counted, k)
 
-        pub compound-refuses : {e : Refusal} → r ≡ StepRefused e
-            → AfterType (run (read_type_of lim.version levels) d lim 0 used pooled) d lim used pooled (StepRefused e) t t₂ p p₂
+        pub compound-refuses : {e : Refusal} → r ≡ Err e
+            → AfterType (run (read_type_of lim.version levels) d lim 0 used pooled) d lim used pooled (Err e) t t₂ p p₂
         compound-refuses {e} k =
-            refuses (at_level ((w.compound h v q).is (levels - 1) ∙ sized_no h (read_compound (read_type_of lim.version (levels - 1)) h v) _ _ _ _ _ e (compound_no e (m.denied e k))))
+            refuses (at_level more w ((w.compound v (ap Ok q)).is (levels - 1) ∙ sized_no h (read_compound (read_type_of lim.version (levels - 1)) h v) _ _ _ _ _ e (compound_no e (m.denied e k))))
 
-        module _ {s : State} (k : r ≡ StepDone s) where
-          module _ {y : Step} {t₃ : List ℕ} (c : CompoundEnds used h count s y t₂ t₃) where
-            compound_landed : (z : State) → y ≡ StepDone z → LandedType (run (read_type_of lim.version levels) d lim 0 used pooled) d lim used pooled z t t₃ p p₂
+        module _ {s : State} (k : r ≡ Ok s) where
+          module _ {y : Result State Refusal} {t₃ : List ℕ} (c : CompoundEnds used h count s y t₂ t₃) where
+            compound_landed : (z : State) → y ≡ Ok z → LandedType (run (read_type_of lim.version levels) d lim 0 used pooled) d lim used pooled z t t₃ p p₂
             unfolding type_size_of rows pool_bytes row_count
             compound_landed z e =
                 let l = m.done s k in
@@ -153,7 +158,7 @@ module _ {d : List ℕ} {lim : Limits} {used pooled levels : ℕ} where
                 rw x.0 (record {
                   tree = compound h.size l.tree;
                   such = (refl, x.1);
-                  is = at_level ((w.compound h v q).is (levels - 1) ∙ sized-go h (read_compound (read_type_of lim.version (levels - 1)) h v) _ _ _ _ _ _ _ _ _ _ (compound-is l.tree s l.is) x.1);
+                  is = at_level more w ((w.compound v (ap Ok q)).is (levels - 1) ∙ sized-go h (read_compound (read_type_of lim.version (levels - 1)) h v) _ _ _ _ _ _ _ _ _ _ (compound-is l.tree s l.is) x.1);
                   rows_are = l.rows_are ∙ omega arith;
                   pooled_are = l.pooled_are;
                   table = stored ∙ sets-before head (member_rows pooled l.tree) t (used * 16) ((used + 1) * 16) (omega (arith, length-compound_row h.size (member_count_of l.tree)));
@@ -162,31 +167,31 @@ module _ {d : List ℕ} {lim : Limits} {used pooled levels : ℕ} where
                   near = l.near;
                 })
 
-            zero-sized : (e : Refusal) → y ≡ StepRefused e → run (read_type_of lim.version levels) d lim 0 used pooled ≡ refused e
+            zero-sized : (e : Refusal) → y ≡ Err e → run (read_type_of lim.version levels) d lim 0 used pooled ≡ refused e
             unfolding type_size_of
             zero-sized e j =
                 let x = c.denied e j in
-                at_level ((w.compound h v q).is (levels - 1) ∙ sized-zero h (read_compound (read_type_of lim.version (levels - 1)) h v) _ _ _ _ _ _ _ _ _ _ (compound-is (m.done s k).tree s (m.done s k).is) x.1 ∙ ap refused (sym x.0))
+                at_level more w ((w.compound v (ap Ok q)).is (levels - 1) ∙ sized-zero h (read_compound (read_type_of lim.version (levels - 1)) h v) _ _ _ _ _ _ _ _ _ _ (compound-is (m.done s k).tree s (m.done s k).is) x.1 ∙ ap refused (sym x.0))
 
             pub compound-ends : AfterType (run (read_type_of lim.version levels) d lim 0 used pooled) d lim used pooled y t t₃ p p₂
             compound-ends = record { done = compound_landed; denied = zero-sized }
 
     -- ---- a type over a base
 
-    module _ {h : Header} {b : Base} (q : o ≡ Based h b) where
-      module _ {r : Step} {t t₂ p p₂ : List ℕ}
+    module _ {b : Base} (q : o ≡ Based b) where
+      module _ {r : Result State Refusal} {t t₂ p p₂ : List ℕ}
           (n : AfterType (run (read_type_of lim.version (levels - 1)) (take (length d - b.from) (drop b.from d)) lim 0 (used + 1) b.place) (take (length d - b.from) (drop b.from d)) lim (used + 1) b.place r t t₂ p p₂) where
         based_no : (e : Refusal) → run (read_type_of lim.version (levels - 1)) (take (length d - b.from) (drop b.from d)) lim 0 (used + 1) b.place ≡ refused e
             → run (read_based (read_type_of lim.version (levels - 1)) h (dimensions_of_lem d b)) d lim b.from (used + 1) b.place ≡ refused e
         unfolding read_based then
         based_no e k = rw (inner_no (read_type_of lim.version (levels - 1)) d _ b.from (part-all d b.from) lim (used + 1) b.place e k)
 
-        pub based-refuses : {e : Refusal} → r ≡ StepRefused e
-            → AfterType (run (read_type_of lim.version levels) d lim 0 used pooled) d lim used pooled (StepRefused e) t t₂ p p₂
+        pub based-refuses : {e : Refusal} → r ≡ Err e
+            → AfterType (run (read_type_of lim.version levels) d lim 0 used pooled) d lim used pooled (Err e) t t₂ p p₂
         based-refuses {e} k =
-            refuses (at_level ((w.based h b q).is (levels - 1) ∙ sized_no h (read_based (read_type_of lim.version (levels - 1)) h (dimensions_of_lem d b)) _ _ _ _ _ e (based_no e (n.denied e k))))
+            refuses (at_level more w ((w.based b (ap Ok q)).is (levels - 1) ∙ sized_no h (read_based (read_type_of lim.version (levels - 1)) h (dimensions_of_lem d b)) _ _ _ _ _ e (based_no e (n.denied e k))))
 
-        module _ {s : State} (k : r ≡ StepDone s) where
+        module _ {s : State} (k : r ≡ Ok s) where
           base_landed : LandedType (run (read_type_of lim.version (levels - 1)) (take (length d - b.from) (drop b.from d)) lim 0 (used + 1) b.place) (take (length d - b.from) (drop b.from d)) lim (used + 1) b.place s t t₂ p p₂
           base_landed = n.done s k
 
@@ -201,18 +206,18 @@ module _ {d : List ℕ} {lim : Limits} {used pooled levels : ℕ} where
 
           at_base : {x : Answer Datatype} → run (sized h (behind h (dimensions_of_lem d b) (class_kind h.class) base_landed.tree)) d lim (b.from + s.at) s.rows s.pooled ≡ x
               → run (read_type_of lim.version levels) d lim 0 used pooled ≡ x
-          at_base e = at_level ((w.based h b q).is (levels - 1) ∙ sized-behind ∙ e)
+          at_base e = at_level more w ((w.based b (ap Ok q)).is (levels - 1) ∙ sized-behind ∙ e)
 
-          module _ {y : Step} {t₃ p₃ : List ℕ} (c : Ends d lim used pooled h (dimensions_of_lem d b) (b.from + s.at) s.rows s.pooled s.size y t₂ t₃ p₂ p₃) where
-            based_landed : (z : State) → y ≡ StepDone z → LandedType (run (read_type_of lim.version levels) d lim 0 used pooled) d lim used pooled z t t₃ p p₃
-            based_landed z e = stored (c.done z e l.tree (sym l.such.0) l.rows_are (omega (arith, l.pooled_are, (w.based h b q).place_is, rank_is)))
+          module _ {y : Result State Refusal} {t₃ p₃ : List ℕ} (c : Ends d lim used pooled h (dimensions_of_lem d b) (b.from + s.at) s.rows s.pooled s.size y t₂ t₃ p₂ p₃) where
+            based_landed : (z : State) → y ≡ Ok z → LandedType (run (read_type_of lim.version levels) d lim 0 used pooled) d lim used pooled z t t₃ p p₃
+            based_landed z e = stored (c.done z e l.tree (sym l.such.0) l.rows_are (omega (arith, l.pooled_are, (w.based b (ap Ok q)).place_is, rank_is)))
               where
                 l : LandedType (run (read_type_of lim.version (levels - 1)) (take (length d - b.from) (drop b.from d)) lim 0 (used + 1) b.place) (take (length d - b.from) (drop b.from d)) lim (used + 1) b.place s t t₂ p p₂
                 l = base_landed
 
                 stored : Ended d lim used pooled h (dimensions_of_lem d b) l.tree (b.from + s.at) s.rows s.pooled z t₂ t₃ p₂ p₃ → LandedType (run (read_type_of lim.version levels) d lim 0 used pooled) d lim used pooled z t t₃ p p₃
                 stored x =
-                    let place : b.place ≡ pooled + length x.before = (w.based h b q).place_is ∙ omega (arith, x.before-long, rank_is) in
+                    let place : b.place ≡ pooled + length x.before = (w.based b (ap Ok q)).place_is ∙ omega (arith, x.before-long, rank_is) in
                     let inside : sets t₂ (s.rows * 16) x.more ≡ sets t ((used + 1) * 16) (rows b.place l.tree ++ x.more) =
                     sets_more t (rows b.place l.tree) x.more ((used + 1) * 16) (s.rows * 16) l.table refl (omega (arith, l.rows_are, length-rows l.tree b.place)) in
                     let pooled-inside : sets p₂ s.pooled x.after ≡ sets p b.place (pool_bytes l.tree ++ x.after) =
@@ -235,7 +240,7 @@ module _ {d : List ℕ} {lim : Limits} {used pooled levels : ℕ} where
                       near = x.near;
                     }
 
-            based-denied : (e : Refusal) → y ≡ StepRefused e → run (read_type_of lim.version levels) d lim 0 used pooled ≡ refused e
+            based-denied : (e : Refusal) → y ≡ Err e → run (read_type_of lim.version levels) d lim 0 used pooled ≡ refused e
             based-denied e j = at_base (c.denied e j base_landed.tree (sym base_landed.such.0))
 
             pub based-ends : AfterType (run (read_type_of lim.version levels) d lim 0 used pooled) d lim used pooled y t t₃ p p₃

@@ -1,5 +1,5 @@
 -- What the functions of the reader ensure, by what they return.
-use Rattle.std.specs.Prelude.{◌≡◌, Bool, true, false, List, [], ◌∷◌, ◌++◌, ℕ, suc, ◌+◌, ◌-◌, ◌*◌, ◌≤◌, ◌<◌, eqb, length, take, drop}
+use Rattle.std.specs.Prelude.{◌≡◌, Bool, true, false, List, [], ◌∷◌, ◌++◌, ℕ, suc, ◌+◌, ◌-◌, ◌*◌, ◌≤◌, ◌<◌, eqb, length, take, drop, Err, Ok, Result}
 use Rattle.std.proofs.lemmas.List.Edits.{sets}
 use Rattle.refusal.specs.declared.Refusal.{Refusal}
 use Rattle.refusal.specs.declared.Refusal.TheVariants.{TooDeep}
@@ -11,13 +11,9 @@ use Rattle.format.specs.Reading.{Answer, got, refused, Reader, then, ◌>>=◌, 
 use Rattle.format.specs.Table.{Kind, is_leaf, isCompound, isEnumeration, isVariableLength, isArray, isUnknown, rows, member_rows, member_row, enum_rows, enum_member_row}
 use Rattle.reading.specs.declared.Limits.{Limits}
 use Rattle.reading.specs.declared.State.{State}
-use Rattle.reading.specs.declared.Step.{Step}
-use Rattle.reading.specs.declared.Step.TheVariants.{Done as StepDone, Refused as StepRefused}
-use Rattle.reading.specs.declared.Headed.{Headed}
-use Rattle.reading.specs.declared.Headed.TheVariants.{Head, Refused as HeadRefused}
 use Rattle.reading.specs.declared.Base.{Base}
 use Rattle.reading.specs.declared.Opened.{Opened}
-use Rattle.reading.specs.declared.Opened.TheVariants.{Leaf, Compound, Based, Refused as OpenRefused}
+use Rattle.reading.specs.declared.Opened.TheVariants.{Leaf, Compound, Based}
 
 -- a reader of the format at a place of the message d, with rows and pool bytes used
 abbrev pub run : {A : Type 0} → Reader A → List ℕ → Limits → (at used pooled : ℕ) → Answer A
@@ -49,16 +45,16 @@ pub record Landed {A : Type 0} (words : ℕ → A → List ℕ) (bytes : A → L
   pub near : s.at ≤ length d + 7
 
 -- by what is returned; a refusal says nothing of the table and the pool
-pub record After {A : Type 0} (words : ℕ → A → List ℕ) (bytes : A → List ℕ) (count : A → ℕ) (Q : A → State → Type 0) (o : Answer A) (d : List ℕ) (lim : Limits) (used pooled : ℕ) (r : Step) (t t' p p' : List ℕ) : Type 0 where
-  pub done : (s : State) → r ≡ StepDone s → Landed words bytes count Q o d lim used pooled s t t' p p'
-  pub denied : (e : Refusal) → r ≡ StepRefused e → o ≡ refused e
+pub record After {A : Type 0} (words : ℕ → A → List ℕ) (bytes : A → List ℕ) (count : A → ℕ) (Q : A → State → Type 0) (o : Answer A) (d : List ℕ) (lim : Limits) (used pooled : ℕ) (r : Result State Refusal) (t t' p p' : List ℕ) : Type 0 where
+  pub done : (s : State) → r ≡ Ok s → Landed words bytes count Q o d lim used pooled s t t' p p'
+  pub denied : (e : Refusal) → r ≡ Err e → o ≡ refused e
 
 -- a type and its size, which is not 0
-abbrev pub AfterType : Answer Datatype → List ℕ → Limits → (used pooled : ℕ) → Step → (t t' p p' : List ℕ) → Type 0
+abbrev pub AfterType : Answer Datatype → List ℕ → Limits → (used pooled : ℕ) → Result State Refusal → (t t' p p' : List ℕ) → Type 0
 AfterType = After rows pool_bytes row_count (λ t s. (s.size ≡ type_size_of t) × (0 < type_size_of t))
 
 -- so many members
-abbrev pub AfterMembers : (count : ℕ) → Answer Members → List ℕ → Limits → (used pooled : ℕ) → Step → (t t' p p' : List ℕ) → Type 0
+abbrev pub AfterMembers : (count : ℕ) → Answer Members → List ℕ → Limits → (used pooled : ℕ) → Result State Refusal → (t t' p p' : List ℕ) → Type 0
 AfterMembers k = After member_rows member_pool member_row_count (λ ms s. member_count_of ms ≡ k)
 
 -- ---- before a nested message
@@ -117,9 +113,9 @@ pub record Begun (d : List ℕ) (lim : Limits) (used : ℕ) (h : Header) : Type 
   pub long : 8 ≤ length d
   pub free : used < lim.rows
 
-pub record Heads (d : List ℕ) (lim : Limits) (used : ℕ) (r : Headed) : Type 0 where
-  pub begun : (h : Header) → r ≡ Head h → Begun d lim used h
-  pub shut : (e : Refusal) → r ≡ HeadRefused e → (n pooled : ℕ) → run (read_type_of lim.version (suc n)) d lim 0 used pooled ≡ refused e
+pub record Heads (d : List ℕ) (lim : Limits) (used : ℕ) (r : Result Header Refusal) : Type 0 where
+  pub begun : (h : Header) → r ≡ Ok h → Begun d lim used h
+  pub shut : (e : Refusal) → r ≡ Err e → (n pooled : ℕ) → run (read_type_of lim.version (suc n)) d lim 0 used pooled ≡ refused e
 
 pub record OpensLeaf (d : List ℕ) (lim : Limits) (used pooled : ℕ) (h : Header) : Type 0 where
   pub is : (n : ℕ) → run (read_type_of lim.version (suc n)) d lim 0 used pooled ≡ run (sized h (read_leaf_of h)) d lim 8 (used + 1) pooled
@@ -155,11 +151,11 @@ pub record OpensBased (d : List ℕ) (lim : Limits) (used pooled : ℕ) (h : Hea
   pub room : b.place ≤ lim.pool
   pub free : used < lim.rows
 
-pub record Opens (d : List ℕ) (lim : Limits) (used pooled : ℕ) (r : Opened) : Type 0 where
-  pub leaf : (h : Header) → r ≡ Leaf h → OpensLeaf d lim used pooled h
-  pub compound : (h : Header) (v : ℕ) → r ≡ Compound h v → OpensCompound d lim used pooled h v
-  pub based : (h : Header) (b : Base) → r ≡ Based h b → OpensBased d lim used pooled h b
-  pub shut : (e : Refusal) → r ≡ OpenRefused e → (n : ℕ) → run (read_type_of lim.version (suc n)) d lim 0 used pooled ≡ refused e
+pub record Opens (d : List ℕ) (lim : Limits) (used pooled : ℕ) (h : Header) (r : Result Opened Refusal) : Type 0 where
+  pub leaf : r ≡ Ok Leaf → OpensLeaf d lim used pooled h
+  pub compound : (v : ℕ) → r ≡ Ok (Compound v) → OpensCompound d lim used pooled h v
+  pub based : (b : Base) → r ≡ Ok (Based b) → OpensBased d lim used pooled h b
+  pub shut : (e : Refusal) → r ≡ Err e → (n : ℕ) → run (read_type_of lim.version (suc n)) d lim 0 used pooled ≡ refused e
 
 -- ---- a member
 
@@ -176,9 +172,9 @@ pub record Entered (d : List ℕ) (lim : Limits) (v size at used pooled : ℕ) (
   pub ready : Ready lim s.rows s.pooled t' p'
   pub within : s.at ≤ length d
 
-pub record Enters (d : List ℕ) (lim : Limits) (v size at used pooled : ℕ) (r : Step) (t t' p p' : List ℕ) : Type 0 where
-  pub entered : (s : State) → r ≡ StepDone s → Entered d lim v size at used pooled s t t' p p'
-  pub stopped : (e : Refusal) → r ≡ StepRefused e → (rd : Reader Datatype) (k : ℕ) → run (read_members_of rd v size (suc k)) d lim at used pooled ≡ refused e
+pub record Enters (d : List ℕ) (lim : Limits) (v size at used pooled : ℕ) (r : Result State Refusal) (t t' p p' : List ℕ) : Type 0 where
+  pub entered : (s : State) → r ≡ Ok s → Entered d lim v size at used pooled s t t' p p'
+  pub stopped : (e : Refusal) → r ≡ Err e → (rd : Reader Datatype) (k : ℕ) → run (read_members_of rd v size (suc k)) d lim at used pooled ≡ refused e
 
 -- ---- an enumeration's members
 
@@ -194,9 +190,9 @@ pub record Named (d : List ℕ) (lim : Limits) (v width at used pooled : ℕ) (s
   pub room : s.pooled ≤ lim.pool
   pub near : s.at ≤ length d + 7
 
-pub record Names (d : List ℕ) (lim : Limits) (v width at used pooled : ℕ) (r : Step) (t t' p p' : List ℕ) : Type 0 where
-  pub named : (s : State) → r ≡ StepDone s → Named d lim v width at used pooled s t t' p p'
-  pub stopped : (e : Refusal) → r ≡ StepRefused e → run (read_name_of v) d lim at used pooled ≡ refused e
+pub record Names (d : List ℕ) (lim : Limits) (v width at used pooled : ℕ) (r : Result State Refusal) (t t' p p' : List ℕ) : Type 0 where
+  pub named : (s : State) → r ≡ Ok s → Named d lim v width at used pooled s t t' p p'
+  pub stopped : (e : Refusal) → r ≡ Err e → run (read_name_of v) d lim at used pooled ≡ refused e
 
 -- rows of names whose values have one width
 unfoldable pub name_rows : (width place : ℕ) → List (List ℕ) → List ℕ
@@ -208,7 +204,7 @@ joined_names [] = []
 joined_names (b ∷ bs) = b ++ joined_names bs
 
 -- so many names
-abbrev pub AfterNames : (count width : ℕ) → Answer (List (List ℕ)) → List ℕ → Limits → (used pooled : ℕ) → Step → (t t' p p' : List ℕ) → Type 0
+abbrev pub AfterNames : (count width : ℕ) → Answer (List (List ℕ)) → List ℕ → Limits → (used pooled : ℕ) → Result State Refusal → (t t' p p' : List ℕ) → Type 0
 AfterNames k w = After (name_rows w) joined_names length (λ bs s. length bs ≡ k)
 
 -- values, which take no rows
@@ -224,12 +220,12 @@ pub record Valued (o : Answer (List EnumMember)) (bs : List (List ℕ)) (width :
   pub room : s.pooled ≤ lim.pool
   pub near : s.at ≤ length d + 7
 
-pub record Values (bs : List (List ℕ)) (o : Answer (List EnumMember)) (width : ℕ) (d : List ℕ) (lim : Limits) (used pooled : ℕ) (r : Step) (p p' : List ℕ) : Type 0 where
-  pub done : (s : State) → r ≡ StepDone s → Valued o bs width d lim used pooled s p p'
-  pub denied : (e : Refusal) → r ≡ StepRefused e → o ≡ refused e
+pub record Values (bs : List (List ℕ)) (o : Answer (List EnumMember)) (width : ℕ) (d : List ℕ) (lim : Limits) (used pooled : ℕ) (r : Result State Refusal) (p p' : List ℕ) : Type 0 where
+  pub done : (s : State) → r ≡ Ok s → Valued o bs width d lim used pooled s p p'
+  pub denied : (e : Refusal) → r ≡ Err e → o ≡ refused e
 
 -- names and values together: rows behind rows, names and values behind what is in the pool
-abbrev pub AfterEnum : (count : ℕ) → Answer (List EnumMember) → List ℕ → Limits → (used pooled : ℕ) → Step → (t t' p p' : List ℕ) → Type 0
+abbrev pub AfterEnum : (count : ℕ) → Answer (List EnumMember) → List ℕ → Limits → (used pooled : ℕ) → Result State Refusal → (t t' p p' : List ℕ) → Type 0
 AfterEnum k = After enum_rows (λ ms. enum_names ms ++ enum_values ms) length (λ ms s. length ms ≡ k)
 
 -- ---- behind a nested message
@@ -265,8 +261,8 @@ pub record Ended (d : List ℕ) (lim : Limits) (used pooled : ℕ) (h : Header) 
   pub near : s.at ≤ length d + 7
 
 -- for every base of this size whose rows and pool bytes end where the state says
-pub record Ends (d : List ℕ) (lim : Limits) (used pooled : ℕ) (h : Header) (ds : List ℕ) (at rows₀ pooled₀ size : ℕ) (r : Step) (t t' p p' : List ℕ) : Type 0 where
-  pub done : (s : State) → r ≡ StepDone s → (base : Datatype) → type_size_of base ≡ size → rows₀ ≡ used + 1 + row_count base → pooled₀ ≡ pooled + 4 * length ds + length (pool_bytes base)
+pub record Ends (d : List ℕ) (lim : Limits) (used pooled : ℕ) (h : Header) (ds : List ℕ) (at rows₀ pooled₀ size : ℕ) (r : Result State Refusal) (t t' p p' : List ℕ) : Type 0 where
+  pub done : (s : State) → r ≡ Ok s → (base : Datatype) → type_size_of base ≡ size → rows₀ ≡ used + 1 + row_count base → pooled₀ ≡ pooled + 4 * length ds + length (pool_bytes base)
       → Ended d lim used pooled h ds base at rows₀ pooled₀ s t t' p p'
-  pub denied : (e : Refusal) → r ≡ StepRefused e → (base : Datatype) → type_size_of base ≡ size
+  pub denied : (e : Refusal) → r ≡ Err e → (base : Datatype) → type_size_of base ≡ size
       → run (sized h (behind h ds (class_kind h.class) base)) d lim at rows₀ pooled₀ ≡ refused e

@@ -1,5 +1,5 @@
 -- A compound's members and its own row.
-use Rattle.std.specs.Prelude.{◌≡◌, List, ℕ, ◌+◌, ◌-◌, ◌*◌, ◌≤◌, ◌<◌, length}
+use Rattle.std.specs.Prelude.{◌≡◌, List, ℕ, ◌+◌, ◌-◌, ◌*◌, ◌≤◌, ◌<◌, length, Err, Ok, Result}
 use Rattle.std.proofs.lemmas.List.Edits.{sets}
 use Rattle.refusal.specs.declared.Refusal.{Refusal}
 use Rattle.refusal.specs.declared.Refusal.TheVariants.{ZeroSize}
@@ -9,14 +9,12 @@ use Rattle.format.specs.Reading.{Reader, got, then, read_members_of}
 use Rattle.format.specs.Table.{compound_row, member_rows}
 use Rattle.reading.specs.declared.Limits.{Limits}
 use Rattle.reading.specs.declared.State.{State}
-use Rattle.reading.specs.declared.Step.{Step}
-use Rattle.reading.specs.declared.Step.TheVariants.{Done as StepDone, Refused as StepRefused}
 use Rattle.reading.specs.Contract.{run, Ready}
 
 -- a compound's own row is stored, or its size is 0
-pub record CompoundEnds (used : ℕ) (h : Header) (count : ℕ) (inner : State) (r : Step) (t t' : List ℕ) : Type 0 where
-  pub done : (s : State) → r ≡ StepDone s → (s ≡ record { at = inner.at; rows = inner.rows; pooled = inner.pooled; size = h.size }) × (0 < h.size) × (t' ≡ sets t (used * 16) (compound_row h.size count))
-  pub denied : (e : Refusal) → r ≡ StepRefused e → (e ≡ ZeroSize h.class) × (h.size ≡ 0)
+pub record CompoundEnds (used : ℕ) (h : Header) (count : ℕ) (inner : State) (r : Result State Refusal) (t t' : List ℕ) : Type 0 where
+  pub done : (s : State) → r ≡ Ok s → (s ≡ record { at = inner.at; rows = inner.rows; pooled = inner.pooled; size = h.size }) × (0 < h.size) × (t' ≡ sets t (used * 16) (compound_row h.size count))
+  pub denied : (e : Refusal) → r ≡ Err e → (e ≡ ZeroSize h.class) × (h.size ≡ 0)
 
 -- members behind members
 unfoldable pub join_members : Members → Members → Members

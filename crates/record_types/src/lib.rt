@@ -1,7 +1,6 @@
 // For the programs that run cases of blocks of records: messages of the types that the records are of, and a type read behind the label of a case.
 #![tactic(auto)]
 
-use reading::Reading;
 use show::{refusal_line, text};
 
 // Document 01's P: a U1, a byte that no field owns, and a U2.
@@ -27,12 +26,9 @@ pub const SEQUENCE: [u8; 20] =
 pub fn read_labelled(label: &[u8], message: &[u8], table: &mut [u32], pool: &mut [u8]) -> bool {
     text(label);
     text(b": ");
-    let got = reader::read(message, 15, table, pool);
-    match got {
-        Reading::Refused(e) => {
-            refusal_line(e);
-            false
-        }
-        Reading::Read(_) => true,
+    let read = reader::read(message, 15, table, pool);
+    if let Err(e) = read {
+        refusal_line(e);
     }
+    read.is_ok()
 }

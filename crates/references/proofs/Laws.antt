@@ -1,95 +1,70 @@
 -- Laws of the slots outside a record, of products that stop, of 8-byte numbers and of the references' stores.
-use Prim.Native.Nat.{ℕ, zero, suc, ◌+◌, ◌*◌, ◌/◌, ◌^◌, ◌<◌, ◌≤◌, min}
+use Rattle.std.specs.Prelude.{Ok, Err}
+use Rattle.std.specs.Int.{from_le_bytes}
+use Prim.Native.Nat.{ℕ, zero, suc, ◌+◌, ◌-◌, ◌*◌, ◌/◌, ◌<◌, ◌≤◌, min}
 use mathlib.Core.Path.{◌≡◌, refl, sym, ap, ◌∙◌}
 use mathlib.Core.Bool.{Bool, true, false}
 use mathlib.Core.List.{List, [], ◌∷◌, ◌++◌, append-nil, append_assoc}
-use native.Mathlib.Nat.{add-zero, mul-zero, suc-mul, div-lt_iff_lt-mul, le-div_iff_mul-le, mul-le-mul_right}
+use native.Mathlib.Nat.{add-zero, suc-mul, mul-le-mul_right}
 use native.Mathlib.Numerals.{add-one}
 use native.Mathlib.Omega.{arith}
-use lib.ListN.{length, get_or, take, drop, set}
+use lib.ListN.{length, get_or, take, drop, set, length-take, length-drop}
 use lib.Seq.{sets, drop-cons, take_all}
 use lib.Dec.{leb}
-use mir.Syntax.{w8, w64}
+use mir.Syntax.{w64}
 use mir.Val.{Fits}
 use borrow.Author.Tests.{lt-ltb, le-ltb, le-leb, lt-leb}
+use Rattle.refusal.specs.declared.Refusal.{Refusal}
 use Rattle.refusal.specs.declared.Refusal.TheVariants.{SlotOutside, NoRoom}
 use Rattle.format.specs.Bytes.{number_from}
-use Rattle.format.specs.Outcome.{Outcome, gives, refuses, unless, needed, outcome_number, outcome_values}
-use Rattle.format.specs.Slots.{References as Found-as-References, shifted, entries, some_outside_of, record_size_of, record_count_of, values_at, reference_places, referencing}
+use Rattle.format.specs.Outcome.{gives, refuses, unless, needed}
+use Rattle.format.specs.Slots.{References, shifted, entries, some_outside_of, record_size_of, record_count_of, values_at, reference_places, referencing}
+use Rattle.format.proofs.Outcomes.{answers-given, answers-refused}
 use Rattle.format.proofs.Slots.{length-shifted, length-entries, length-places, length-values, value-at, get_d_shifted, slot-inside}
 use Rattle.format.proofs.Lists.{sets_more, sets-front, sets-take}
-use Rattle.primitives.proofs.Laws.{byte_more}
-use Rattle.references.specs.References.{ReferencesAre, references_number, references_values, answer_of, places_after, values_after}
-use Rattle.references.specs.declared.References.{References}
-use Rattle.references.specs.declared.References.TheVariants.{Found, Refused}
+use Rattle.references.specs.References.{references_values, ReferencesAre, places_after, values_after}
 
 -- ---- a slot outside a record
 
 outside_cons : (n : ℕ) (ss : List ℕ) (i : ℕ) → i < length ss → some_outside_of n (drop i ss) ≡ some_outside_of n (get_or ss i 0 ∷ drop (suc i) ss)
 outside_cons n ss i h = ap (some_outside_of n) (drop-cons ss i 0 h)
 
-pub outside-here : (n : ℕ) (ss : List ℕ) (i : ℕ) → i < length ss → n < get_or ss i 0 + 8 → true ≡ some_outside_of n (drop i ss)
+pub outside-here : (n : ℕ) (ss : List ℕ) (i : ℕ) → i < length ss → n - get_or ss i 0 < 8 → some_outside_of n (drop i ss) ≡ true
 unfolding some_outside_of
-outside-here n ss i h g = sym (outside_cons n ss i h ∙ rw (lt-ltb n (get_or ss i 0 + 8) g))
+outside-here n ss i h g = outside_cons n ss i h ∙ rw (lt-ltb n (get_or ss i 0 + 8) (omega arith))
 
-pub outside-next : (n : ℕ) (ss : List ℕ) (i : ℕ) → i < length ss → get_or ss i 0 + 8 ≤ n → some_outside_of n (drop i ss) ≡ some_outside_of n (drop (i + 1) ss)
+pub outside-next : (n : ℕ) (ss : List ℕ) (i : ℕ) → i < length ss → 8 ≤ n - get_or ss i 0 → some_outside_of n (drop i ss) ≡ some_outside_of n (drop (i + 1) ss)
 unfolding some_outside_of
-outside-next n ss i h g = outside_cons n ss i h ∙ rw (le-ltb n (get_or ss i 0 + 8) g, add-one)
+outside-next n ss i h g = outside_cons n ss i h ∙ rw (le-ltb n (get_or ss i 0 + 8) (omega arith), add-one)
 
-pub outside-none : (n : ℕ) (ss : List ℕ) (i : ℕ) → length ss ≤ i → false ≡ some_outside_of n (drop i ss)
+pub outside-none : (n : ℕ) (ss : List ℕ) (i : ℕ) → length ss ≤ i → some_outside_of n (drop i ss) ≡ false
 unfolding some_outside_of
 outside-none n [] zero h = refl
 outside-none n [] (suc i) h = refl
 outside-none n (s ∷ ss) zero h = absurd (omega arith)
 outside-none n (s ∷ ss) (suc i) h = outside-none n ss i (omega arith)
 
--- ---- a product that stops
-
-pub times_none : (a b : ℕ) → b ≡ 0 → 0 ≡ min (a * b) 18446744073709551615
-times_none a b h = rw (h, mul-zero) (omega arith)
-
-some_divisor : (d : ℕ) → (d ≡ 0 → ⊥) → 0 < d
-some_divisor zero g = absurd (g refl)
-some_divisor (suc d) g = omega arith
-
-module _ (a b : ℕ) (h : b ≡ 0 → ⊥) where
-  pub times_past : 18446744073709551615 / b < a → 18446744073709551615 ≡ min (a * b) 18446744073709551615
-  times_past g = let p : 18446744073709551615 < a * b = (div-lt_iff_lt-mul (some_divisor b h)).0 g in omega arith
-
-  pub times_fits : a ≤ 18446744073709551615 / b → a * b ≤ 18446744073709551615
-  times_fits g = (le-div_iff_mul-le (some_divisor b h)).0 g
-
-  pub times_whole : a ≤ 18446744073709551615 / b → a * b ≡ min (a * b) 18446744073709551615
-  times_whole g = let p : a * b ≤ 18446744073709551615 = times_fits g in omega arith
-
 -- ---- numbers of 8 bytes
 
--- fewer than eight bytes leave room for one more
-byte_room : (k : ℕ) → k < 8 → 256 ^ k ≤ 72057594037927936
-byte_room zero h = omega arith
-byte_room (suc zero) h = omega arith
-byte_room (suc (suc zero)) h = omega arith
-byte_room (suc (suc (suc zero))) h = omega arith
-byte_room (suc (suc (suc (suc zero)))) h = omega arith
-byte_room (suc (suc (suc (suc (suc zero))))) h = omega arith
-byte_room (suc (suc (suc (suc (suc (suc zero)))))) h = omega arith
-byte_room (suc (suc (suc (suc (suc (suc (suc zero))))))) h = omega arith
-byte_room (suc (suc (suc (suc (suc (suc (suc (suc k)))))))) h = absurd (omega arith)
+-- std's number of eight bytes is the definitions'
+eight : (s : List ℕ) → length s ≡ 8 → from_le_bytes w64 s ≡ number_from s
+unfolding number_from
+eight (a ∷ b ∷ c ∷ d ∷ e ∷ f ∷ g ∷ h ∷ []) l = omega arith
+eight [] l = absurd (omega arith)
+eight (a ∷ []) l = absurd (omega arith)
+eight (a ∷ b ∷ []) l = absurd (omega arith)
+eight (a ∷ b ∷ c ∷ []) l = absurd (omega arith)
+eight (a ∷ b ∷ c ∷ d ∷ []) l = absurd (omega arith)
+eight (a ∷ b ∷ c ∷ d ∷ e ∷ []) l = absurd (omega arith)
+eight (a ∷ b ∷ c ∷ d ∷ e ∷ f ∷ []) l = absurd (omega arith)
+eight (a ∷ b ∷ c ∷ d ∷ e ∷ f ∷ g ∷ []) l = absurd (omega arith)
+eight (a ∷ b ∷ c ∷ d ∷ e ∷ f ∷ g ∷ h ∷ x ∷ xs) l = absurd (omega arith)
 
--- a byte, and a number of fewer than eight bytes before it
-module _ (block : List ℕ) (j : ℕ) (bytes : (i : ℕ) → Fits w8 (get_or block i 0)) where
-  pub byte_fits : Fits w64 (get_or block j 0)
-  byte_fits = record { fits = omega (arith, bytes j) }
-
-  module _ (k v : ℕ) (h : k < 8) (l : v < 256 ^ k) where
-    pub number_fits : Fits w64 (256 * v + get_or block j 0)
-    number_fits = record { fits = omega (arith, bytes j, byte_room k h) }
-
-    pub number-below : 256 * v + get_or block j 0 < 256 ^ (k + 1)
-    number-below = byte_more k v (get_or block j 0) (omega (arith, bytes j)) l
-
-pub shifted_fits : (k v : ℕ) → k < 8 → v < 256 ^ k → Fits w64 (256 * v)
-shifted_fits k v h l = record { fits = omega (arith, byte_room k h) }
+-- that of the eight at a place, copied
+pub eight-at : (s block : List ℕ) (place r : ℕ) → r ≡ from_le_bytes w64 s → s ≡ take (place + 8 - place) (drop place block) → place + 8 ≤ length block → r ≡ number_from (take 8 (drop place block))
+eight-at s block place r q e h =
+    let k : place + 8 - place ≡ 8 = omega arith in
+    q ∙ rw (e, k) (eight (take 8 (drop place block)) (omega (arith, length-take 8 (drop place block), length-drop place block)))
 
 -- ---- the references of one record
 
@@ -187,20 +162,17 @@ slot_in_block r n size m ss h g o i k = omega (arith, record_within r n size m h
 pub none-outside : (size : ℕ) (ss : List ℕ) (flag : Bool) → flag ≡ some_outside_of size ss → flag ≡ false → some_outside_of size ss ≡ false
 none-outside size ss flag o f = sym o ∙ f
 
--- an answer that is the definition's has its number and values
-told : (o : Outcome Found-as-References) {r : References} → r ≡ answer_of o → (references_number r ≡ outcome_number o) × (references_values r ≡ outcome_values (λ x. length x.places ∷ []) o)
-unfolding answer_of references_number references_values outcome_number outcome_values
-told (gives x) e = (ap references_number e, ap references_values e)
-told (refuses x) e = (ap references_number e, ap references_values e)
+refused : (block ss p v : List ℕ) (n : ℕ) (e : Refusal) → referencing block n ss (min (length p) (length v)) ≡ refuses e → ReferencesAre block n ss (Err e) p p v v
+unfolding places_after values_after
+refused block ss p v n e h = record { answers = answers-refused (λ (x : References). length x.places) references_values _ e (Err e) h refl; places-are = rw h; values-are = rw h }
 
 module _ (block ss p v : List ℕ) (n size : ℕ) (flag : Bool) (z : size ≡ record_size_of n) (o : flag ≡ some_outside_of size ss) where
-  pub is-outside : flag ≡ true → ReferencesAre block n ss (Refused SlotOutside) p p v v
-  unfolding referencing unless answer_of places_after values_after
-  is-outside f =
-      let q : some_outside_of (record_size_of n) ss ≡ true = rw (← z) (sym o ∙ f) in
-      let a : Refused SlotOutside ≡ answer_of (referencing block n ss (min (length p) (length v))) = rw q in
-      let w = told _ a in
-      record { answer = a; answer-number = w.0; answer-values = w.1; places-are = rw q; values-are = rw q }
+  refuses-outside : flag ≡ true → referencing block n ss (min (length p) (length v)) ≡ refuses SlotOutside
+  unfolding referencing unless
+  refuses-outside f = let q : some_outside_of (record_size_of n) ss ≡ true = rw (← z) (sym o ∙ f) in rw q
+
+  pub is-outside : flag ≡ true → ReferencesAre block n ss (Err SlotOutside) p p v v
+  is-outside f = refused block ss p v n SlotOutside (refuses-outside f)
 
   module _ (f : flag ≡ false) (records wanted room : ℕ) (c : records ≡ length block / size) (w : wanted ≡ min (records * length ss) 18446744073709551615) (m : room ≡ min (length p) (length v)) where
     inside : some_outside_of (record_size_of n) ss ≡ false
@@ -210,33 +182,38 @@ module _ (block ss p v : List ℕ) (n size : ℕ) (flag : Bool) (z : size ≡ re
     unfolding record_count_of
     counted = c ∙ rw z
 
-    pub is_no_room : room < wanted → ReferencesAre block n ss (Refused (NoRoom wanted)) p p v v
-    unfolding referencing unless needed answer_of places_after values_after
-    is_no_room g =
+    refuses-no_room : room < wanted → referencing block n ss (min (length p) (length v)) ≡ refuses (NoRoom wanted)
+    unfolding referencing unless needed
+    refuses-no_room g =
         let q : leb (record_count_of block n * length ss) (min (length p) (length v)) ≡ false = rw (← counted) (lt-leb (records * length ss) (min (length p) (length v)) (omega arith)) in
-        let a : Refused (NoRoom wanted) ≡ answer_of (referencing block n ss (min (length p) (length v))) = rw (inside, q, w, counted) in
-        let t = told _ a in
-        record { answer = a; answer-number = t.0; answer-values = t.1; places-are = rw (inside, q); values-are = rw (inside, q) }
+        rw (inside, q, w, counted)
+
+    pub is_no_room : room < wanted → ReferencesAre block n ss (Err (NoRoom wanted)) p p v v
+    is_no_room g = refused block ss p v n (NoRoom wanted) (refuses-no_room g)
 
     module _ (r : length p * 8 < 9223372036854775808) (g : wanted ≤ room) where
       enough : records * length ss ≤ room
       enough = omega arith
 
-      pub is_found : (p' v' : List ℕ) → p' ≡ sets p 0 (entries size ss 0 records) → v' ≡ sets v 0 (values_at block (entries size ss 0 records))
-          → ReferencesAre block n ss (Found wanted) p p' v v'
-      unfolding referencing unless answer_of places_after values_after
-      is_found p' v' e d =
+      found : References
+      found = record { places = reference_places block n ss; values = values_at block (reference_places block n ss) }
+
+      gives-found : referencing block n ss (min (length p) (length v)) ≡ gives found
+      unfolding referencing unless found
+      gives-found =
           let q : leb (record_count_of block n * length ss) (min (length p) (length v)) ≡ true = rw (← counted) (le-leb (records * length ss) (min (length p) (length v)) (omega (arith, enough))) in
+          rw (inside, q)
+
+      pub is_found : (p' v' : List ℕ) → p' ≡ sets p 0 (entries size ss 0 records) → v' ≡ sets v 0 (values_at block (entries size ss 0 records))
+          → ReferencesAre block n ss (Ok wanted) p p' v v'
+      unfolding places_after values_after found
+      is_found p' v' e d =
           let ps : entries size ss 0 records ≡ reference_places block n ss = unfold reference_places in rw (z, counted) in
           let k : length (reference_places block n ss) ≡ records * length ss = length-places block n ss ∙ rw (← counted) in
           let vk : length (values_at block (reference_places block n ss)) ≡ records * length ss = length-values block (reference_places block n ss) ∙ k in
           let s : wanted ≡ length (reference_places block n ss) = omega (arith, enough) in
-          let a : Found wanted ≡ answer_of (referencing block n ss (min (length p) (length v))) = rw (inside, q) (ap Found s) in
-          let t = told _ a in
           record {
-            answer = a;
-            answer-number = t.0;
-            answer-values = t.1;
-            places-are = rw (inside, q) (rw (← ps) e ∙ sets-front (reference_places block n ss) p (omega (arith, enough)));
-            values-are = rw (inside, q) (rw (← ps) d ∙ sets-front (values_at block (reference_places block n ss)) v (omega (arith, enough)));
+            answers = answers-given (λ (x : References). length x.places) references_values _ found (Ok wanted) gives-found (ap Ok s);
+            places-are = rw gives-found (rw (← ps) e ∙ sets-front (reference_places block n ss) p (omega (arith, enough)));
+            values-are = rw gives-found (rw (← ps) d ∙ sets-front (values_at block (reference_places block n ss)) v (omega (arith, enough)));
           }

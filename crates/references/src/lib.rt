@@ -9,41 +9,16 @@ ghost use Rattle.references.specs.References.{ReferencesAre};
 
 use refusal::Refusal;
 
-// The answer: how many references, or why none.
-#[derive(Clone, Copy)]
-pub enum References {
-    Found(u64),
-    Refused(Refusal),
-}
-
 // Whether a slot + 8 exceeds the size.
 fn some_outside(slots: &[u64], size: u64) -> bool
     ensures { result ≡ some_outside_of size slots.now }
 {
-    let mut i = 0;
-    while i < slots.len() {
-        if size < 8 {
+    for slot in slots {
+        if size.saturating_sub(*slot) < 8 {
             return true;
         }
-        if size - 8 < slots[i] {
-            return true;
-        }
-        i += 1;
     }
     false
-}
-
-// A product, which stops at 18,446,744,073,709,551,615.
-fn times(a: u64, b: u64) -> u64
-    ensures { result ≡ min (a * b) 18446744073709551615 }
-{
-    if b == 0 {
-        return 0;
-    }
-    if a > 18446744073709551615 / b {
-        return 18446744073709551615;
-    }
-    a * b
 }
 
 // The 8 bytes at a place, little-endian.
@@ -51,13 +26,9 @@ fn read_u64(block: &[u8], place: usize) -> u64
     requires { place + 8 ≤ length block.now }
     ensures { result ≡ number_from (take 8 (drop place block.now)) }
 {
-    let mut value: u64 = 0;
-    let mut i = 0;
-    while i < 8 {
-        i += 1;
-        value = 256 * value + (block[place + (8 - i)] as u64);
-    }
-    value
+    let mut bytes = [0; 8];
+    bytes.copy_from_slice(&block[place..place + 8]);
+    u64::from_le_bytes(bytes)
 }
 
 // The references of one record, which starts at `start`, from `at` on.
@@ -73,14 +44,10 @@ fn store_record(
     requires slots_in_bounds { (at + length slots.now ≤ length places.old) × (at + length slots.now ≤ length values.old) }
     ensures { (places.new ≡ sets places.old at (shifted start slots.now)) × (values.new ≡ sets values.old at (values_at block.now (shifted start slots.now))) }
 {
-    let mut i = 0;
-    while i < slots.len() {
-        let slot = slots[i] as usize;
-        let place = start + slot;
-        let stored = read_u64(block, place);
+    for (i, slot) in slots.iter().enumerate() {
+        let place = start + *slot as usize;
         places[at + i] = place as u64;
-        values[at + i] = stored;
-        i += 1;
+        values[at + i] = read_u64(block, place);
     }
 }
 
@@ -97,10 +64,8 @@ fn store_records(
     requires slots_in_bounds { (records * length slots.now ≤ length places.old) × (records * length slots.now ≤ length values.old) }
     ensures { (places.new ≡ sets places.old 0 (entries size slots.now 0 records)) × (values.new ≡ sets values.old 0 (values_at block.now (entries size slots.now 0 records))) }
 {
-    let mut i = 0;
-    while i < records {
+    for i in 0..records {
         store_record(block, i * size, slots, i * slots.len(), places, values);
-        i += 1;
     }
 }
 
@@ -108,19 +73,7 @@ fn store_records(
 pub fn at_least_one(record_size: u64) -> u64
     ensures { (result ≡ record_size_of record_size) × (1 ≤ result) }
 {
-    if record_size == 0 {
-        return 1;
-    }
-    record_size
-}
-
-fn shorter(a: usize, b: usize) -> usize
-    ensures { result ≡ min a b }
-{
-    if a < b {
-        return a;
-    }
-    b
+    record_size.max(1)
 }
 
 // The references of each whole record in turn: places in the block, and the 8-byte values there. A remainder is ignored. Refused, in this
@@ -131,19 +84,19 @@ pub fn stored_object_references(
     slots: &[u64],
     places: &mut [u64],
     values: &mut [u64],
-) -> References
+) -> Result<u64, Refusal>
     ensures { ReferencesAre block.now record_size slots.now result places.old places.new values.old values.new }
 {
     let size = at_least_one(record_size);
     if some_outside(slots, size) {
-        return References::Refused(Refusal::SlotOutside);
+        return Err(Refusal::SlotOutside);
     }
     let records = block.len() / (size as usize);
-    let needed = times(records as u64, slots.len() as u64);
-    let room = shorter(places.len(), values.len());
+    let needed = (records as u64).saturating_mul(slots.len() as u64);
+    let room = places.len().min(values.len());
     if (room as u64) < needed {
-        return References::Refused(Refusal::NoRoom(needed));
+        return Err(Refusal::NoRoom(needed));
     }
     store_records(block, size as usize, records, slots, places, values);
-    References::Found(needed)
+    Ok(needed)
 }

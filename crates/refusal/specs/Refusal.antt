@@ -1,5 +1,5 @@
 -- Document 01, "The numbered refusals": the number and the values of each.
-use Rattle.std.specs.Prelude.{ℕ, List, [], ◌∷◌, length, get_or}
+use Rattle.std.specs.Prelude.{ℕ, List, [], ◌∷◌, length, get_or, Result, Ok, Err}
 use Rattle.refusal.specs.declared.Refusal.{Refusal}
 use Rattle.refusal.specs.declared.Refusal.TheVariants.{BadTable, TooDeep, TooMany, Short, TooNew, BadClass, BadVersion, BadPadding, BadCharset, BadReferenceKind, PoolFull, ZeroSize, NoSuchEdition, Unstorable, NotInEdition, OutsideRecord, HeapHeld, WrongLength, Unmapped, SlotOutside, NoRoom}
 use Rattle.refusal.specs.declared.RefusalValues.{RefusalValues}
@@ -55,3 +55,12 @@ values_of (NoRoom needed) = needed ∷ []
 -- how many values there are, and 0 for each that is not there
 abbrev pub values_from : Refusal → RefusalValues
 values_from e = record { count = length (values_of e); first = get_or (values_of e) 0 0; second = get_or (values_of e) 1 0 }
+
+-- the number of an answer: 0 for a result, or the refusal's; and its values
+unfoldable pub answer_number : {A : Type 0} → Result A Refusal → ℕ
+answer_number (Ok x) = 0
+answer_number (Err e) = number_of e
+
+unfoldable pub answer_values : {A : Type 0} → (A → List ℕ) → Result A Refusal → List ℕ
+answer_values shown (Ok x) = shown x
+answer_values shown (Err e) = values_of e

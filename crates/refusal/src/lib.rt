@@ -5,7 +5,7 @@ ghost use Rattle.std.specs.Prelude.{◌≡◌};
 ghost use Rattle.refusal.specs.Refusal.{number_of, values_from};
 
 // Why a call gives no result. The comment names the Rust's `FormatError` that the case stands for, where there is one.
-#[derive(Clone, Copy)]
+#[derive(Clone, Copy, Debug, PartialEq, Eq)]
 pub enum Refusal {
     // 1. The rows and pool do not set out exactly one type.
     BadTable,

@@ -1,18 +1,12 @@
 // What the library answers on an entry, against what the entry says.
-ghost use Rattle.std.specs.Prelude.{◌≤◌, length};
+ghost use Rattle.std.specs.Prelude.{◌<◌};
 
-use crate::entries::{
-    Answer, Piece, Results, byte_at, bytes_of, eight_at, four_at, results_at, sample_at,
-};
-use reading::Reading;
-use slots::Slots;
-use table::{Held, Sized};
-use writer::Writing;
+use crate::entries::{Answer, Entry, Given, Sample};
+use refusal::Refusal;
 
-// Whether an entry is as expected; if not, the first thing in which it differs.
+// The first thing in which an entry is not as expected.
 #[derive(Clone, Copy)]
-pub enum Outcome {
-    AsExpected,
+pub enum Difference {
     CutOff,
     Answer,
     Rows,
@@ -23,246 +17,119 @@ pub enum Outcome {
     Slots,
 }
 
-fn wide(x: u32) -> usize {
-    x as usize
+// A difference, unless something is as expected.
+fn expect(as_expected: bool, difference: Difference) -> Result<(), Difference> {
+    if as_expected { Ok(()) } else { Err(difference) }
 }
 
-// Word i of those given, 4 bytes each; 0 past the last.
-fn word(words: &[u8], i: usize) -> usize {
-    if i < words.len() / 4 {
-        return four_at(words, 4 * i);
-    }
-    0
+// The number that little-endian bytes write, at most 8.
+fn number(bytes: &[u8]) -> u64 {
+    bytes.iter().rev().fold(0, |n, b| (n << 8) | u64::from(*b))
 }
 
-// Slot i of those given, 8 bytes each; 0 past the last.
-fn slot(slots: &[u8], i: usize) -> u64 {
-    if i < slots.len() / 8 {
-        return eight_at(slots, 8 * i);
-    }
-    0
+// Whether a list holds the numbers given, of so many bytes each, and zeros behind them.
+fn holds<T: Copy + Into<u64>>(list: &[T], given: &[u8], size: usize) -> bool
+    requires { 0 < size }
+{
+    let count = given.len() / size;
+    count <= list.len()
+        && list
+            .iter()
+            .zip(given.chunks_exact(size))
+            .all(|(x, bytes)| (*x).into() == number(bytes))
+        && list.iter().skip(count).all(|x| (*x).into() == 0)
 }
 
-// Whether the table is anything but the words given and zeros.
-fn other_words(table: &[u32], words: &[u8]) -> bool {
-    if table.len() < words.len() / 4 {
-        return true;
-    }
-    let mut i = 0;
-    while i < table.len() {
-        if wide(table[i]) != word(words, i) {
-            return true;
-        }
-        i += 1;
-    }
-    false
-}
-
-// Whether the pool is anything but the bytes given and zeros.
-fn other_pool(pool: &[u8], bytes: &[u8]) -> bool {
-    if pool.len() < bytes.len() {
-        return true;
-    }
-    let mut i = 0;
-    while i < pool.len() {
-        if byte_at(pool, i) != byte_at(bytes, i) {
-            return true;
-        }
-        i += 1;
-    }
-    false
-}
-
-// Whether the message written, so many bytes, is anything but the bytes given.
-fn other_message(out: &[u8], count: usize, bytes: &[u8]) -> bool {
-    if count != bytes.len() {
-        return true;
-    }
-    let mut i = 0;
-    while i < bytes.len() {
-        if byte_at(out, i) != byte_at(bytes, i) {
-            return true;
-        }
-        i += 1;
-    }
-    false
-}
-
-// Whether the slots listed, so many, are anything but those given.
-fn other_slots(out: &[u64], count: u64, slots: &[u8]) -> bool {
-    if count != (slots.len() / 8) as u64 {
-        return true;
-    }
-    if count > out.len() as u64 {
-        return true;
-    }
-    let mut i = 0;
-    while (i as u64) < count {
-        if out[i] != slot(slots, i) {
-            return true;
-        }
-        i += 1;
-    }
-    false
-}
-
-fn other_answer(got: Reading, answer: Answer) -> bool {
-    match got {
-        Reading::Read(n) => {
-            if answer.number != 0 {
-                return true;
-            }
-            if answer.first != n as u64 {
-                return true;
-            }
-            answer.second != 0
-        }
-        Reading::Refused(e) => {
+fn is_answered(got: Result<usize, Refusal>, answer: Answer) -> bool {
+    let said = match got {
+        Ok(n) => Answer {
+            number: 0,
+            first: n as u64,
+            second: 0,
+        },
+        Err(e) => {
             let values = refusal::values(e);
-            if answer.number != wide(refusal::number(e)) {
-                return true;
+            Answer {
+                number: refusal::number(e),
+                first: values.first,
+                second: values.second,
             }
-            if answer.first != values.first {
-                return true;
-            }
-            answer.second != values.second
         }
-    }
+    };
+    said == answer
 }
 
-fn other_size(got: Sized, size: usize) -> bool {
-    match got {
-        Sized::Size(n) => wide(n) != size,
-        Sized::Refused(_) => true,
-    }
-}
-
-fn other_held(got: Held, held: usize) -> bool {
-    match got {
-        Held::Yes => held != 1,
-        Held::No => held != 0,
-        Held::Refused(_) => true,
-    }
-}
-
-// Whether writing in edition 3 gives anything but the number and bytes given.
-fn other_writing(table: &[u32], pool: &[u8], number: usize, bytes: &[u8], out: &mut [u8]) -> bool {
+// Whether writing in edition 3 gives the number and bytes given.
+fn is_written(table: &[u32], pool: &[u8], given: Given, out: &mut [u8]) -> bool {
     let got = writer::write(table, pool, 3, out);
     match got {
-        Writing::Written(n) => {
-            if number != 0 {
-                return true;
-            }
-            other_message(out, n, bytes)
+        Ok(n) => {
+            let Some((message, _)) = out.split_at_checked(n) else {
+                return false;
+            };
+            given.number == 0 && message == given.bytes
         }
-        Writing::Refused(e) => {
-            if bytes.len() != 0 {
-                return true;
-            }
-            number != wide(refusal::number(e))
-        }
+        Err(e) => given.bytes.is_empty() && given.number == refusal::number(e),
     }
 }
 
-// Whether listing the slots gives anything but the number and slots given.
-fn other_listing(table: &[u32], pool: &[u8], number: usize, slots: &[u8], out: &mut [u64]) -> bool {
+// Whether listing the slots gives the number and slots given.
+fn is_listed(table: &[u32], pool: &[u8], given: Given, out: &mut [u64]) -> bool {
     let got = slots::embedded_reference_slots(table, pool, out);
     match got {
-        Slots::Found(n) => {
-            if number != 0 {
-                return true;
-            }
-            other_slots(out, n, slots)
+        Ok(n) => {
+            let Some((slots, _)) = out.split_at_checked(n as usize) else {
+                return false;
+            };
+            given.number == 0
+                && slots.len() == given.bytes.len() / 8
+                && holds(slots, given.bytes, 8)
         }
-        Slots::Refused(e) => {
-            if slots.len() != 0 {
-                return true;
-            }
-            number != wide(refusal::number(e))
-        }
+        Err(e) => given.bytes.is_empty() && given.number == refusal::number(e),
     }
 }
 
 // Compares the rows and the pool.
-fn table_outcome(words: &[u8], bytes: &[u8], table: &[u32], pool: &[u8]) -> Outcome {
-    if other_words(table, words) {
-        return Outcome::Rows;
-    }
-    if other_pool(pool, bytes) {
-        return Outcome::Pool;
-    }
-    Outcome::AsExpected
+fn compare_type(words: &[u8], bytes: &[u8], table: &[u32], pool: &[u8]) -> Result<(), Difference> {
+    expect(holds(table, words, 4), Difference::Rows)?;
+    expect(holds(pool, bytes, 1), Difference::Pool)
 }
 
 // Compares the size and the two predicates.
-fn facts_outcome(facts: &[u8], table: &[u32], pool: &[u8]) -> Outcome {
-    if other_size(table::type_size(table, pool), four_at(facts, 0)) {
-        return Outcome::Size;
-    }
-    let object = table::datatype_holds_object_address(table, pool);
-    if other_held(object, byte_at(facts, 4)) {
-        return Outcome::Addresses;
-    }
-    let file = table::datatype_holds_file_address(table, pool);
-    if other_held(file, byte_at(facts, 5)) {
-        return Outcome::Addresses;
-    }
-    Outcome::AsExpected
+fn compare_facts(sample: Sample, table: &[u32], pool: &[u8]) -> Result<(), Difference> {
+    let size = table::type_size(table, pool);
+    expect(size == Ok(sample.size), Difference::Size)?;
+    let object = table::datatype_holds_object_address(table, pool).map(u8::from);
+    expect(object == Ok(sample.object), Difference::Addresses)?;
+    let file = table::datatype_holds_file_address(table, pool).map(u8::from);
+    expect(file == Ok(sample.file), Difference::Addresses)
 }
 
 // Compares the message written and the slots listed.
-fn results_outcome(bytes: &[u8], results: Results, table: &[u32], pool: &[u8]) -> Outcome {
+fn compare_results(sample: Sample, table: &[u32], pool: &[u8]) -> Result<(), Difference> {
     let mut out = [7u8; 131072];
     let mut slots = [7u64; 4096];
-    let message = bytes_of(bytes, results.message);
-    if other_writing(table, pool, results.written, message, &mut out) {
-        return Outcome::Message;
-    }
-    let listed = bytes_of(bytes, results.slots);
-    if other_listing(table, pool, results.listed, listed, &mut slots) {
-        return Outcome::Slots;
-    }
-    Outcome::AsExpected
+    let written = is_written(table, pool, sample.written, &mut out);
+    expect(written, Difference::Message)?;
+    let listed = is_listed(table, pool, sample.listed, &mut slots);
+    expect(listed, Difference::Slots)
 }
 
-// Compares all that the entry says behind a piece of the type that was read.
-fn type_outcome(bytes: &[u8], before: Piece, table: &[u32], pool: &[u8]) -> Outcome
-    requires { before.to ≤ length bytes.now }
-{
-    let sample = sample_at(bytes, before);
-    let words = bytes_of(bytes, sample.words);
-    let first = table_outcome(words, bytes_of(bytes, sample.pool), table, pool);
-    let Outcome::AsExpected = first else {
-        return first;
+// Reads the message and compares all that the entry says. A refused message leaves a table and a pool of zeros.
+fn compare_read(entry: Entry, table: &mut [u32], pool: &mut [u8]) -> Result<(), Difference> {
+    let got = reader::read(entry.message, 15, table, pool);
+    expect(is_answered(got, entry.answer), Difference::Answer)?;
+    let Some(sample) = entry.sample else {
+        return compare_type(b"", b"", table, pool);
     };
-    let facts = sample.facts;
-    let second = facts_outcome(bytes_of(bytes, facts), table, pool);
-    let Outcome::AsExpected = second else {
-        return second;
-    };
-    results_outcome(bytes, results_at(bytes, facts), table, pool)
+    compare_type(sample.words, sample.pool, table, pool)?;
+    compare_facts(sample, table, pool)?;
+    compare_results(sample, table, pool)
 }
 
-// Reads the message and compares. A refused message leaves a table and a pool of zeros.
-fn read_outcome(bytes: &[u8], answer: Answer, table: &mut [u32], pool: &mut [u8]) -> Outcome
-    requires { answer.last.to ≤ length bytes.now }
-{
-    let message = bytes_of(bytes, answer.message);
-    let got = reader::read(message, 15, table, pool);
-    if other_answer(got, answer) {
-        return Outcome::Answer;
-    }
-    if answer.number != 0 {
-        return table_outcome(b"", b"", table, pool);
-    }
-    type_outcome(bytes, answer.last, table, pool)
-}
-
-// Runs an entry, by its answer.
-pub fn entry_outcome(bytes: &[u8], answer: Answer) -> Outcome
-    requires { answer.last.to ≤ length bytes.now }
-{
+// Runs an entry.
+pub fn compare(entry: Entry) -> Result<(), Difference> {
     let mut table = [7u32; 65536];
     let mut pool = [7u8; 65536];
-    read_outcome(bytes, answer, &mut table, &mut pool)
+    compare_read(entry, &mut table, &mut pool)
 }

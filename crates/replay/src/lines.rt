@@ -1,54 +1,35 @@
 // The lines that the program writes.
-ghost use Rattle.std.specs.Prelude.{◌≤◌};
-
-use crate::differences::Outcome;
-use show::{number, text};
+use crate::differences::Difference;
+use show::{out, text};
 
 // A line on a file.
-pub fn file_line(name: &[u8], what: &[u8]) {
+pub fn file_line(name: &[u8], what: &str) {
     text(name);
-    text(b": ");
-    text(what);
-    text(b"\n");
+    out!(": {what}\n");
 }
 
 // What a line says of an entry.
-fn words(outcome: Outcome) {
-    match outcome {
-        Outcome::AsExpected => {}
-        Outcome::CutOff => text(b"is cut off"),
-        Outcome::Answer => text(b"differs in the answer"),
-        Outcome::Rows => text(b"differs in the rows"),
-        Outcome::Pool => text(b"differs in the pool"),
-        Outcome::Size => text(b"differs in the size"),
-        Outcome::Addresses => text(b"differs in the addresses"),
-        Outcome::Message => text(b"differs in the message"),
-        Outcome::Slots => text(b"differs in the slots"),
+fn words(difference: Difference) -> &'static str {
+    match difference {
+        Difference::CutOff => "is cut off",
+        Difference::Answer => "differs in the answer",
+        Difference::Rows => "differs in the rows",
+        Difference::Pool => "differs in the pool",
+        Difference::Size => "differs in the size",
+        Difference::Addresses => "differs in the addresses",
+        Difference::Message => "differs in the message",
+        Difference::Slots => "differs in the slots",
     }
 }
 
-// Writes the line on an entry, numbered from 1, and answers how many lines that is: none where it is as expected.
-pub fn entry_line(name: &[u8], entry: u64, outcome: Outcome) -> u64
-    ensures { result ≤ 1 }
-{
-    if let Outcome::AsExpected = outcome {
-        return 0;
-    }
+// The line on an entry, numbered from 1, that is not as expected.
+pub fn entry_line(name: &[u8], entry: u64, difference: Difference) {
     text(name);
-    text(b": entry ");
-    number(entry);
-    text(b" ");
-    words(outcome);
-    text(b"\n");
-    1
+    out!(": entry {entry} {}\n", words(difference));
 }
 
-// The line on all entries, where none was written on one of them.
-pub fn end_line(name: &[u8], entries: u64, lines: u64) {
-    if lines == 0 {
-        text(name);
-        text(b": ");
-        number(entries);
-        text(b" entries, as expected\n");
-    }
+// The line on all entries, where each is as expected.
+pub fn end_line(name: &[u8], entries: u64) {
+    text(name);
+    out!(": {entries} entries, as expected\n");
 }

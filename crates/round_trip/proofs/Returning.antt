@@ -1,4 +1,5 @@
 -- What `write_and_read` promises, from what `write` and `read` promise.
+use Rattle.std.specs.Prelude.{Result, Ok, Err}
 use Prim.Native.Nat.{ℕ, ◌*◌, ◌<◌, ◌≤◌}
 use mathlib.Core.Path.{◌≡◌, refl, sym, ap, ◌∙◌}
 use mathlib.Core.Bool.{true}
@@ -6,39 +7,22 @@ use mathlib.Core.List.{List, [], ◌∷◌, ◌++◌}
 use native.Mathlib.Omega.{arith}
 use lib.ListN.{length, take, drop, get_or}
 use lib.Seq.{take_at}
-use Rattle.refusal.specs.Refusal.{number_of, values_of}
+use Rattle.refusal.specs.Refusal.{number_of, values_of, answer_number, answer_values}
 use Rattle.refusal.specs.declared.Refusal.{Refusal}
 use Rattle.refusal.specs.declared.Refusal.TheVariants.{TooNew}
 use Rattle.format.specs.Bytes.{padded}
 use Rattle.format.specs.Datatype.{Datatype, row_count, pool_bytes}
 use Rattle.format.specs.Message.{message, storable, carried, writing}
-use Rattle.format.specs.Outcome.{Outcome, gives, refuses, output_after, outcome_number, outcome_values}
-use Rattle.format.specs.Reading.{Read, reading}
+use Rattle.format.specs.Outcome.{Outcome, gives, refuses, output_after, answer_of}
 use Rattle.format.specs.Table.{SetsOut, type_of, rows, table_of, pool_of}
 use Rattle.format.proofs.Bytes.{all-bytes}
 use Rattle.format.proofs.Rows.{length-rows}
 use Rattle.format.proofs.Table.{type_of_sound}
 use Rattle.format.proofs.Written.{length-message, writing_type-given, writing-found}
-use Rattle.reading.specs.Reads.{Reads, answer_of as readAs}
-use Rattle.reading.specs.declared.Reading.{Reading}
-use Rattle.reading.specs.declared.Reading.TheVariants.{Read as AnswerRead, Refused as AnswerRefused}
+use Rattle.reading.specs.Reads.{Reads}
 use Rattle.reading.proofs.Promises.{Refuses, GivesBack, Written as Supposed, written_too_new, written-reads-back}
-use Rattle.writer.specs.Writes.{Answers, answer_of as writtenAs}
-use Rattle.writer.specs.declared.Writing.{Writing}
-use Rattle.writer.specs.declared.Writing.TheVariants.{Written as AnswerWritten, Refused as NotWrittenAs}
-use Rattle.round_trip.specs.Back.{round_trip_number, round_trip_values, answer_of, NotWritten, TooNewBack, SameBack, Back}
-use Rattle.round_trip.specs.declared.RoundTrip.{RoundTrip}
-use Rattle.round_trip.specs.declared.RoundTrip.TheVariants.{Length, Refused}
-
--- the answer that a reading's is
-unfoldable turned : Reading → RoundTrip
-turned (AnswerRead n) = Length n
-turned (AnswerRefused e) = Refused e
-
-turned-is : (x : Outcome Read) → turned (readAs x) ≡ answer_of x
-unfolding turned readAs answer_of
-turned-is (gives x) = refl
-turned-is (refuses e) = refl
+use Rattle.writer.specs.Writes.{Writes}
+use Rattle.round_trip.specs.Back.{NotWritten, TooNewBack, SameBack, Back}
 
 no_gives : {m : List ℕ} {e : Refusal} → ◌≡◌ {A = Outcome (List ℕ)} (gives m) (refuses e) → ⊥
 no_gives h = let z : ◌≡◌ {A = ℕ} 0 1 = cc in omega arith
@@ -61,36 +45,25 @@ front-pool : {t : Datatype} {table pool : List ℕ} → SetsOut t table pool →
 unfolding padded
 front-pool {t = t} {pool = pool} h = ap (take (length (pool_bytes t))) h.pool-is ∙ take_at (pool_bytes t) _ (length (pool_bytes t)) refl
 
--- ---- number and values of an answer
+-- ---- the two ways out
 
-number-of : (x : Outcome Read) → round_trip_number (answer_of x) ≡ outcome_number x
-unfolding round_trip_number answer_of outcome_number
-number-of (gives x) = refl
-number-of (refuses e) = refl
-
-values-of : (x : Outcome Read) → round_trip_values (answer_of x) ≡ outcome_values (λ x. x.consumed ∷ []) x
-unfolding round_trip_values answer_of outcome_values
-values-of (gives x) = refl
-values-of (refuses e) = refl
-
-is-refused : {e f : Refusal} {buffer buffer' t p : List ℕ} → e ≡ f → buffer' ≡ buffer → NotWritten f (Refused e) buffer buffer' t t p p
-unfolding round_trip_number round_trip_values
-is-refused i b = record { answer = ap Refused i; number = ap number_of i; values = ap values_of i; buffer_is = b; table_is = refl; pool-is = refl }
+is-refused : {e f : Refusal} {buffer buffer' t p : List ℕ} → e ≡ f → buffer' ≡ buffer → NotWritten f (Err e) buffer buffer' t t p p
+unfolding answer_number answer_values
+is-refused i b = record { answer = ap Err i; number = ap number_of i; values = ap values_of i; buffer_is = b; table_is = refl; pool-is = refl }
 
 module _ (table pool : List ℕ) (edition limit : ℕ) (buffer t p : List ℕ) where
   -- writing is refused
-  pub not_written : {w : Writing} {e : Refusal} {buffer' : List ℕ} → Answers (writing table pool edition (length buffer)) w buffer buffer' → w ≡ NotWrittenAs e
-      → Back table pool edition limit (Refused e) buffer buffer' t t p p
-  unfolding writtenAs output_after
+  pub not_written : {w : Result ℕ Refusal} {e : Refusal} {buffer' : List ℕ} → Writes table pool edition w buffer buffer' → w ≡ Err e
+      → Back table pool edition limit (Err e) buffer buffer' t t p p
+  unfolding answer_of output_after
   not_written {w = w} {e = e} {buffer' = buffer'} a x = go (writing table pool edition (length buffer)) refl
     where
-      go : (o : Outcome (List ℕ)) → writing table pool edition (length buffer) ≡ o → Back table pool edition limit (Refused e) buffer buffer' t t p p
+      go : (o : Outcome (List ℕ)) → writing table pool edition (length buffer) ≡ o → Back table pool edition limit (Err e) buffer buffer' t t p p
       go (gives m) k =
-          let q : NotWrittenAs e ≡ AnswerWritten (length m) = sym x ∙ (rw k at a.answer) in
-          let z : ◌≡◌ {A = ℕ} 0 1 = cc in
-          absurd (omega arith)
+          let q : ◌≡◌ {A = Result ℕ Refusal} (Err e) (Ok (length m)) = sym x ∙ (rw k at a.answers.answer) in
+          cc
       go (refuses f) k =
-          let q : NotWrittenAs e ≡ NotWrittenAs f = sym x ∙ (rw k at a.answer) in
+          let q : ◌≡◌ {A = Result ℕ Refusal} (Err e) (Err f) = sym x ∙ (rw k at a.answers.answer) in
           let i : e ≡ f = cc in
           let b : buffer' ≡ buffer = rw k at a.out-is in
           record {
@@ -100,8 +73,8 @@ module _ (table pool : List ℕ) (edition limit : ℕ) (buffer t p : List ℕ) w
             back = λ type h e' s c l n m q. absurd (no_gives (sym (is-written table pool edition (length buffer) type h e' s c l) ∙ k));
           }
 
-  module _ {w : Writing} {n : ℕ} {buffer' t' p' : List ℕ} {r : Reading} (small : (i : ℕ) → get_or pool i 0 < 256)
-      (a : Answers (writing table pool edition (length buffer)) w buffer buffer') (j : w ≡ AnswerWritten n) (h : Reads limit buffer' t p r t' p') where
+  module _ {w r : Result ℕ Refusal} {n : ℕ} {buffer' t' p' : List ℕ} (small : (i : ℕ) → get_or pool i 0 < 256)
+      (a : Writes table pool edition w buffer buffer') (j : w ≡ Ok n) (h : Reads limit buffer' t p r t' p') where
     supposed : (type : Datatype) → type_of table pool ≡ gives type → (1 ≤ edition) × (edition ≤ 3) → storable type ≡ true → carried edition type ≡ true
         → length (message edition type) ≤ length buffer → 16 * row_count type ≤ length t → length (pool_bytes type) ≤ length p
         → Supposed edition type buffer' (drop (length (message edition type)) buffer) t p
@@ -117,18 +90,16 @@ module _ (table pool : List ℕ) (edition limit : ℕ) (buffer t p : List ℕ) w
           pool-fits = m;
         }
 
-    turned-back : Back table pool edition limit (turned r) buffer buffer' t t' p p'
-    unfolding writtenAs output_after turned table_of pool_of round_trip_number round_trip_values
-    turned-back =
+    -- what was written is read, or refused
+    pub read_back : Back table pool edition limit r buffer buffer' t t' p p'
+    unfolding answer_of output_after table_of pool_of answer_number answer_values
+    read_back =
         record {
           refused = λ e g. absurd (went e g);
           written = λ m g.
-              let q : turned r ≡ answer_of (reading limit (length t) (length p) buffer') = ap turned h.answer ∙ turned-is _ in
               record {
                 buffer_is = put m g;
-                answer = q;
-                number = ap round_trip_number q ∙ number-of _;
-                values = ap round_trip_values q ∙ values-of _;
+                answers = record { answer = h.answer; number = h.number; values = h.values };
                 table_is = h.table_is;
                 pool-is = h.pool-is;
               };
@@ -138,34 +109,22 @@ module _ (table pool : List ℕ) (edition limit : ℕ) (buffer t p : List ℕ) w
       where
         went : (e : Refusal) → writing table pool edition (length buffer) ≡ refuses e → ⊥
         went e g =
-            let q : AnswerWritten n ≡ NotWrittenAs e = sym j ∙ (rw g at a.answer) in
-            let z : ◌≡◌ {A = ℕ} 0 1 = cc in
-            omega arith
+            let q : ◌≡◌ {A = Result ℕ Refusal} (Ok n) (Err e) = sym j ∙ (rw g at a.answers.answer) in
+            cc
 
         put : (m : List ℕ) → writing table pool edition (length buffer) ≡ gives m → buffer' ≡ m ++ drop (length m) buffer
         put m g = rw g at a.out-is
 
-        new : {v : ℕ} → Refuses (TooNew v) t p r t' p' → TooNewBack v (turned r) t t' p p'
+        new : {v : ℕ} → Refuses (TooNew v) t p r t' p' → TooNewBack v r t t' p p'
         new x =
-            let q = ap turned x.answer in
-            record { answer = q; number = ap round_trip_number q; values = ap round_trip_values q; table_is = x.table_is; pool-is = x.pool-is }
+            record { answer = x.answer; number = ap answer_number x.answer; values = ap (answer_values (λ n. n ∷ [])) x.answer; table_is = x.table_is; pool-is = x.pool-is }
 
-        old : (type : Datatype) → SetsOut type table pool → GivesBack type (length (message edition type)) t p r t' p' → SameBack type edition table pool (turned r) t t' p p'
+        old : (type : Datatype) → SetsOut type table pool → GivesBack type (length (message edition type)) t p r t' p' → SameBack type edition table pool r t t' p p'
         old type o x =
-            let q = ap turned x.answer in
             record {
-              answer = q;
-              number = ap round_trip_number q;
-              values = ap round_trip_values q;
+              answer = x.answer;
+              number = ap answer_number x.answer;
+              values = ap (answer_values (λ n. n ∷ [])) x.answer;
               table_is = x.table_is ∙ ap (padded (length t)) (sym (front-rows o));
               pool-is = x.pool-is ∙ ap (padded (length p)) (sym (front-pool o));
             }
-
-    -- what was written is read, or refused
-    pub read_back : {k : ℕ} → r ≡ AnswerRead k → Back table pool edition limit (Length k) buffer buffer' t t' p p'
-    unfolding turned
-    read_back g = rw g at turned-back
-
-    pub refused-back : {e : Refusal} → r ≡ AnswerRefused e → Back table pool edition limit (Refused e) buffer buffer' t t' p p'
-    unfolding turned
-    refused-back g = rw g at turned-back

@@ -1,7 +1,7 @@
 -- For each kind of row, the test of its columns that the code makes is the test of `entry_at`; and what each way out of the code answers.
 use Prim.Native.Nat.{ℕ, zero, suc, ◌+◌, ◌-◌, ◌*◌, ◌/◌, ◌<◌, ◌≤◌}
 use mathlib.Core.Path.{◌≡◌, refl, sym, ap, ◌∙◌}
-use mathlib.Core.Bool.{Bool, true, ◌&&◌, and_assoc, and-true}
+use mathlib.Core.Bool.{true, ◌&&◌, and_assoc, and-true}
 use mathlib.Core.List.{List}
 use native.Mathlib.Omega.{arith}
 use native.Mathlib.Nat.{mul-one, mul-le-mul_left}
@@ -13,12 +13,13 @@ use borrow.Author.Tests.{eq-eqb}
 use Rattle.format.specs.Bytes.{all_zero}
 use Rattle.format.specs.Table.{word_at, row, compound_row, enumeration_row, variable_length_row, array_row, member_row, enum_member_row, same_words, isUnknown, kind_of}
 use Rattle.format.proofs.TableSteps.{list_at, row_is-words, take-list_at}
-use Rattle.rows.specs.Entries.{pick, pick_member, entry_of, entry_at, member_at_of, enum_member_at_of, EntryInside, MemberInside, member_name_length, enum_member_name_length}
+use Rattle.std.specs.Prelude.{Option, Some, None}
+use Rattle.std.specs.Bool.{then_some}
+use Rattle.rows.specs.Entries.{entry_of, entry_at, member_in, member_at_of, enum_member_at_of, EntryInside, MemberInside}
 use Rattle.rows.specs.Columns.{clear_columns_of, leaf_columns_of, group_columns_of, variable_length_columns_of, piece_columns_of}
 use Rattle.rows.specs.declared.Entry.{Entry}
-use Rattle.rows.specs.declared.Entry.TheVariants.{Leaf, Compound, Enumeration, VariableLength, Array, Unknown}
+use Rattle.rows.specs.declared.Entry.TheVariants.{Leaf, Compound, Enumeration, VariableLength, Array}
 use Rattle.rows.specs.declared.Member.{Member}
-use Rattle.rows.specs.declared.Member.TheVariants.{Named, Unnamed}
 use Rattle.rows.proofs.Decode.{leaf-entry, entry-kind, opaque_picked, entry-inside, member-inside, enum_member_inside}
 
 same_word : (n : ℕ) → eqb n n ≡ true
@@ -37,55 +38,55 @@ module _ (table pool : List ℕ) (r p : ℕ) (h : r < length table / 16) where
   clear : (a b : ℕ) → a + (b - a) ≤ 16 → clear_columns_of table r a b ≡ all_zero (list_at table (r * 16) a (b - a))
   clear a b k = columns table r fits a b k
 
-  pub fixed_point-entry : get_or table (r * 16) 0 ≡ 1 → entry_at table pool r p ≡ pick (leaf_columns_of table r 6 9 3 && ltb (word_at table r 6) 2) (Leaf 0 (word_at table r 1) 0 (word_at table r 5))
+  pub fixed_point-entry : get_or table (r * 16) 0 ≡ 1 → entry_at table pool r p ≡ then_some (leaf_columns_of table r 6 9 3 && ltb (word_at table r 6) 2) (Leaf 0 (word_at table r 1) 0 (word_at table r 5))
   unfolding leaf-entry row leaf_columns_of all_zero same_words
   fixed_point-entry e = entry-kind table pool r p e ∙ simp (row_is-words table r fits, e, same_word, clear 2 5 (omega arith), clear 6 6 (omega arith), clear 9 16 (omega arith), and_assoc, and-true)
 
-  pub floating_point-entry : get_or table (r * 16) 0 ≡ 2 → entry_at table pool r p ≡ pick (leaf_columns_of table r 7 14 3) (Leaf 1 (word_at table r 1) 0 (word_at table r 5))
+  pub floating_point-entry : get_or table (r * 16) 0 ≡ 2 → entry_at table pool r p ≡ then_some (leaf_columns_of table r 7 14 3) (Leaf 1 (word_at table r 1) 0 (word_at table r 5))
   unfolding leaf-entry row leaf_columns_of all_zero same_words
   floating_point-entry e = entry-kind table pool r p e ∙ simp (row_is-words table r fits, e, same_word, clear 2 5 (omega arith), clear 6 7 (omega arith), clear 14 16 (omega arith), and_assoc, and-true)
 
-  pub time-entry : get_or table (r * 16) 0 ≡ 3 → entry_at table pool r p ≡ pick (leaf_columns_of table r 8 9 3) (Leaf 2 (word_at table r 1) 0 (word_at table r 5))
+  pub time-entry : get_or table (r * 16) 0 ≡ 3 → entry_at table pool r p ≡ then_some (leaf_columns_of table r 8 9 3) (Leaf 2 (word_at table r 1) 0 (word_at table r 5))
   unfolding leaf-entry row leaf_columns_of all_zero same_words
   time-entry e = entry-kind table pool r p e ∙ simp (row_is-words table r fits, e, same_word, clear 2 5 (omega arith), clear 6 8 (omega arith), clear 9 16 (omega arith), and_assoc, and-true)
 
-  pub string-entry : get_or table (r * 16) 0 ≡ 4 → entry_at table pool r p ≡ pick (leaf_columns_of table r 6 7 3 && ltb (word_at table r 6) 2) (Leaf 3 (word_at table r 1) 0 (word_at table r 5))
+  pub string-entry : get_or table (r * 16) 0 ≡ 4 → entry_at table pool r p ≡ then_some (leaf_columns_of table r 6 7 3 && ltb (word_at table r 6) 2) (Leaf 3 (word_at table r 1) 0 (word_at table r 5))
   unfolding leaf-entry row leaf_columns_of all_zero same_words
   string-entry e = entry-kind table pool r p e ∙ simp (row_is-words table r fits, e, same_word, clear 2 5 (omega arith), clear 6 6 (omega arith), clear 7 16 (omega arith), and_assoc, and-true)
 
-  pub bit_field-entry : get_or table (r * 16) 0 ≡ 5 → entry_at table pool r p ≡ pick (leaf_columns_of table r 7 9 3) (Leaf 4 (word_at table r 1) 0 (word_at table r 5))
+  pub bit_field-entry : get_or table (r * 16) 0 ≡ 5 → entry_at table pool r p ≡ then_some (leaf_columns_of table r 7 9 3) (Leaf 4 (word_at table r 1) 0 (word_at table r 5))
   unfolding leaf-entry row leaf_columns_of all_zero same_words
   bit_field-entry e = entry-kind table pool r p e ∙ simp (row_is-words table r fits, e, same_word, clear 2 5 (omega arith), clear 6 7 (omega arith), clear 9 16 (omega arith), and_assoc, and-true)
 
-  pub opaque-entry : get_or table (r * 16) 0 ≡ 6 → entry_at table pool r p ≡ pick (piece_columns_of table pool r p 4 1) (Leaf 5 (word_at table r 1) (word_at table r 3) (word_at table r 5))
+  pub opaque-entry : get_or table (r * 16) 0 ≡ 6 → entry_at table pool r p ≡ then_some (piece_columns_of table pool r p 4 1) (Leaf 5 (word_at table r 1) (word_at table r 3) (word_at table r 5))
   unfolding kind_of row piece_columns_of all_zero same_words
   opaque-entry e = entry-kind table pool r p e ∙ opaque_picked table pool r p ∙ simp (row_is-words table r fits, e, same_word, clear 4 16 (omega arith), and_assoc, and-true, mul-one)
 
-  pub compound-entry : get_or table (r * 16) 0 ≡ 7 → entry_at table pool r p ≡ pick (group_columns_of table r) (Compound (word_at table r 1) (word_at table r 4))
+  pub compound-entry : get_or table (r * 16) 0 ≡ 7 → entry_at table pool r p ≡ then_some (group_columns_of table r) (Compound (word_at table r 1) (word_at table r 4))
   unfolding entry_of compound_row row kind_of group_columns_of all_zero same_words
   compound-entry e = entry-kind table pool r p e ∙ simp (row_is-words table r fits, e, same_word, clear 2 4 (omega arith), clear 5 16 (omega arith), and_assoc, and-true)
 
-  pub reference-entry : get_or table (r * 16) 0 ≡ 8 → entry_at table pool r p ≡ pick (leaf_columns_of table r 6 6 2) (Leaf 7 (word_at table r 1) 0 (word_at table r 5))
+  pub reference-entry : get_or table (r * 16) 0 ≡ 8 → entry_at table pool r p ≡ then_some (leaf_columns_of table r 6 6 2) (Leaf 7 (word_at table r 1) 0 (word_at table r 5))
   unfolding leaf-entry row leaf_columns_of all_zero same_words
   reference-entry e = entry-kind table pool r p e ∙ simp (row_is-words table r fits, e, same_word, clear 2 5 (omega arith), clear 6 6 (omega arith), clear 6 16 (omega arith), and_assoc, and-true)
 
-  pub enumeration-entry : get_or table (r * 16) 0 ≡ 9 → entry_at table pool r p ≡ pick (group_columns_of table r) (Enumeration (word_at table r 1) (word_at table r 4))
+  pub enumeration-entry : get_or table (r * 16) 0 ≡ 9 → entry_at table pool r p ≡ then_some (group_columns_of table r) (Enumeration (word_at table r 1) (word_at table r 4))
   unfolding entry_of enumeration_row row kind_of group_columns_of all_zero same_words
   enumeration-entry e = entry-kind table pool r p e ∙ simp (row_is-words table r fits, e, same_word, clear 2 4 (omega arith), clear 5 16 (omega arith), and_assoc, and-true)
 
-  pub variable_length-entry : get_or table (r * 16) 0 ≡ 10 → entry_at table pool r p ≡ pick (variable_length_columns_of table r) (VariableLength (word_at table r 5) (word_at table r 6) (word_at table r 7))
+  pub variable_length-entry : get_or table (r * 16) 0 ≡ 10 → entry_at table pool r p ≡ then_some (variable_length_columns_of table r) (VariableLength (word_at table r 5) (word_at table r 6) (word_at table r 7))
   unfolding entry_of variable_length_row row kind_of variable_length_columns_of all_zero same_words
   variable_length-entry e = entry-kind table pool r p e ∙ simp (row_is-words table r fits, e, same_word, clear 1 5 (omega arith), clear 8 16 (omega arith), and_assoc, and-true)
 
-  pub array-entry : get_or table (r * 16) 0 ≡ 11 → entry_at table pool r p ≡ pick (eqb (word_at table r 1) 0 && piece_columns_of table pool r p 4 4) (Array (word_at table r 3))
+  pub array-entry : get_or table (r * 16) 0 ≡ 11 → entry_at table pool r p ≡ then_some (eqb (word_at table r 1) 0 && piece_columns_of table pool r p 4 4) (Array (word_at table r 3))
   unfolding entry_of array_row row kind_of piece_columns_of all_zero same_words
   array-entry e = entry-kind table pool r p e ∙ simp (row_is-words table r fits, e, same_word, clear 4 16 (omega arith), and_assoc, and-true)
 
-  pub member-entry : member_at_of table pool r p ≡ pick_member (eqb (get_or table (r * 16) 0) 12 && piece_columns_of table pool r p 4 1) (Named (word_at table r 1) (word_at table r 3))
+  pub member-entry : member_at_of table pool r p ≡ then_some (eqb (get_or table (r * 16) 0) 12 && piece_columns_of table pool r p 4 1) (member_in table r 1)
   unfolding member_at_of member_row row piece_columns_of all_zero same_words
   member-entry = simp (row_is-words table r fits, same_word, clear 4 16 (omega arith), and_assoc, and-true, mul-one)
 
-  pub enum_member_entry : enum_member_at_of table pool r p ≡ pick_member ((eqb (get_or table (r * 16) 0) 13 && eqb (word_at table r 1) 0) && piece_columns_of table pool r p 5 1) (Named (word_at table r 3) (word_at table r 4))
+  pub enum_member_entry : enum_member_at_of table pool r p ≡ then_some ((eqb (get_or table (r * 16) 0) 13 && eqb (word_at table r 1) 0) && piece_columns_of table pool r p 5 1) (member_in table r 4)
   unfolding enum_member_at_of enum_member_row row piece_columns_of all_zero same_words
   enum_member_entry = simp (row_is-words table r fits, same_word, clear 5 16 (omega arith), and_assoc, and-true, mul-one)
 
@@ -110,58 +111,39 @@ no_kind_unknown (suc (suc (suc (suc (suc (suc (suc (suc (suc (suc (suc zero)))))
 no_kind_unknown (suc (suc (suc (suc (suc (suc (suc (suc (suc (suc (suc (suc w)))))))))))) n = refl
 
 -- a row that the table has no room for is unknown
-outside : (e : Entry) (w b r p : ℕ) → EntryInside e w b r p → w / 16 ≤ r → Unknown ≡ e
+outside : (e : Option Entry) (w b r p : ℕ) → EntryInside e w b r p → w / 16 ≤ r → None ≡ e
 unfolding EntryInside
-outside (Leaf c n l x) w b r p i h = absurd (omega arith)
-outside (Compound n k) w b r p i h = absurd (omega arith)
-outside (Enumeration n k) w b r p i h = absurd (omega arith)
-outside (VariableLength i a c) w b r p j h = absurd (omega arith)
-outside (Array k) w b r p i h = absurd (omega arith)
-outside Unknown w b r p i h = refl
+outside (Some e) w b r p i h = absurd (omega arith)
+outside None w b r p i h = refl
 
-outside_member : (m : Member) (w b r p n : ℕ) → MemberInside m w b r p n → w / 16 ≤ r → Unnamed ≡ m
+outside_member : (m : Option Member) (w b r p : ℕ) → MemberInside m w b r p → w / 16 ≤ r → None ≡ m
 unfolding MemberInside
-outside_member (Named x y) w b r p n i h = absurd (omega arith)
-outside_member Unnamed w b r p n i h = refl
+outside_member (Some m) w b r p i h = absurd (omega arith)
+outside_member None w b r p i h = refl
 
 -- the answers of the code
 module _ (table pool : List ℕ) (r p : ℕ) where
-  pub answered : {x : Entry} → x ≡ entry_at table pool r p → (x ≡ entry_at table pool r p) × EntryInside x (length table) (length pool) r p
+  pub answered : {x : Option Entry} → x ≡ entry_at table pool r p → (x ≡ entry_at table pool r p) × EntryInside x (length table) (length pool) r p
   answered e = (e, rw e (entry-inside table pool r p))
 
-  -- an entry by a test that is the definition's
-  pub tested : (e : Entry) {x : Entry} {a b : Bool} → entry_at table pool r p ≡ pick b e → x ≡ pick a e → a ≡ b
-      → (x ≡ entry_at table pool r p) × EntryInside x (length table) (length pool) r p
-  tested e f g h = answered (g ∙ rw h (sym f))
-
-  pub no_kind_entry : NoKind (get_or table (r * 16) 0) → Unknown ≡ entry_at table pool r p
+  pub no_kind_entry : NoKind (get_or table (r * 16) 0) → None ≡ entry_at table pool r p
   unfolding entry_of
   no_kind_entry n = sym (entry-kind table pool r p refl ∙ rw (no_kind_unknown (get_or table (r * 16) 0) n))
 
-  pub short-entry : length table / 16 ≤ r → Unknown ≡ entry_at table pool r p
+  pub short-entry : length table / 16 ≤ r → None ≡ entry_at table pool r p
   short-entry h = outside (entry_at table pool r p) (length table) (length pool) r p (entry-inside table pool r p) h
 
-  pub answered-member : {x : Member} → x ≡ member_at_of table pool r p
-      → (x ≡ member_at_of table pool r p) × MemberInside x (length table) (length pool) r p (member_name_length x)
+  pub answered-member : {x : Option Member} → x ≡ member_at_of table pool r p → (x ≡ member_at_of table pool r p) × MemberInside x (length table) (length pool) r p
   answered-member e = (e, rw e (member-inside table pool r p))
 
-  pub tested-member : (m : Member) {x : Member} {a b : Bool} → member_at_of table pool r p ≡ pick_member b m → x ≡ pick_member a m → a ≡ b
-      → (x ≡ member_at_of table pool r p) × MemberInside x (length table) (length pool) r p (member_name_length x)
-  tested-member m f g h = answered-member (g ∙ rw h (sym f))
+  pub short-member : length table / 16 ≤ r → None ≡ member_at_of table pool r p
+  short-member h = outside_member (member_at_of table pool r p) (length table) (length pool) r p (member-inside table pool r p) h
 
-  pub short-member : length table / 16 ≤ r → Unnamed ≡ member_at_of table pool r p
-  short-member h = outside_member (member_at_of table pool r p) (length table) (length pool) r p _ (member-inside table pool r p) h
-
-  pub answered_enum_member : {x : Member} → x ≡ enum_member_at_of table pool r p
-      → (x ≡ enum_member_at_of table pool r p) × MemberInside x (length table) (length pool) r p (enum_member_name_length x)
+  pub answered_enum_member : {x : Option Member} → x ≡ enum_member_at_of table pool r p → (x ≡ enum_member_at_of table pool r p) × MemberInside x (length table) (length pool) r p
   answered_enum_member e = (e, rw e (enum_member_inside table pool r p))
 
-  pub tested_enum_member : (m : Member) {x : Member} {a b : Bool} → enum_member_at_of table pool r p ≡ pick_member b m → x ≡ pick_member a m → a ≡ b
-      → (x ≡ enum_member_at_of table pool r p) × MemberInside x (length table) (length pool) r p (enum_member_name_length x)
-  tested_enum_member m f g h = answered_enum_member (g ∙ rw h (sym f))
-
-  pub short_enum_member : length table / 16 ≤ r → Unnamed ≡ enum_member_at_of table pool r p
-  short_enum_member h = outside_member (enum_member_at_of table pool r p) (length table) (length pool) r p _ (enum_member_inside table pool r p) h
+  pub short_enum_member : length table / 16 ≤ r → None ≡ enum_member_at_of table pool r p
+  short_enum_member h = outside_member (enum_member_at_of table pool r p) (length table) (length pool) r p (enum_member_inside table pool r p) h
 
 -- a piece's length in bytes and the place behind it do not wrap
 pub product_small : (n width : ℕ) → n < 4294967296 → width ≤ 4 → n * width ≤ 17179869180

@@ -16,11 +16,12 @@ use Rattle.format.proofs.Booleans.{and_both}
 use Rattle.format.proofs.Lists.{length_part}
 use Rattle.format.proofs.Rows.{length-row, length-leaf_row, length-member_row, length-enum_member_row}
 use Rattle.format.proofs.TableSteps.{row_is-fits, then-piece, type_at_unknown, type_at_leaf, type_at_compound, type_at_enumeration, type_at_variable_length, type_at_array, members_at-step, enumNamesAt-step}
-use Rattle.rows.specs.Entries.{pick, pick_member, leaf_at, tag_inside, leaf_entry, entry_of, entry_at, member_at_of, enum_member_at_of, EntryInside, MemberInside, member_name_length, enum_member_name_length, leaf_kind_of, leaf_type, from_entry, from_member, from_enum_member}
+use Rattle.std.specs.Prelude.{Option, Some}
+use Rattle.std.specs.Bool.{then_some}
+use Rattle.rows.specs.Entries.{leaf_at, tag_inside, leaf_entry, entry_of, entry_at, member_in, member_at_of, enum_member_at_of, PieceInside, EntryInside, MemberInside, leaf_kind_of, leaf_type, from_entry, from_member, from_enum_member}
 use Rattle.rows.specs.declared.Entry.{Entry}
-use Rattle.rows.specs.declared.Entry.TheVariants.{Leaf, Compound, Enumeration, VariableLength, Array}
+use Rattle.rows.specs.declared.Entry.TheVariants.{Leaf, Array}
 use Rattle.rows.specs.declared.Member.{Member}
-use Rattle.rows.specs.declared.Member.TheVariants.{Named}
 
 -- all that a leaf's entry opens to, by its row's kind
 unfoldable pub leaf-entry : Unit {0}
@@ -35,29 +36,29 @@ module _ (table pool : List ℕ) (r p : ℕ) where
 
   -- an opaque's entry, by the length of its tag in its row
   pub opaque_picked : entry_of table pool r p (is_leaf isOpaque)
-      ≡ pick (row_is_of table r (row 6 ((1, word_at table r 1) ∷ (2, p) ∷ (3, word_at table r 3) ∷ [])) && leb (p + word_at table r 3) (length pool)) (Leaf 5 (word_at table r 1) (word_at table r 3) (word_at table r 5))
+      ≡ then_some (row_is_of table r (row 6 ((1, word_at table r 1) ∷ (2, p) ∷ (3, word_at table r 3) ∷ [])) && leb (p + word_at table r 3) (length pool)) (Leaf 5 (word_at table r 1) (word_at table r 3) (word_at table r 5))
   unfolding leaf-entry
   opaque_picked = go _ refl
     where
       go : (b : Bool) → leb (p + word_at table r 3) (length pool) ≡ b
-          → pick (b && (row_is_of table r (row 6 ((1, word_at table r 1) ∷ (2, p) ∷ (3, length (take (word_at table r 3) (drop p pool))) ∷ [])) && true)) (Leaf 5 (word_at table r 1) (length (take (word_at table r 3) (drop p pool))) (word_at table r 5))
-          ≡ pick (row_is_of table r (row 6 ((1, word_at table r 1) ∷ (2, p) ∷ (3, word_at table r 3) ∷ [])) && b) (Leaf 5 (word_at table r 1) (word_at table r 3) (word_at table r 5))
+          → then_some (b && (row_is_of table r (row 6 ((1, word_at table r 1) ∷ (2, p) ∷ (3, length (take (word_at table r 3) (drop p pool))) ∷ [])) && true)) (Leaf 5 (word_at table r 1) (length (take (word_at table r 3) (drop p pool))) (word_at table r 5))
+          ≡ then_some (row_is_of table r (row 6 ((1, word_at table r 1) ∷ (2, p) ∷ (3, word_at table r 3) ∷ [])) && b) (Leaf 5 (word_at table r 1) (word_at table r 3) (word_at table r 5))
       go true h = rw (length_part pool p (word_at table r 3) (leb-true (p + word_at table r 3) (length pool) h))
-      go false h = rw and-false (unfold pick in refl)
+      go false h = rw and-false refl
 
   module _ (rd : Walk Datatype) where
-    from-pick : (b : Bool) (e : Entry) {x : Found Datatype} → from_entry rd table pool r p e ≡ x → cond b x bad ≡ from_entry rd table pool r p (pick b e)
-    unfolding from_entry pick
+    from-pick : (b : Bool) (e : Entry) {x : Found Datatype} → from_entry rd table pool r p (Some e) ≡ x → cond b x bad ≡ from_entry rd table pool r p (then_some b e)
+    unfolding from_entry
     from-pick true e h = sym h
     from-pick false e h = refl
 
-    from-leaf : (b : Bool) (c n x : ℕ) → cond b (found (leaf_type table pool r p c) (suc r) p) bad ≡ from_entry rd table pool r p (pick b (Leaf c n 0 x))
+    from-leaf : (b : Bool) (c n x : ℕ) → cond b (found (leaf_type table pool r p c) (suc r) p) bad ≡ from_entry rd table pool r p (then_some b (Leaf c n 0 x))
     unfolding from_entry
     from-leaf b c n x = from-pick b (Leaf c n 0 x) (rw add-zero)
 
     from-tag : (b c : Bool) → leb (p + word_at table r 3) (length pool) ≡ b
-        → cond b (cond c (found (leaf_type table pool r p 5) (suc r) (p + word_at table r 3)) bad) bad ≡ from_entry rd table pool r p (pick (b && c) (leaf_entry table r (leaf_at table pool r p isOpaque)))
-    unfolding from_entry pick leaf_entry leaf_at leaf_of leaf_class leaf_pool
+        → cond b (cond c (found (leaf_type table pool r p 5) (suc r) (p + word_at table r 3)) bad) bad ≡ from_entry rd table pool r p (then_some (b && c) (leaf_entry table r (leaf_at table pool r p isOpaque)))
+    unfolding from_entry leaf_entry leaf_at leaf_of leaf_class leaf_pool
     from-tag true c h =
         from-pick c (leaf_entry table r (leaf_at table pool r p isOpaque)) (ap (λ (n : ℕ). found (leaf_type table pool r p 5) (suc r) (p + n)) (length_part pool p (word_at table r 3) (leb-true _ _ h)))
     from-tag false c h = refl
@@ -91,9 +92,9 @@ module _ (table pool : List ℕ) (n r p : ℕ) where
     where
       go : (b : Bool)
           → cond b (and_then (rd (suc r) (p + word_at table r 3)) (λ t r₁ p₁. and_then (members_at rd table pool n r₁ p₁) (λ ms r₂ p₂. found (member (take (word_at table r 3) (drop p pool)) (word_at table r 1) t ms) r₂ p₂))) bad
-          ≡ from_member rd (members_at rd table pool n) pool r p (pick_member b (Named (word_at table r 1) (word_at table r 3)))
-      go true = unfold from_member pick_member in refl
-      go false = unfold from_member pick_member in refl
+          ≡ from_member rd (members_at rd table pool n) pool r p (then_some b (member_in table r 1))
+      go true = unfold from_member member_in in refl
+      go false = unfold from_member in refl
 
   pub enum_names_at-entry : enum_names_at table pool (suc n) r p ≡ from_enum_member (enum_names_at table pool n) pool r p (enum_member_at_of table pool r p)
   unfolding enum_member_at_of
@@ -101,9 +102,9 @@ module _ (table pool : List ℕ) (n r p : ℕ) where
     where
       go : (b : Bool)
           → cond b (and_then (enum_names_at table pool n (suc r) (p + word_at table r 3)) (λ ns r' p'. found ((take (word_at table r 3) (drop p pool), word_at table r 4) ∷ ns) r' p')) bad
-          ≡ from_enum_member (enum_names_at table pool n) pool r p (pick_member b (Named (word_at table r 3) (word_at table r 4)))
-      go true = unfold from_enum_member pick_member in refl
-      go false = unfold from_enum_member pick_member in refl
+          ≡ from_enum_member (enum_names_at table pool n) pool r p (then_some b (member_in table r 4))
+      go true = unfold from_enum_member member_in in refl
+      go false = unfold from_enum_member in refl
 
 -- what is known of a row lies in the table and in the pool
 module _ (table pool : List ℕ) (r p : ℕ) where
@@ -123,18 +124,18 @@ module _ (table pool : List ℕ) (r p : ℕ) where
       let e = and_both (row_is_of table r v) (leb (p + n) (length pool)) h in
       (row_is-fits table r v l e.0, leb-true (p + n) (length pool) e.1)
 
-  inside-pick : (b : Bool) (e : Entry) → (b ≡ true → EntryInside e (length table) (length pool) r p) → EntryInside (pick b e) (length table) (length pool) r p
-  unfolding EntryInside pick
+  inside-pick : (b : Bool) (e : Entry) → (b ≡ true → EntryInside (Some e) (length table) (length pool) r p) → EntryInside (then_some b e) (length table) (length pool) r p
+  unfolding EntryInside
   inside-pick true e h = h refl
   inside-pick false e h = tt
 
   inside-kind : (k : Kind) → EntryInside (entry_of table pool r p k) (length table) (length pool) r p
-  unfolding entry_of leaf_entry EntryInside compound_row enumeration_row variable_length_row array_row
+  unfolding entry_of leaf_entry EntryInside PieceInside compound_row enumeration_row variable_length_row array_row
   inside-kind (is_leaf k) =
       inside-pick _ _ (λ h. (row_is-fits table r _ (length-leaf_row p (word_at table r 1) (leaf_at table pool r p k)) (and_both _ _ (and_both (tag_inside table pool r p k) _ h).1).0, tag-behind k))
-  inside-kind isCompound = inside-pick _ _ (λ h. row_is-fits table r _ (length-row _ _) h)
-  inside-kind isEnumeration = inside-pick _ _ (λ h. row_is-fits table r _ (length-row _ _) h)
-  inside-kind isVariableLength = inside-pick _ _ (λ h. row_is-fits table r _ (length-row _ _) (and_both _ _ h).0)
+  inside-kind isCompound = inside-pick _ _ (λ h. (row_is-fits table r _ (length-row _ _) h, tt))
+  inside-kind isEnumeration = inside-pick _ _ (λ h. (row_is-fits table r _ (length-row _ _) h, tt))
+  inside-kind isVariableLength = inside-pick _ _ (λ h. (row_is-fits table r _ (length-row _ _) (and_both _ _ h).0, tt))
   inside-kind isArray = inside-pick _ _ (λ h. known (array_row p (word_at table r 3)) (word_at table r 3 * 4) (length-row _ _) h)
   inside-kind isUnknown = tt
 
@@ -142,103 +143,67 @@ module _ (table pool : List ℕ) (r p : ℕ) where
   unfolding entry_at
   entry-inside = inside-kind (kind_of (word_at table r 0))
 
-  pub member-inside : MemberInside (member_at_of table pool r p) (length table) (length pool) r p (member_name_length (member_at_of table pool r p))
+  pub member-inside : MemberInside (member_at_of table pool r p) (length table) (length pool) r p
   unfolding member_at_of
   member-inside = go _ refl
     where
       go : (b : Bool) → (row_is_of table r (member_row p (word_at table r 1) (word_at table r 3)) && leb (p + word_at table r 3) (length pool)) ≡ b
-          → MemberInside (pick_member b (Named (word_at table r 1) (word_at table r 3))) (length table) (length pool) r p (member_name_length (pick_member b (Named (word_at table r 1) (word_at table r 3))))
-      go true h = unfold MemberInside member_name_length pick_member in known (member_row p (word_at table r 1) (word_at table r 3)) (word_at table r 3) (length-member_row p (word_at table r 1) (word_at table r 3)) h
-      go false h = unfold MemberInside member_name_length pick_member in tt
+          → MemberInside (then_some b (member_in table r 1)) (length table) (length pool) r p
+      go true h = unfold MemberInside member_in in known (member_row p (word_at table r 1) (word_at table r 3)) (word_at table r 3) (length-member_row p (word_at table r 1) (word_at table r 3)) h
+      go false h = unfold MemberInside in tt
 
-  pub enum_member_inside : MemberInside (enum_member_at_of table pool r p) (length table) (length pool) r p (enum_member_name_length (enum_member_at_of table pool r p))
+  pub enum_member_inside : MemberInside (enum_member_at_of table pool r p) (length table) (length pool) r p
   unfolding enum_member_at_of
   enum_member_inside = go _ refl
     where
       go : (b : Bool) → (row_is_of table r (enum_member_row p (word_at table r 3) (word_at table r 4)) && leb (p + word_at table r 3) (length pool)) ≡ b
-          → MemberInside (pick_member b (Named (word_at table r 3) (word_at table r 4))) (length table) (length pool) r p (enum_member_name_length (pick_member b (Named (word_at table r 3) (word_at table r 4))))
-      go true h = unfold MemberInside enum_member_name_length pick_member in known (enum_member_row p (word_at table r 3) (word_at table r 4)) (word_at table r 3) (length-enum_member_row p (word_at table r 3) (word_at table r 4)) h
-      go false h = unfold MemberInside enum_member_name_length pick_member in tt
+          → MemberInside (then_some b (member_in table r 4)) (length table) (length pool) r p
+      go true h = unfold MemberInside member_in in known (enum_member_row p (word_at table r 3) (word_at table r 4)) (word_at table r 3) (length-enum_member_row p (word_at table r 3) (word_at table r 4)) h
+      go false h = unfold MemberInside in tt
 
 -- what a caller knows of a row that it has taken apart
-module _ {e : Entry} (w b r p : ℕ) (h : EntryInside e w b r p) where
+module _ {o : Option Entry} {e : Entry} (w b r p : ℕ) (h : EntryInside o w b r p) (i : o ≡ Some e) where
+  pub row-inside : r * 16 + 16 ≤ w
+  unfolding EntryInside
+  row-inside = (rw i at h).0
+
+  piece-inside : PieceInside e b p
+  unfolding EntryInside
+  piece-inside = (rw i at h).1
+
   pub leaf-inside : {c n l x : ℕ} → e ≡ Leaf c n l x → (r * 16 + 16 ≤ w) × (p + l ≤ max b p)
-  unfolding EntryInside
-  leaf-inside i = rw i at h
-
-  pub compound-inside : {n k : ℕ} → e ≡ Compound n k → r * 16 + 16 ≤ w
-  unfolding EntryInside
-  compound-inside i = rw i at h
-
-  pub enumeration-inside : {n k : ℕ} → e ≡ Enumeration n k → r * 16 + 16 ≤ w
-  unfolding EntryInside
-  enumeration-inside i = rw i at h
-
-  pub variable_length-inside : {i a c : ℕ} → e ≡ VariableLength i a c → r * 16 + 16 ≤ w
-  unfolding EntryInside
-  variable_length-inside i = rw i at h
+  unfolding PieceInside
+  leaf-inside j = (row-inside, rw j at piece-inside)
 
   pub array-inside : {k : ℕ} → e ≡ Array k → (r * 16 + 16 ≤ w) × (p + k * 4 ≤ b)
-  unfolding EntryInside
-  array-inside i = rw i at h
-
-module _ {m : Member} {x y : ℕ} (w b r p : ℕ) (i : m ≡ Named x y) where
-  pub named-inside : MemberInside m w b r p (member_name_length m) → (r * 16 + 16 ≤ w) × (p + y ≤ b)
-  unfolding MemberInside member_name_length
-  named-inside h = rw i at h
-
-  pub enum_named_inside : MemberInside m w b r p (enum_member_name_length m) → (r * 16 + 16 ≤ w) × (p + x ≤ b)
-  unfolding MemberInside enum_member_name_length
-  enum_named_inside h = rw i at h
+  unfolding PieceInside
+  array-inside j = (row-inside, rw j at piece-inside)
 
 -- The same in the form of a need: the number of the next row and the place behind a piece do not wrap, a row lies in the table and a piece in
 -- the pool.
-module _ {e : Entry} (w b r p : ℕ) (h : EntryInside e w b r p) where
-  pub leaf-next : {c n l x : ℕ} → e ≡ Leaf c n l x → w < 18446744073709551616 → Fits w64 (r + 1)
-  leaf-next i k = let j = leaf-inside w b r p h i in record { fits = omega arith }
+module _ {o : Option Entry} {e : Entry} (w b r p : ℕ) (h : EntryInside o w b r p) (i : o ≡ Some e) where
+  pub row-next : w < 18446744073709551616 → Fits w64 (r + 1)
+  row-next k = let j = row-inside w b r p h i in record { fits = omega arith }
 
   pub leaf-behind : {c n l x : ℕ} → e ≡ Leaf c n l x → b < 18446744073709551616 → p < 18446744073709551616 → Fits w64 (p + l)
-  leaf-behind i k m = let j = leaf-inside w b r p h i in record { fits = omega arith }
-
-  pub compound-next : {n k : ℕ} → e ≡ Compound n k → w < 18446744073709551616 → Fits w64 (r + 1)
-  compound-next i k = let j = compound-inside w b r p h i in record { fits = omega arith }
-
-  pub enumeration-next : {n k : ℕ} → e ≡ Enumeration n k → w < 18446744073709551616 → Fits w64 (r + 1)
-  enumeration-next i k = let j = enumeration-inside w b r p h i in record { fits = omega arith }
-
-  pub variable_length-next : {i a c : ℕ} → e ≡ VariableLength i a c → w < 18446744073709551616 → Fits w64 (r + 1)
-  variable_length-next i k = let j = variable_length-inside w b r p h i in record { fits = omega arith }
-
-  pub array-next : {k : ℕ} → e ≡ Array k → w < 18446744073709551616 → Fits w64 (r + 1)
-  array-next i k = let j = array-inside w b r p h i in record { fits = omega arith }
+  leaf-behind f k m = let j = leaf-inside w b r p h i f in record { fits = omega arith }
 
   pub array_behind : {k : ℕ} → e ≡ Array k → b < 18446744073709551616 → Fits w64 (p + k * 4)
-  array_behind i k = let j = array-inside w b r p h i in record { fits = omega arith }
-
-  pub enumeration-row : {n k : ℕ} → e ≡ Enumeration n k → r * 16 + 16 ≤ w
-  enumeration-row i = enumeration-inside w b r p h i
-
-  pub array-row : {k : ℕ} → e ≡ Array k → r * 16 + 16 ≤ w
-  array-row i = (array-inside w b r p h i).0
+  array_behind f k = let j = array-inside w b r p h i f in record { fits = omega arith }
 
   pub array-piece : {k : ℕ} → e ≡ Array k → p + k * 4 ≤ b
-  array-piece i = (array-inside w b r p h i).1
+  array-piece f = (array-inside w b r p h i f).1
 
-module _ {m : Member} {x y : ℕ} (w b r p : ℕ) (i : m ≡ Named x y) where
-  pub named-next : MemberInside m w b r p (member_name_length m) → w < 18446744073709551616 → Fits w64 (r + 1)
-  named-next h k = let j = named-inside w b r p i h in record { fits = omega arith }
+module _ {o : Option Member} {m : Member} (w b r p : ℕ) (i : o ≡ Some m) (h : MemberInside o w b r p) where
+  pub named-inside : (r * 16 + 16 ≤ w) × (p + m.name ≤ b)
+  unfolding MemberInside
+  named-inside = rw i at h
 
-  pub named-behind : MemberInside m w b r p (member_name_length m) → b < 18446744073709551616 → Fits w64 (p + y)
-  named-behind h k = let j = named-inside w b r p i h in record { fits = omega arith }
+  pub named-next : w < 18446744073709551616 → Fits w64 (r + 1)
+  named-next k = let j = named-inside in record { fits = omega arith }
 
-  pub named-piece : MemberInside m w b r p (member_name_length m) → p + y ≤ b
-  named-piece h = (named-inside w b r p i h).1
+  pub named-behind : b < 18446744073709551616 → Fits w64 (p + m.name)
+  named-behind k = let j = named-inside in record { fits = omega arith }
 
-  pub enum_named_next : MemberInside m w b r p (enum_member_name_length m) → w < 18446744073709551616 → Fits w64 (r + 1)
-  enum_named_next h k = let j = enum_named_inside w b r p i h in record { fits = omega arith }
-
-  pub enum_named_behind : MemberInside m w b r p (enum_member_name_length m) → b < 18446744073709551616 → Fits w64 (p + x)
-  enum_named_behind h k = let j = enum_named_inside w b r p i h in record { fits = omega arith }
-
-  pub enum_named_piece : MemberInside m w b r p (enum_member_name_length m) → p + x ≤ b
-  enum_named_piece h = (enum_named_inside w b r p i h).1
+  pub named-piece : p + m.name ≤ b
+  named-piece = named-inside.1

@@ -1,57 +1,46 @@
 -- Rows that are read again without a test: the answer is the definition's, unless the row is unknown; and what that gives a walk.
 use Prim.Native.Nat.{ℕ, zero, suc, ◌+◌, ◌-◌, ◌*◌, ◌/◌, ◌<◌, ◌≤◌, max}
-use mathlib.Core.Path.{◌≡◌, refl, sym, ap, ◌∙◌}
+use mathlib.Core.Path.{◌≡◌, refl, sym, ◌∙◌}
 use mathlib.Core.Bool.{Bool, true, false, false≢true, ◌&&◌, ◌||◌}
 use mathlib.Core.List.{List}
 use native.Mathlib.Omega.{arith}
 use native.Mathlib.Nat.{mul-one}
 use lib.ListN.{length, get_or}
-use lib.Dec.{leb, eqb}
+use lib.Dec.{leb, ltb, eqb}
 use mir.Syntax.{w64}
 use mir.Val.{Fits}
-use borrow.Author.Tests.{leb-true, leb-false, le-leb, lt-leb, ne_eqb}
+use borrow.Author.Tests.{leb-true, leb-false, le-leb, lt-leb, ne_eqb, ltb-true, ltb-false}
 use Rattle.format.specs.Columns.{place_column}
 use Rattle.format.specs.Datatype.{Datatype, Members}
-use Rattle.format.specs.Table.{word_at, row_is_of, row, array_row, enum_member_row, Found, bad, Walk, Kind, is_leaf, isCompound, isEnumeration, isVariableLength, isArray, isUnknown, kind_of, members_at, enum_names_at, type_at}
+use Rattle.format.specs.Table.{word_at, row_is_of, row, array_row, member_row, enum_member_row, Found, bad, Walk, Kind, is_leaf, isCompound, isEnumeration, isVariableLength, isArray, isUnknown, kind_of, members_at, enum_names_at, type_at}
 use Rattle.format.proofs.Booleans.{and_both}
 use Rattle.format.proofs.TableSteps.{row_is-true}
-use Rattle.rows.specs.Entries.{pick, pick_member, leaf_entry, entry_of, entry_at, member_at_of, enum_member_at_of, EntryInside, EntryIfKnown, is_known, entry_fits_of, RowSays, RowNames, MemberInside, MemberIfKnown, is_named, member_name_length, enum_member_name_length, from_entry, from_member, from_enum_member}
+use Rattle.std.specs.Prelude.{Option, Some, None, is_some}
+use Rattle.std.specs.Bool.{then_some}
+use Rattle.rows.specs.Entries.{leaf_entry, entry_of, entry_at, member_in, member_at_of, enum_member_at_of, PieceInside, EntryInside, IfKnown, entry_fits_of, RowSays, RowNames, ColumnsSay, MemberInside, from_entry, from_member, from_enum_member}
 use Rattle.rows.specs.declared.Entry.{Entry}
-use Rattle.rows.specs.declared.Entry.TheVariants.{Leaf, Compound, Enumeration, VariableLength, Array, Unknown}
+use Rattle.rows.specs.declared.Entry.TheVariants.{Leaf, Compound, Enumeration, VariableLength, Array}
 use Rattle.rows.specs.declared.Member.{Member}
-use Rattle.rows.specs.declared.Member.TheVariants.{Named, Unnamed}
-use Rattle.rows.proofs.Columns.{NoKind, answered, no_kind_entry, short-entry, short-member}
-use Rattle.rows.proofs.Decode.{leaf-entry, entry-kind, opaque_picked, type_at_entry, members_at-entry, enum_names_at-entry, entry-inside, member-inside}
+use Rattle.std.proofs.lemmas.Option.{same_Some}
+use Rattle.rows.specs.Columns.{piece_columns_of}
+use Rattle.rows.proofs.Columns.{NoKind, answered, no_kind_entry, short-entry, answered-member, short-member, answered_enum_member, short_enum_member, member-entry, enum_member_entry}
+use Rattle.rows.proofs.Decode.{leaf-entry, entry-kind, opaque_picked, type_at_entry, members_at-entry, enum_names_at-entry, entry-inside}
 
-known-itself : (e : Entry) → EntryIfKnown e e
-unfolding EntryIfKnown
-known-itself (Leaf c n l x) = refl
-known-itself (Compound n k) = refl
-known-itself (Enumeration n k) = refl
-known-itself (VariableLength i a c) = refl
-known-itself (Array k) = refl
-known-itself Unknown = tt
+known-itself : {A : Type 0} (e : Option A) → IfKnown e e
+unfolding IfKnown
+known-itself (Some x) = refl
+known-itself None = tt
 
--- a test that a row is known leaves its entry
-known-tested : (b : Bool) (e : Entry) → EntryIfKnown (pick b e) e
-unfolding pick EntryIfKnown
-known-tested true e = known-itself e
-known-tested false e = tt
+-- a test that a row is known leaves its entry, or member
+known-tested : {A : Type 0} (b : Bool) (x : A) → IfKnown (then_some b x) (Some x)
+unfolding IfKnown
+known-tested true x = refl
+known-tested false x = tt
 
-named-itself : (m : Member) → MemberIfKnown m m
-unfolding MemberIfKnown
-named-itself (Named a b) = refl
-named-itself Unnamed = tt
-
-named-tested : (b : Bool) (m : Member) → MemberIfKnown (pick_member b m) m
-unfolding pick_member MemberIfKnown
-named-tested true m = named-itself m
-named-tested false m = tt
-
-named-part : (a b : Bool) (m : Member) → MemberIfKnown (pick_member (a && b) m) (pick_member b m)
-unfolding pick_member MemberIfKnown
-named-part true b m = named-itself (pick_member b m)
-named-part false b m = tt
+known-part : {A : Type 0} (a b : Bool) (x : A) → IfKnown (then_some (a && b) x) (then_some b x)
+unfolding IfKnown
+known-part true b x = known-itself (then_some b x)
+known-part false b x = tt
 
 -- a piece at a place ends in the pool if its length is at most what is behind the place
 pub fits-behind : (place bytes lent : ℕ) → place ≤ lent → leb bytes (lent - place) ≡ leb (place + bytes) lent
@@ -66,97 +55,92 @@ fits-past place bytes lent h = sym (lt-leb (place + bytes) lent (omega arith))
 
 -- a row of each kind, which lies in the table
 module _ (table : List ℕ) (r : ℕ) where
-  unknown_says : ((pool : List ℕ) (p : ℕ) → Unknown ≡ entry_at table pool r p) → RowSays table r Unknown
-  unfolding EntryIfKnown is_known
+  unknown_says : ((pool : List ℕ) (p : ℕ) → None ≡ entry_at table pool r p) → RowSays table r None
+  unfolding IfKnown
   unknown_says f = record { is = λ pool p. rw (← f pool p) tt; inside = λ k. absurd (false≢true k) }
 
-  pub says-short : length table / 16 ≤ r → RowSays table r Unknown
+  pub says-short : length table / 16 ≤ r → RowSays table r None
   says-short h = unknown_says (λ pool p. short-entry table pool r p h)
 
-  pub names-short : length table / 16 ≤ r → RowNames table r Unnamed
-  unfolding MemberIfKnown is_named
+  pub names-short : length table / 16 ≤ r → RowNames table r None
+  unfolding IfKnown
   names-short h = record { is = λ pool p. rw (← short-member table pool r p h) tt; inside = λ k. absurd (false≢true k) }
 
   module _ (h : r < length table / 16) where
     abbrev kind : ℕ
     kind = get_or table (r * 16) 0
 
-    says : {e : Entry} → ((pool : List ℕ) (p : ℕ) → EntryIfKnown (entry_at table pool r p) e) → RowSays table r e
+    says : {e : Entry} → ((pool : List ℕ) (p : ℕ) → IfKnown (entry_at table pool r p) (Some e)) → RowSays table r (Some e)
     says f = record { is = f; inside = λ k. omega arith }
 
-    pub says-fixed_point : kind ≡ 1 → RowSays table r (Leaf 0 (word_at table r 1) 0 (word_at table r 5))
+    pub says-fixed_point : kind ≡ 1 → RowSays table r (Some (Leaf 0 (word_at table r 1) 0 (word_at table r 5)))
     unfolding leaf-entry
     says-fixed_point e = says (λ pool p. rw (entry-kind table pool r p e) (known-tested _ _))
 
-    pub says-floating_point : kind ≡ 2 → RowSays table r (Leaf 1 (word_at table r 1) 0 (word_at table r 5))
+    pub says-floating_point : kind ≡ 2 → RowSays table r (Some (Leaf 1 (word_at table r 1) 0 (word_at table r 5)))
     unfolding leaf-entry
     says-floating_point e = says (λ pool p. rw (entry-kind table pool r p e) (known-tested _ _))
 
-    pub says-time : kind ≡ 3 → RowSays table r (Leaf 2 (word_at table r 1) 0 (word_at table r 5))
+    pub says-time : kind ≡ 3 → RowSays table r (Some (Leaf 2 (word_at table r 1) 0 (word_at table r 5)))
     unfolding leaf-entry
     says-time e = says (λ pool p. rw (entry-kind table pool r p e) (known-tested _ _))
 
-    pub says-string : kind ≡ 4 → RowSays table r (Leaf 3 (word_at table r 1) 0 (word_at table r 5))
+    pub says-string : kind ≡ 4 → RowSays table r (Some (Leaf 3 (word_at table r 1) 0 (word_at table r 5)))
     unfolding leaf-entry
     says-string e = says (λ pool p. rw (entry-kind table pool r p e) (known-tested _ _))
 
-    pub says-bit_field : kind ≡ 5 → RowSays table r (Leaf 4 (word_at table r 1) 0 (word_at table r 5))
+    pub says-bit_field : kind ≡ 5 → RowSays table r (Some (Leaf 4 (word_at table r 1) 0 (word_at table r 5)))
     unfolding leaf-entry
     says-bit_field e = says (λ pool p. rw (entry-kind table pool r p e) (known-tested _ _))
 
-    pub says-opaque : kind ≡ 6 → RowSays table r (Leaf 5 (word_at table r 1) (word_at table r 3) (word_at table r 5))
+    pub says-opaque : kind ≡ 6 → RowSays table r (Some (Leaf 5 (word_at table r 1) (word_at table r 3) (word_at table r 5)))
     unfolding kind_of
     says-opaque e = says (λ pool p. rw (entry-kind table pool r p e, opaque_picked table pool r p) (known-tested _ _))
 
-    pub says-compound : kind ≡ 7 → RowSays table r (Compound (word_at table r 1) (word_at table r 4))
+    pub says-compound : kind ≡ 7 → RowSays table r (Some (Compound (word_at table r 1) (word_at table r 4)))
     unfolding entry_of kind_of
     says-compound e = says (λ pool p. rw (entry-kind table pool r p e) (known-tested _ _))
 
-    pub says-reference : kind ≡ 8 → RowSays table r (Leaf 7 (word_at table r 1) 0 (word_at table r 5))
+    pub says-reference : kind ≡ 8 → RowSays table r (Some (Leaf 7 (word_at table r 1) 0 (word_at table r 5)))
     unfolding leaf-entry
     says-reference e = says (λ pool p. rw (entry-kind table pool r p e) (known-tested _ _))
 
-    pub says-enumeration : kind ≡ 9 → RowSays table r (Enumeration (word_at table r 1) (word_at table r 4))
+    pub says-enumeration : kind ≡ 9 → RowSays table r (Some (Enumeration (word_at table r 1) (word_at table r 4)))
     unfolding entry_of kind_of
     says-enumeration e = says (λ pool p. rw (entry-kind table pool r p e) (known-tested _ _))
 
-    pub says-variable_length : kind ≡ 10 → RowSays table r (VariableLength (word_at table r 5) (word_at table r 6) (word_at table r 7))
+    pub says-variable_length : kind ≡ 10 → RowSays table r (Some (VariableLength (word_at table r 5) (word_at table r 6) (word_at table r 7)))
     unfolding entry_of kind_of
     says-variable_length e = says (λ pool p. rw (entry-kind table pool r p e) (known-tested _ _))
 
-    pub says-array : kind ≡ 11 → RowSays table r (Array (word_at table r 3))
+    pub says-array : kind ≡ 11 → RowSays table r (Some (Array (word_at table r 3)))
     unfolding entry_of kind_of
     says-array e = says (λ pool p. rw (entry-kind table pool r p e) (known-tested _ _))
 
-    pub says_none : NoKind kind → RowSays table r Unknown
+    pub says_none : NoKind kind → RowSays table r None
     says_none n = unknown_says (λ pool p. no_kind_entry table pool r p n)
 
-    pub names-member : RowNames table r (Named (word_at table r 1) (word_at table r 3))
+    names-member : RowNames table r (Some (member_in table r 1))
     unfolding member_at_of
-    names-member = record { is = λ pool p. named-tested _ _; inside = λ k. omega arith }
+    names-member = record { is = λ pool p. known-tested _ _; inside = λ k. omega arith }
 
 -- ---- by the test of a row
 
 -- a test that tells whether the row is known picks its entry
-pub known_is : (table pool : List ℕ) (r p : ℕ) (e : Entry) {a b : Bool} → is_known e ≡ true → entry_at table pool r p ≡ pick b e → a ≡ b → a ≡ is_known (entry_at table pool r p)
-known_is table pool r p e {a = a} {b = b} k f g = g ∙ rw f (go b)
+pub known_is : (table pool : List ℕ) (r p : ℕ) (e : Entry) {a b : Bool} → entry_at table pool r p ≡ then_some b e → a ≡ b → a ≡ is_some (entry_at table pool r p)
+known_is table pool r p e {a = a} {b = b} f g = g ∙ rw f (go b)
   where
-    go : (b : Bool) → b ≡ is_known (pick b e)
-    go true = unfold pick in sym k
-    go false = unfold pick is_known in refl
+    go : (b : Bool) → b ≡ is_some (then_some b e)
+    go true = refl
+    go false = refl
 
-pub none-known : (table pool : List ℕ) (r p : ℕ) → NoKind (get_or table (r * 16) 0) → false ≡ is_known (entry_at table pool r p)
-unfolding is_known
+pub none-known : (table pool : List ℕ) (r p : ℕ) → NoKind (get_or table (r * 16) 0) → false ≡ is_some (entry_at table pool r p)
 none-known table pool r p n = rw (← no_kind_entry table pool r p n)
 
-known_picked : (y e : Entry) → EntryIfKnown y e → pick (is_known y) e ≡ y
-unfolding EntryIfKnown pick is_known
-known_picked (Leaf c n l x) e q = q
-known_picked (Compound n k) e q = q
-known_picked (Enumeration n k) e q = q
-known_picked (VariableLength i a c) e q = q
-known_picked (Array k) e q = q
-known_picked Unknown e q = refl
+known_picked : (y : Option Entry) (e : Entry) → IfKnown y (Some e) → then_some (is_some y) e ≡ y
+unfolding IfKnown
+known_picked (Some x) e q = q
+known_picked None e q = refl
 
 -- a row that is read again: its piece is tested to lie in the pool
 module _ (r p : ℕ) where
@@ -168,38 +152,53 @@ module _ (r p : ℕ) where
   tag-inside zero bytes i = omega arith
   tag-inside (suc l) bytes i = omega (arith, leb-true (p + suc l) bytes (rw (ne_eqb (suc l) 0 (λ z. omega arith)) at i))
 
-  again-is : (y e : Entry) (words bytes : ℕ) → EntryInside y words bytes r p → EntryIfKnown y e → EntryIfKnown y (pick (entry_fits_of e p bytes) e)
-  unfolding EntryInside EntryIfKnown entry_fits_of pick
-  again-is (Leaf c n l x) e words bytes i q = rw (q, tag_fits l bytes i.1)
-  again-is (Compound n k) e words bytes i q = rw q
-  again-is (Enumeration n k) e words bytes i q = rw q
-  again-is (VariableLength a b c) e words bytes i q = rw q
-  again-is (Array k) e words bytes i q = rw (q, le-leb (p + k * 4) bytes i.1)
-  again-is Unknown e words bytes i q = tt
-
-  again-inside : (e : Entry) (words bytes : ℕ) → (is_known e ≡ true → r * 16 + 16 ≤ words) → EntryInside (pick (entry_fits_of e p bytes) e) words bytes r p
-  unfolding EntryInside entry_fits_of pick is_known
-  again-inside (Leaf c n l x) words bytes h = go (eqb l 0 || leb (p + l) bytes) refl
+  again-is : (y : Option Entry) (e : Entry) (words bytes : ℕ) → EntryInside y words bytes r p → IfKnown y (Some e) → IfKnown y (then_some (entry_fits_of e p bytes) e)
+  unfolding EntryInside IfKnown PieceInside entry_fits_of
+  again-is (Some x) e words bytes i q = rw (← q) (fit e (rw (same_Some _ _ (sym q)) at i.1))
     where
-      go : (b : Bool) → (eqb l 0 || leb (p + l) bytes) ≡ b → EntryInside (pick b (Leaf c n l x)) words bytes r p
-      go true t = (h refl, tag-inside l bytes t)
-      go false t = tt
-  again-inside (Compound n k) words bytes h = h refl
-  again-inside (Enumeration n k) words bytes h = h refl
-  again-inside (VariableLength a b c) words bytes h = h refl
-  again-inside (Array k) words bytes h = go (leb (p + k * 4) bytes) refl
+      fit : (e : Entry) → PieceInside e bytes p → then_some (entry_fits_of e p bytes) e ≡ Some e
+      fit (Leaf c n l x) i = rw (tag_fits l bytes i)
+      fit (Compound n k) i = refl
+      fit (Enumeration n k) i = refl
+      fit (VariableLength a b c) i = refl
+      fit (Array k) i = rw (le-leb (p + k * 4) bytes i)
+  again-is None e words bytes i q = tt
+
+  again-inside : (e : Entry) (words bytes : ℕ) → r * 16 + 16 ≤ words → EntryInside (then_some (entry_fits_of e p bytes) e) words bytes r p
+  unfolding EntryInside PieceInside entry_fits_of
+  again-inside e words bytes h = go (entry_fits_of e p bytes) (within e)
     where
-      go : (b : Bool) → leb (p + k * 4) bytes ≡ b → EntryInside (pick b (Array k)) words bytes r p
-      go true t = (h refl, leb-true (p + k * 4) bytes t)
+      go : (b : Bool) → (b ≡ true → PieceInside e bytes p) → EntryInside (then_some b e) words bytes r p
+      go true t = (h, t refl)
       go false t = tt
-  again-inside Unknown words bytes h = tt
 
-module _ (table pool : List ℕ) (r p : ℕ) {e x : Entry} {b : Bool} (s : RowSays table r e) (g : x ≡ pick b e) where
-  pub entry-tested : b ≡ is_known (entry_at table pool r p) → (x ≡ entry_at table pool r p) × EntryInside x (length table) (length pool) r p
-  entry-tested f = answered table pool r p (g ∙ rw f (known_picked _ e (s.is pool p)))
+      within : (e : Entry) → entry_fits_of e p bytes ≡ true → PieceInside e bytes p
+      within (Leaf c n l x) t = tag-inside l bytes t
+      within (Compound n k) t = tt
+      within (Enumeration n k) t = tt
+      within (VariableLength a b c) t = tt
+      within (Array k) t = leb-true (p + k * 4) bytes t
 
-  pub known-again : b ≡ entry_fits_of e p (length pool) → EntryIfKnown (entry_at table pool r p) x × EntryInside x (length table) (length pool) r p
-  known-again f = rw (g, f) (again-is r p _ e _ _ (entry-inside table pool r p) (s.is pool p), again-inside r p e _ _ s.inside)
+module _ (table pool : List ℕ) (r p : ℕ) {o : Option Entry} (s : RowSays table r o) where
+  module _ {e : Entry} {x : Option Entry} {b : Bool} (i : o ≡ Some e) (g : x ≡ then_some b e) where
+    pub entry-tested : b ≡ is_some (entry_at table pool r p) → (x ≡ entry_at table pool r p) × EntryInside x (length table) (length pool) r p
+    entry-tested f = answered table pool r p (g ∙ rw f (known_picked _ e (rw i at (s.is pool p))))
+
+    pub known-again : b ≡ entry_fits_of e p (length pool) → IfKnown (entry_at table pool r p) x × EntryInside x (length table) (length pool) r p
+    known-again f = rw (g, f) (again-is r p _ e _ _ (entry-inside table pool r p) (rw i at (s.is pool p)), again-inside r p e _ _ (s.inside (rw i refl)))
+
+  -- no entry is said only of a row that is unknown
+  pub none-answered : {x : Option Entry} → o ≡ None → x ≡ None → (x ≡ entry_at table pool r p) × EntryInside x (length table) (length pool) r p
+  unfolding IfKnown EntryInside
+  none-answered i g = rw g (go (entry_at table pool r p) (rw i at (s.is pool p)), tt)
+    where
+      go : (y : Option Entry) → IfKnown y None → None ≡ y
+      go (Some x) q = q
+      go None q = refl
+
+  pub none-again : {x : Option Entry} → o ≡ None → x ≡ None → IfKnown (entry_at table pool r p) x × EntryInside x (length table) (length pool) r p
+  unfolding EntryInside
+  none-again i g = rw g (rw i at (s.is pool p), tt)
 
 -- the test of an entry's piece
 module _ {e : Entry} (p bytes : ℕ) where
@@ -227,100 +226,101 @@ module _ {e : Entry} (p bytes : ℕ) where
   unfolding entry_fits_of
   fits-variable_length h = rw h
 
-  pub fits_unknown : e ≡ Unknown → true ≡ entry_fits_of e p bytes
-  unfolding entry_fits_of
-  fits_unknown h = rw h
+-- a member's row
+module _ (table : List ℕ) (r k : ℕ) {o : Option Member} (s : ColumnsSay table r k o) where
+  pub columns_none : o ≡ None → length table / 16 ≤ r
+  columns_none i = go (ltb r (length table / 16)) refl (sym s.is ∙ i)
+    where
+      go : (b : Bool) → ltb r (length table / 16) ≡ b → then_some b (member_in table r k) ≡ None → length table / 16 ≤ r
+      go true t e = cc
+      go false t e = ltb-false r (length table / 16) t
 
--- a member's row that is read again
+  pub record Columns (m : Member) : Type 0 where
+    pub row : r < length table / 16
+    pub is : m ≡ member_in table r k
+
+  pub columns_some : {m : Member} → o ≡ Some m → Columns m
+  columns_some {m = m} i = go (ltb r (length table / 16)) refl (sym s.is ∙ i)
+    where
+      go : (b : Bool) → ltb r (length table / 16) ≡ b → then_some b (member_in table r k) ≡ Some m → Columns m
+      go true t e = record { row = ltb-true r (length table / 16) t; is = cc }
+      go false t e = cc
+
+pub names-columns : (table : List ℕ) (r : ℕ) {o : Option Member} → ColumnsSay table r 1 o → RowNames table r o
+names-columns table r {o = o} s = go o refl
+  where
+    go : (m : Option Member) → o ≡ m → RowNames table r m
+    go (Some m) e = let c = columns_some table r 1 s e in rw c.is (names-member table r c.row)
+    go None e = names-short table r (columns_none table r 1 s e)
+
 module _ (table pool : List ℕ) (r p : ℕ) where
-  abbrev Answered : Member → Type 0
-  Answered x = MemberIfKnown (member_at_of table pool r p) x × MemberInside x (length table) (length pool) r p (member_name_length x)
+  abbrev MemberAnswered : (of x : Option Member) → Type 0
+  MemberAnswered of x = IfKnown of x × MemberInside x (length table) (length pool) r p
 
-  again-named : (y : Member) (o n words bytes : ℕ) → MemberInside y words bytes r p (member_name_length y) → MemberIfKnown y (Named o n) → MemberIfKnown y (pick_member (leb (p + n) bytes) (Named o n))
-  unfolding MemberInside MemberIfKnown member_name_length pick_member
-  again-named (Named a b) o n words bytes i q =
-      let e : n ≡ b = ap member_name_length q in
-      let l : p + n ≤ bytes = omega (arith, i.1) in
-      rw (le-leb (p + n) bytes l) q
-  again-named Unnamed o n words bytes i q = tt
+  fitting : (m : Member) (b : Bool) → r < length table / 16 → leb (p + m.name) (length pool) ≡ b → MemberInside (then_some b m) (length table) (length pool) r p
+  unfolding MemberInside
+  fitting m true h t = (omega arith, leb-true _ _ t)
+  fitting m false h t = tt
 
-  module _ {m : Member} (s : RowNames table r m) where
-    pub unnamed_again : m ≡ Unnamed → Answered Unnamed
-    unfolding MemberInside
-    unnamed_again e = (rw e at (s.is pool p), tt)
+  -- a member's row that is tested
+  pub member-none : {o x : Option Member} → ColumnsSay table r 1 o → o ≡ None → x ≡ None → (x ≡ member_at_of table pool r p) × MemberInside x (length table) (length pool) r p
+  member-none s i g = rw g (answered-member table pool r p (short-member table pool r p (columns_none table r 1 s i)))
 
-    pub named_again : {x : Member} {o n : ℕ} {b : Bool} → m ≡ Named o n → b ≡ leb (p + n * 1) (length pool) → x ≡ pick_member b (Named o n) → Answered x
-    named_again {o = o} {n = n} e f g =
-        rw (g, f, mul-one) (again-named _ o n _ _ (member-inside table pool r p) (rw e at (s.is pool p)), go (leb (p + n) (length pool)) refl)
-      where
-        go : (b : Bool) → leb (p + n) (length pool) ≡ b → MemberInside (pick_member b (Named o n)) (length table) (length pool) r p (member_name_length (pick_member b (Named o n)))
-        go true t = unfold MemberInside member_name_length pick_member in (s.inside (rw e (unfold is_named in refl)), leb-true _ _ t)
-        go false t = unfold MemberInside member_name_length pick_member in tt
+  pub member-tested : {o x : Option Member} {m : Member} {b : Bool} → ColumnsSay table r 1 o → o ≡ Some m → x ≡ then_some b m
+      → b ≡ (eqb (get_or table (r * 16) 0) 12 && piece_columns_of table pool r p 4 1) → (x ≡ member_at_of table pool r p) × MemberInside x (length table) (length pool) r p
+  member-tested s i g f = let c = columns_some table r 1 s i in answered-member table pool r p (g ∙ rw (f, c.is) (sym (member-entry table pool r p c.row)))
 
-  -- the row of an enumeration's member
-  module _ (h : r < length table / 16) where
-    pub known_enum_member : {x : Member} {b : Bool} → x ≡ pick_member b (Named (word_at table r 3) (word_at table r 4)) → b ≡ leb (p + word_at table r 3 * 1) (length pool)
-        → MemberIfKnown (enum_member_at_of table pool r p) x × MemberInside x (length table) (length pool) r p (enum_member_name_length x)
-    unfolding enum_member_at_of
-    known_enum_member f g = rw (f, g, mul-one) (named-part (row_is_of table r (enum_member_row p (word_at table r 3) (word_at table r 4))) _ _, go _ refl)
-      where
-        go : (b : Bool) → leb (p + word_at table r 3) (length pool) ≡ b → MemberInside (pick_member b (Named (word_at table r 3) (word_at table r 4))) (length table) (length pool) r p (enum_member_name_length (pick_member b (Named (word_at table r 3) (word_at table r 4))))
-        go true t = unfold MemberInside enum_member_name_length pick_member in (omega arith, leb-true _ _ t)
-        go false t = unfold MemberInside enum_member_name_length pick_member in tt
+  pub enum_member_none : {o x : Option Member} → ColumnsSay table r 4 o → o ≡ None → x ≡ None → (x ≡ enum_member_at_of table pool r p) × MemberInside x (length table) (length pool) r p
+  enum_member_none s i g = rw g (answered_enum_member table pool r p (short_enum_member table pool r p (columns_none table r 4 s i)))
 
-  pub enum_unnamed_answered : (n : ℕ) → Unnamed ≡ enum_member_at_of table pool r p → MemberIfKnown (enum_member_at_of table pool r p) Unnamed × MemberInside Unnamed (length table) (length pool) r p n
-  unfolding MemberInside MemberIfKnown
-  enum_unnamed_answered n e = (rw (sym e) tt, tt)
+  pub enum_member_tested : {o x : Option Member} {m : Member} {b : Bool} → ColumnsSay table r 4 o → o ≡ Some m → x ≡ then_some b m
+      → b ≡ ((eqb (get_or table (r * 16) 0) 13 && eqb (word_at table r 1) 0) && piece_columns_of table pool r p 5 1) → (x ≡ enum_member_at_of table pool r p) × MemberInside x (length table) (length pool) r p
+  enum_member_tested s i g f = let c = columns_some table r 4 s i in answered_enum_member table pool r p (g ∙ rw (f, c.is) (sym (enum_member_entry table pool r p c.row)))
+
+  -- and one that is read again
+  pub named-again : {o x : Option Member} {m : Member} → ColumnsSay table r 1 o → o ≡ Some m → x ≡ then_some (leb (p + m.name) (length pool)) m → MemberAnswered (member_at_of table pool r p) x
+  unfolding member_at_of member_in
+  named-again s i g =
+      let c = columns_some table r 1 s i in
+      rw (g, c.is) (known-part (row_is_of table r (member_row p (word_at table r 1) (word_at table r 3))) (leb (p + word_at table r 3) (length pool)) (member_in table r 1), fitting _ _ c.row refl)
+
+  pub unnamed-again : {o x : Option Member} → ColumnsSay table r 1 o → o ≡ None → x ≡ None → MemberAnswered (member_at_of table pool r p) x
+  unfolding IfKnown
+  unnamed-again s i g = let e = member-none s i refl in rw g (rw (← e.0) tt, e.1)
+
+  pub enum_named_again : {o x : Option Member} {m : Member} → ColumnsSay table r 4 o → o ≡ Some m → x ≡ then_some (leb (p + m.name) (length pool)) m → MemberAnswered (enum_member_at_of table pool r p) x
+  unfolding enum_member_at_of member_in
+  enum_named_again s i g =
+      let c = columns_some table r 4 s i in
+      rw (g, c.is) (known-part (row_is_of table r (enum_member_row p (word_at table r 3) (word_at table r 4))) (leb (p + word_at table r 3) (length pool)) (member_in table r 4), fitting _ _ c.row refl)
+
+  pub enum_unnamed_again : {o x : Option Member} → ColumnsSay table r 4 o → o ≡ None → x ≡ None → MemberAnswered (enum_member_at_of table pool r p) x
+  unfolding IfKnown
+  enum_unnamed_again s i g = let e = enum_member_none s i refl in rw g (rw (← e.0) tt, e.1)
 
 -- what a caller knows of a row that it has read by its words alone
-module _ {e : Entry} (table : List ℕ) (r : ℕ) (s : RowSays table r e) where
-  pub says-inside : {f : Entry} → e ≡ f → is_known f ≡ true → r * 16 + 16 ≤ length table
-  says-inside h k = s.inside (rw h k)
+module _ {o : Option Entry} {e : Entry} (table : List ℕ) (r : ℕ) (s : RowSays table r o) (i : o ≡ Some e) where
+  pub says-row : r * 16 + 16 ≤ length table
+  says-row = s.inside (rw i refl)
 
-  pub says-leaf-next : {c n l x : ℕ} → e ≡ Leaf c n l x → length table < 18446744073709551616 → Fits w64 (r + 1)
-  unfolding is_known
-  says-leaf-next h k = let j = says-inside h refl in record { fits = omega arith }
+  pub says-next : length table < 18446744073709551616 → Fits w64 (r + 1)
+  says-next k = let j = says-row in record { fits = omega arith }
 
-  pub says-compound-next : {n k : ℕ} → e ≡ Compound n k → length table < 18446744073709551616 → Fits w64 (r + 1)
-  unfolding is_known
-  says-compound-next h k = let j = says-inside h refl in record { fits = omega arith }
-
-  pub says-enumeration-next : {n k : ℕ} → e ≡ Enumeration n k → length table < 18446744073709551616 → Fits w64 (r + 1)
-  unfolding is_known
-  says-enumeration-next h k = let j = says-inside h refl in record { fits = omega arith }
-
-  pub says-variable_length-next : {i a c : ℕ} → e ≡ VariableLength i a c → length table < 18446744073709551616 → Fits w64 (r + 1)
-  unfolding is_known
-  says-variable_length-next h k = let j = says-inside h refl in record { fits = omega arith }
-
-  pub says-array-next : {k : ℕ} → e ≡ Array k → length table < 18446744073709551616 → Fits w64 (r + 1)
-  unfolding is_known
-  says-array-next h k = let j = says-inside h refl in record { fits = omega arith }
-
-  pub says-enumeration-row : {n k : ℕ} → e ≡ Enumeration n k → r * 16 + 16 ≤ length table
-  unfolding is_known
-  says-enumeration-row h = says-inside h refl
-
-  pub says-array-row : {k : ℕ} → e ≡ Array k → r * 16 + 16 ≤ length table
-  unfolding is_known
-  says-array-row h = says-inside h refl
-
-pub names-next : {m : Member} {x y : ℕ} (table : List ℕ) (r : ℕ) → RowNames table r m → m ≡ Named x y → length table < 18446744073709551616 → Fits w64 (r + 1)
-unfolding is_named
-names-next table r s e k = let j = s.inside (rw e refl) in record { fits = omega arith }
+pub names-next : {o : Option Member} {m : Member} (table : List ℕ) (r : ℕ) → RowNames table r o → o ≡ Some m → length table < 18446744073709551616 → Fits w64 (r + 1)
+names-next table r s i k = let j = s.inside (rw i refl) in record { fits = omega arith }
 
 -- the place of an array's dimensions stands in its row
 module _ (table pool : List ℕ) (r p : ℕ) where
-  unfoldable PlaceStands : Entry → Type 0
-  PlaceStands (Leaf c n l x) = Unit {0}
-  PlaceStands (Compound n k) = Unit {0}
-  PlaceStands (Enumeration n k) = Unit {0}
-  PlaceStands (VariableLength i a c) = Unit {0}
-  PlaceStands (Array k) = word_at table r place_column ≡ p
-  PlaceStands Unknown = Unit {0}
+  unfoldable PlaceStands : Option Entry → Type 0
+  PlaceStands (Some (Leaf c n l x)) = Unit {0}
+  PlaceStands (Some (Compound n k)) = Unit {0}
+  PlaceStands (Some (Enumeration n k)) = Unit {0}
+  PlaceStands (Some (VariableLength i a c)) = Unit {0}
+  PlaceStands (Some (Array k)) = word_at table r place_column ≡ p
+  PlaceStands None = Unit {0}
 
-  place-pick : (b : Bool) (e : Entry) → (b ≡ true → PlaceStands e) → PlaceStands (pick b e)
-  unfolding pick PlaceStands
+  place-pick : (b : Bool) (e : Entry) → (b ≡ true → PlaceStands (Some e)) → PlaceStands (then_some b e)
+  unfolding PlaceStands
   place-pick true e h = h refl
   place-pick false e h = tt
 
@@ -333,40 +333,36 @@ module _ (table pool : List ℕ) (r p : ℕ) where
   place-kind isArray = place-pick _ _ (λ b. row_is-true table r _ 2 (omega arith) (and_both _ _ b).0)
   place-kind isUnknown = tt
 
-  pub array-stands : {k : ℕ} → Array k ≡ entry_at table pool r p → (word_at table r 2 ≡ p) × (p + k * 4 ≤ length pool)
-  unfolding entry_at PlaceStands EntryInside
+  pub array-stands : {k : ℕ} → Some (Array k) ≡ entry_at table pool r p → (word_at table r 2 ≡ p) × (p + k * 4 ≤ length pool)
+  unfolding entry_at PlaceStands EntryInside PieceInside
   array-stands e = (rw (← e) at (place-kind (kind_of (word_at table r 0))), (rw (← e) at (entry-inside table pool r p)).1)
 
 -- A claim that says nothing where no type is found holds where a row is read again, once it holds of the answer, which may be taken to be the
 -- row's own.
 module _ (table pool : List ℕ) (r p : ℕ) where
-  pub claim_of-type : (C : Found Datatype → Type 0) → C bad → (k : ℕ) (x : Entry) → EntryIfKnown (entry_at table pool r p) x
+  pub claim_of-type : (C : Found Datatype → Type 0) → C bad → (k : ℕ) (x : Option Entry) → IfKnown (entry_at table pool r p) x
       → (x ≡ entry_at table pool r p → C (from_entry (type_at k table pool) table pool r p x)) → C (type_at (suc k) table pool r p)
-  unfolding EntryIfKnown from_entry
+  unfolding IfKnown from_entry
   claim_of-type C n k x i h = rw (type_at_entry k table pool r p) (go (entry_at table pool r p) refl i)
     where
-      go : (e : Entry) → entry_at table pool r p ≡ e → EntryIfKnown e x → C (from_entry (type_at k table pool) table pool r p e)
-      go (Leaf c s l y) q e = rw e at (h (e ∙ sym q))
-      go (Compound s m) q e = rw e at (h (e ∙ sym q))
-      go (Enumeration s m) q e = rw e at (h (e ∙ sym q))
-      go (VariableLength a b c) q e = rw e at (h (e ∙ sym q))
-      go (Array m) q e = rw e at (h (e ∙ sym q))
-      go Unknown q e = n
+      go : (e : Option Entry) → entry_at table pool r p ≡ e → IfKnown e x → C (from_entry (type_at k table pool) table pool r p e)
+      go (Some e) q f = rw f at (h (f ∙ sym q))
+      go None q f = n
 
-  pub claim_of-members : (C : Found Members → Type 0) → C bad → (rd : Walk Datatype) (k : ℕ) (x : Member) → MemberIfKnown (member_at_of table pool r p) x
+  pub claim_of-members : (C : Found Members → Type 0) → C bad → (rd : Walk Datatype) (k : ℕ) (x : Option Member) → IfKnown (member_at_of table pool r p) x
       → (x ≡ member_at_of table pool r p → C (from_member rd (members_at rd table pool k) pool r p x)) → C (members_at rd table pool (suc k) r p)
-  unfolding MemberIfKnown from_member
+  unfolding IfKnown from_member
   claim_of-members C n rd k x i h = rw (members_at-entry table pool k r p rd) (go (member_at_of table pool r p) refl i)
     where
-      go : (m : Member) → member_at_of table pool r p ≡ m → MemberIfKnown m x → C (from_member rd (members_at rd table pool k) pool r p m)
-      go (Named a b) q e = rw e at (h (e ∙ sym q))
-      go Unnamed q e = n
+      go : (m : Option Member) → member_at_of table pool r p ≡ m → IfKnown m x → C (from_member rd (members_at rd table pool k) pool r p m)
+      go (Some m) q e = rw e at (h (e ∙ sym q))
+      go None q e = n
 
-  pub claim_of-enum_names : (C : Found (List (List ℕ × ℕ)) → Type 0) → C bad → (k : ℕ) (x : Member) → MemberIfKnown (enum_member_at_of table pool r p) x
+  pub claim_of-enum_names : (C : Found (List (List ℕ × ℕ)) → Type 0) → C bad → (k : ℕ) (x : Option Member) → IfKnown (enum_member_at_of table pool r p) x
       → (x ≡ enum_member_at_of table pool r p → C (from_enum_member (enum_names_at table pool k) pool r p x)) → C (enum_names_at table pool (suc k) r p)
-  unfolding MemberIfKnown from_enum_member
+  unfolding IfKnown from_enum_member
   claim_of-enum_names C n k x i h = rw (enum_names_at-entry table pool k r p) (go (enum_member_at_of table pool r p) refl i)
     where
-      go : (m : Member) → enum_member_at_of table pool r p ≡ m → MemberIfKnown m x → C (from_enum_member (enum_names_at table pool k) pool r p m)
-      go (Named a b) q e = rw e at (h (e ∙ sym q))
-      go Unnamed q e = n
+      go : (m : Option Member) → enum_member_at_of table pool r p ≡ m → IfKnown m x → C (from_enum_member (enum_names_at table pool k) pool r p m)
+      go (Some m) q e = rw e at (h (e ∙ sym q))
+      go None q e = n

@@ -1,6 +1,6 @@
 -- What a leaf's row says of its type.
 use Prim.Native.Nat.{ℕ}
-use mathlib.Core.Path.{◌≡◌, refl, sym, ◌∙◌}
+use mathlib.Core.Path.{◌≡◌, refl, sym, ap, ◌∙◌}
 use mathlib.Core.Bool.{Bool, true, false, ◌&&◌}
 use mathlib.Core.List.{List}
 use lib.ListN.{length}
@@ -8,9 +8,11 @@ use lib.Dec.{eqb}
 use Rattle.format.specs.Datatype.{Leaf as LeafType, leaf_class, leaf_pool, refers, Datatype, leaf}
 use Rattle.format.specs.Image.{leaf_ends}
 use Rattle.format.specs.Table.{word_at, LeafKind, isFixedPoint, isFloatingPoint, isTime, is_string_of, isBitField, isOpaque, isReference, Kind, is_leaf, isCompound, isEnumeration, isVariableLength, isArray, isUnknown, leaf_of, kind_of}
-use Rattle.rows.specs.Entries.{pick, leaf_at, leaf_entry, entry_of, entry_at, leaf_kind_of, leaf_type}
+use Rattle.std.specs.Prelude.{Option, Some, None}
+use Rattle.std.specs.Bool.{then_some}
+use Rattle.rows.specs.Entries.{leaf_at, leaf_entry, entry_of, entry_at, leaf_kind_of, leaf_type}
 use Rattle.rows.specs.declared.Entry.{Entry}
-use Rattle.rows.specs.declared.Entry.TheVariants.{Leaf, Compound, Enumeration, VariableLength, Array, Unknown}
+use Rattle.rows.specs.declared.Entry.TheVariants.{Leaf, Compound, Enumeration, VariableLength, Array}
 
 -- a leaf of a class, a size, a tag's length and a code
 pub record LeafTells (c n l x : ℕ) (t : Datatype) : Type 0 where
@@ -22,20 +24,20 @@ pub record LeafTells (c n l x : ℕ) (t : Datatype) : Type 0 where
   pub ends_by : leaf_ends of ≡ (eqb c 3 && eqb x 0)
 
 module _ (table pool : List ℕ) (r p : ℕ) where
-  unfoldable OfEntry : Entry → Type 0
-  OfEntry (Leaf c n l x) = LeafTells c n l x (leaf_type table pool r p c)
-  OfEntry (Compound n k) = Unit {0}
-  OfEntry (Enumeration n k) = Unit {0}
-  OfEntry (VariableLength i a k) = Unit {0}
-  OfEntry (Array k) = Unit {0}
-  OfEntry Unknown = Unit {0}
+  unfoldable OfEntry : Option Entry → Type 0
+  OfEntry (Some (Leaf c n l x)) = LeafTells c n l x (leaf_type table pool r p c)
+  OfEntry (Some (Compound n k)) = Unit {0}
+  OfEntry (Some (Enumeration n k)) = Unit {0}
+  OfEntry (Some (VariableLength i a k)) = Unit {0}
+  OfEntry (Some (Array k)) = Unit {0}
+  OfEntry None = Unit {0}
 
-  of-pick : (b : Bool) (e : Entry) → (b ≡ true → OfEntry e) → OfEntry (pick b e)
-  unfolding pick OfEntry
+  of-pick : (b : Bool) (e : Entry) → (b ≡ true → OfEntry (Some e)) → OfEntry (then_some b e)
+  unfolding OfEntry
   of-pick true e h = h refl
   of-pick false e h = tt
 
-  leaf_tells : (k : LeafKind) → OfEntry (leaf_entry table r (leaf_at table pool r p k))
+  leaf_tells : (k : LeafKind) → OfEntry (Some (leaf_entry table r (leaf_at table pool r p k)))
   unfolding OfEntry leaf_entry leaf_at leaf_type leaf_kind_of leaf_of leaf_class leaf_pool refers leaf_ends
   leaf_tells isFixedPoint = record { of = _; is = refl; class = refl; tag = refl; refers_by = λ f. refl; ends_by = refl }
   leaf_tells isFloatingPoint = record { of = _; is = refl; class = refl; tag = refl; refers_by = λ f. refl; ends_by = refl }
@@ -54,8 +56,8 @@ module _ (table pool : List ℕ) (r p : ℕ) where
   of-kind isArray = of-pick _ _ (λ b. tt)
   of-kind isUnknown = tt
 
-  pub leaf_law : {c n l x : ℕ} {e : Entry} → e ≡ entry_at table pool r p → e ≡ Leaf c n l x → LeafTells c n l x (leaf_type table pool r p c)
+  pub leaf_law : {c n l x : ℕ} {o : Option Entry} {e : Entry} → o ≡ entry_at table pool r p → o ≡ Some e → e ≡ Leaf c n l x → LeafTells c n l x (leaf_type table pool r p c)
   unfolding entry_at OfEntry
-  leaf_law {c = c} {n = n} {l = l} {x = x} q e =
-      let f : entry_at table pool r p ≡ Leaf c n l x = sym q ∙ e in
+  leaf_law {c = c} {n = n} {l = l} {x = x} q i e =
+      let f : entry_at table pool r p ≡ Some (Leaf c n l x) = sym q ∙ i ∙ ap Some e in
       rw f at (of-kind (kind_of (word_at table r 0)))

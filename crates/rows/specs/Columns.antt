@@ -10,7 +10,7 @@ clear_columns_of table r a b = all_zero (take (b - a) (drop (r * 16 + a) table))
 -- a leaf: columns 2 to 4, 6 up to `from`, and from `to` on are zero, and the code in column 5 is below a limit
 unfoldable pub leaf_columns_of : (table : List ℕ) (r from to limit : ℕ) → Bool
 leaf_columns_of table r from to limit =
-    (clear_columns_of table r 2 5 && (clear_columns_of table r 6 from && clear_columns_of table r to 16)) && ltb (word_at table r 5) limit
+    clear_columns_of table r 2 5 && clear_columns_of table r 6 from && clear_columns_of table r to 16 && ltb (word_at table r 5) limit
 
 -- a compound or an enumeration: only columns 1 and 4
 unfoldable pub group_columns_of : (table : List ℕ) (r : ℕ) → Bool
@@ -18,7 +18,7 @@ group_columns_of table r = clear_columns_of table r 2 4 && clear_columns_of tabl
 
 unfoldable pub variable_length_columns_of : (table : List ℕ) (r : ℕ) → Bool
 variable_length_columns_of table r =
-    (clear_columns_of table r 1 5 && clear_columns_of table r 8 16) && (ltb (word_at table r 5) 2 && (ltb (word_at table r 6) 4 && ltb (word_at table r 7) 3))
+    clear_columns_of table r 1 5 && clear_columns_of table r 8 16 && ltb (word_at table r 5) 2 && ltb (word_at table r 6) 4 && ltb (word_at table r 7) 3
 
 -- a piece of the pool at p, its length in column 3 counted in so many bytes; the columns from `from` on are zero
 unfoldable pub piece_columns_of : (table pool : List ℕ) (r p from width : ℕ) → Bool

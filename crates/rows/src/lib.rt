@@ -1,10 +1,11 @@
 // The rows of a lent table, one at a time: which columns a row of a kind uses, its codes, and its piece of the pool.
 #![tactic(auto)]
 
-ghost use Rattle.std.specs.Prelude.{◌≡◌, ◌+◌, ◌*◌, ◌/◌, ◌-◌, ◌≤◌, ◌<◌, length, take, drop, ◌&&◌, leb};
+ghost use Rattle.std.specs.Prelude.{◌≡◌, ◌+◌, ◌*◌, ◌/◌, ◌-◌, ◌≤◌, ◌<◌, length, take, drop, leb, is_some};
+ghost use Rattle.std.specs.Bool.{then_some};
 ghost use Rattle.format.specs.Bytes.{all_zero};
 ghost use Rattle.rows.specs.Columns.{clear_columns_of, leaf_columns_of, group_columns_of, variable_length_columns_of, piece_columns_of};
-ghost use Rattle.rows.specs.Entries.{pick, pick_member, entry_at, member_at_of, enum_member_at_of, EntryInside, EntryIfKnown, is_known, entry_fits_of, RowSays, RowNames, MemberInside, MemberIfKnown, member_name_length, enum_member_name_length};
+ghost use Rattle.rows.specs.Entries.{entry_at, member_at_of, enum_member_at_of, EntryInside, IfKnown, entry_fits_of, RowSays, RowNames, ColumnsSay, MemberInside};
 
 // A type's row. Leaf: class, size, length of the tag, and column 5 (order, padding or reference kind). Compound and Enumeration: size and
 // number of members. VariableLength: is a string, padding, charset. Array: rank.
@@ -15,121 +16,37 @@ pub enum Entry {
     Enumeration(u32, u32),
     VariableLength(u32, u32, u32),
     Array(u32),
-    Unknown,
 }
 
-// A member's row. Of a compound: offset and length of the name; of an enumeration: length of the name and of the value.
+// A member's row: length of the name; and a compound member's offset, or the length of an enumeration member's value.
 #[derive(Clone, Copy)]
-pub enum Member {
-    Named(u32, u32),
-    Unnamed,
+pub struct Member {
+    pub name: u32,
+    pub number: u32,
 }
 
-// Whether the 16 words from `at` on are all zero: without leaving early, so that they are tested side by side.
-fn clear_16_words(table: &[u32], at: usize) -> bool
-    requires { at + 16 ≤ length table.now }
-    ensures { result ≡ all_zero (take 16 (drop at table.now)) }
-{
-    let mut all: u32 = 0;
-    let mut i = 0;
-    while i < 16 {
-        all = all | table[at + i];
-        i += 1;
-    }
-    all == 0
-}
-
-// Whether the words from `from` up to `to` are all zero.
+// Whether the words from `from` up to `to` are all zero: without leaving early, so that they are tested side by side.
 pub fn clear_words(table: &[u32], from: usize, to: usize) -> bool
     requires { (from ≤ to) × (to ≤ length table.now) }
     ensures { result ≡ all_zero (take (to - from) (drop from table.now)) }
 {
-    let mut i = from;
-    while 16 <= to - i {
-        if clear_16_words(table, i) {
-            i += 16;
-        } else {
-            return false;
-        }
-    }
-    while i < to {
-        if table[i] != 0 {
-            return false;
-        }
-        i += 1;
-    }
-    true
+    table[from..to].iter().fold(0, |all, word| all | *word) == 0
 }
 
-// Whether the 64 bytes from `at` on are all zero: without leaving early, so that they are tested side by side.
-fn clear_64_bytes(pool: &[u8], at: usize) -> bool
-    requires { at + 64 ≤ length pool.now }
-    ensures { result ≡ all_zero (take 64 (drop at pool.now)) }
-{
-    let mut all: u8 = 0;
-    let mut i = 0;
-    while i < 64 {
-        all = all | pool[at + i];
-        i += 1;
-    }
-    all == 0
-}
-
-// Whether the bytes from `from` up to `to` are all zero.
+// Whether the bytes from `from` up to `to` are all zero, as above.
 pub fn clear_bytes(pool: &[u8], from: usize, to: usize) -> bool
     requires { (from ≤ to) × (to ≤ length pool.now) }
     ensures { result ≡ all_zero (take (to - from) (drop from pool.now)) }
 {
-    let mut i = from;
-    while 64 <= to - i {
-        if clear_64_bytes(pool, i) {
-            i += 64;
-        } else {
-            return false;
-        }
-    }
-    while i < to {
-        if pool[i] != 0 {
-            return false;
-        }
-        i += 1;
-    }
-    true
+    pool[from..to].iter().fold(0, |all, byte| all | *byte) == 0
 }
 
-// Both of two.
-pub fn both(a: bool, b: bool) -> bool
-    ensures { result ≡ (a && b) }
-{
-    if a { b } else { false }
-}
-
-fn entry_if(known: bool, entry: Entry) -> Entry
-    ensures { result ≡ pick known entry }
-{
-    if known { entry } else { Entry::Unknown }
-}
-
-fn member_if(known: bool, member: Member) -> Member
-    ensures { result ≡ pick_member known member }
-{
-    if known { member } else { Member::Unnamed }
-}
-
-// Whether columns `from` up to `to` are zero: without leaving early, as above.
+// Whether columns `from` up to `to` are zero.
 fn clear_columns(table: &[u32], row: usize, from: usize, to: usize) -> bool
     requires { (row * 16 + 16 ≤ length table.now) × ((from ≤ to) × (to ≤ 16)) }
     ensures { result ≡ clear_columns_of table.now row from to }
 {
-    let at = row * 16 + from;
-    let n = to - from;
-    let mut all: u32 = 0;
-    let mut i = 0;
-    while i < n {
-        all = all | table[at + i];
-        i += 1;
-    }
-    all == 0
+    clear_words(table, row * 16 + from, row * 16 + to)
 }
 
 // The row of a leaf: columns 2 to 4, 6 up to `from`, and from `to` on are zero, and the code in column 5 is below `limit`.
@@ -140,10 +57,7 @@ fn leaf_columns(table: &[u32], row: usize, from: usize, to: usize, limit: u32) -
     let common = clear_columns(table, row, 2, 5);
     let middle = clear_columns(table, row, 6, from);
     let last = clear_columns(table, row, to, 16);
-    both(
-        both(common, both(middle, last)),
-        table[row * 16 + 5] < limit,
-    )
+    common & middle & last & (table[row * 16 + 5] < limit)
 }
 
 // The row of a compound or an enumeration: only columns 1 and 4 are used.
@@ -153,7 +67,7 @@ fn group_columns(table: &[u32], row: usize) -> bool
 {
     let middle = clear_columns(table, row, 2, 4);
     let last = clear_columns(table, row, 5, 16);
-    both(middle, last)
+    middle & last
 }
 
 fn variable_length_columns(table: &[u32], row: usize) -> bool
@@ -163,8 +77,7 @@ fn variable_length_columns(table: &[u32], row: usize) -> bool
     let at = row * 16;
     let common = clear_columns(table, row, 1, 5);
     let last = clear_columns(table, row, 8, 16);
-    let codes = both(table[at + 6] < 4, table[at + 7] < 3);
-    both(both(common, last), both(table[at + 5] < 2, codes))
+    common & last & (table[at + 5] < 2) & (table[at + 6] < 4) & (table[at + 7] < 3)
 }
 
 // The row of a piece of the pool: it is at `place`, so many times `width` bytes long, and the columns from `from` on are zero.
@@ -184,15 +97,15 @@ fn piece_columns(
         return false;
     }
     let end = place + (table[at + 3] as usize) * width;
-    both(clear_columns(table, row, from, 16), end <= pool.len())
+    clear_columns(table, row, from, 16) & (end <= pool.len())
 }
 
-// What a type's row has in its columns, not tested: Unknown past the table and for a kind that is no type's.
-pub fn row_entry(table: &[u32], row: usize) -> Entry
+// What a type's row has in its columns, not tested: none past the table and for a kind that is no type's.
+pub fn row_entry(table: &[u32], row: usize) -> Option<Entry>
     ensures { RowSays table.now row result }
 {
     if table.len() / 16 <= row {
-        return Entry::Unknown;
+        return None;
     }
     let at = row * 16;
     let kind = table[at];
@@ -200,7 +113,7 @@ pub fn row_entry(table: &[u32], row: usize) -> Entry
     let length = table[at + 3];
     let count = table[at + 4];
     let code = table[at + 5];
-    match kind {
+    Some(match kind {
         1 => Entry::Leaf(0, size, 0, code),
         2 => Entry::Leaf(1, size, 0, code),
         3 => Entry::Leaf(2, size, 0, code),
@@ -212,75 +125,76 @@ pub fn row_entry(table: &[u32], row: usize) -> Entry
         9 => Entry::Enumeration(size, count),
         10 => Entry::VariableLength(code, table[at + 6], table[at + 7]),
         11 => Entry::Array(length),
-        _ => Entry::Unknown,
-    }
+        _ => return None,
+    })
 }
 
 // Whether a row is a type's, its pool bytes at `place`: it uses the columns of its kind only, with known codes, and its piece lies in the pool.
 fn row_known(table: &[u32], pool: &[u8], row: usize, place: usize) -> bool
     requires { row < length table.now / 16 }
-    ensures { result ≡ is_known (entry_at table.now pool.now row place) }
+    ensures { result ≡ is_some (entry_at table.now pool.now row place) }
 {
     let at = row * 16;
     let kind = table[at];
     match kind {
-        1 => both(leaf_columns(table, row, 6, 9, 3), table[at + 6] < 2),
+        1 => leaf_columns(table, row, 6, 9, 3) & (table[at + 6] < 2),
         2 => leaf_columns(table, row, 7, 14, 3),
         3 => leaf_columns(table, row, 8, 9, 3),
-        4 => both(leaf_columns(table, row, 6, 7, 3), table[at + 6] < 2),
+        4 => leaf_columns(table, row, 6, 7, 3) & (table[at + 6] < 2),
         5 => leaf_columns(table, row, 7, 9, 3),
         6 => piece_columns(table, pool, row, place, 4, 1),
         7 => group_columns(table, row),
         8 => leaf_columns(table, row, 6, 6, 2),
         9 => group_columns(table, row),
         10 => variable_length_columns(table, row),
-        11 => both(
-            table[at + 1] == 0,
-            piece_columns(table, pool, row, place, 4, 4),
-        ),
+        11 => (table[at + 1] == 0) & piece_columns(table, pool, row, place, 4, 4),
         _ => false,
     }
 }
 
 // The type's row at `row`, its pool bytes at `place`.
-pub fn entry_at(table: &[u32], pool: &[u8], row: usize, place: usize) -> Entry
+pub fn entry_at(table: &[u32], pool: &[u8], row: usize, place: usize) -> Option<Entry>
     ensures is { result ≡ entry_at table.now pool.now row place }
     ensures inside { EntryInside result (length table.now) (length pool.now) row place }
 {
-    if table.len() / 16 <= row {
-        return Entry::Unknown;
-    }
-    entry_if(row_known(table, pool, row, place), row_entry(table, row))
+    let entry = row_entry(table, row)?;
+    row_known(table, pool, row, place).then_some(entry)
 }
 
-// The row of a compound's member, its name at `place`: offset and length of the name.
-pub fn member_at(table: &[u32], pool: &[u8], row: usize, place: usize) -> Member
+// What a member's row has in its columns, not tested, its number in a column: none past the table.
+fn member_columns(table: &[u32], row: usize, number: usize) -> Option<Member>
+    requires { number < 16 }
+    ensures { ColumnsSay table.now row number result }
+{
+    if table.len() / 16 <= row {
+        return None;
+    }
+    let at = row * 16;
+    Some(Member {
+        name: table[at + 3],
+        number: table[at + number],
+    })
+}
+
+// The row of a compound's member, its name at `place`.
+pub fn member_at(table: &[u32], pool: &[u8], row: usize, place: usize) -> Option<Member>
     ensures is { result ≡ member_at_of table.now pool.now row place }
-    ensures inside { MemberInside result (length table.now) (length pool.now) row place (member_name_length result) }
+    ensures inside { MemberInside result (length table.now) (length pool.now) row place }
 {
-    if table.len() / 16 <= row {
-        return Member::Unnamed;
-    }
-    let at = row * 16;
-    let known = both(
-        table[at] == 12,
-        piece_columns(table, pool, row, place, 4, 1),
-    );
-    member_if(known, Member::Named(table[at + 1], table[at + 3]))
+    let member = member_columns(table, row, 1)?;
+    let known = (table[row * 16] == 12) & piece_columns(table, pool, row, place, 4, 1);
+    known.then_some(member)
 }
 
-// The row of an enumeration's member, its name at `place`: length of the name and of the value.
-pub fn enum_member_at(table: &[u32], pool: &[u8], row: usize, place: usize) -> Member
+// The row of an enumeration's member, its name at `place`.
+pub fn enum_member_at(table: &[u32], pool: &[u8], row: usize, place: usize) -> Option<Member>
     ensures is { result ≡ enum_member_at_of table.now pool.now row place }
-    ensures inside { MemberInside result (length table.now) (length pool.now) row place (enum_member_name_length result) }
+    ensures inside { MemberInside result (length table.now) (length pool.now) row place }
 {
-    if table.len() / 16 <= row {
-        return Member::Unnamed;
-    }
-    let at = row * 16;
-    let begins = both(table[at] == 13, table[at + 1] == 0);
-    let known = both(begins, piece_columns(table, pool, row, place, 5, 1));
-    member_if(known, Member::Named(table[at + 3], table[at + 4]))
+    let member = member_columns(table, row, 4)?;
+    let begins = (table[row * 16] == 13) & (table[row * 16 + 1] == 0);
+    let known = begins & piece_columns(table, pool, row, place, 5, 1);
+    known.then_some(member)
 }
 
 // Whether a piece of so many times `width` bytes at a place lies in the pool.
@@ -311,56 +225,45 @@ fn entry_fits(pool: &[u8], place: usize, entry: Entry) -> bool
         Entry::Compound(_, _) => true,
         Entry::Enumeration(_, _) => true,
         Entry::VariableLength(_, _, _) => true,
-        Entry::Unknown => true,
     }
 }
 
 // What `entry_at` answers of a row that is known to be a type's, without testing it again: what it takes from the row lies in the table and the
 // pool, whatever the row has.
-pub fn known_entry_at(table: &[u32], pool: &[u8], row: usize, place: usize) -> Entry
-    ensures is { EntryIfKnown (entry_at table.now pool.now row place) result }
+pub fn known_entry_at(table: &[u32], pool: &[u8], row: usize, place: usize) -> Option<Entry>
+    ensures is { IfKnown (entry_at table.now pool.now row place) result }
     ensures inside { EntryInside result (length table.now) (length pool.now) row place }
 {
-    let entry = row_entry(table, row);
-    entry_if(entry_fits(pool, place, entry), entry)
+    let entry = row_entry(table, row)?;
+    entry_fits(pool, place, entry).then_some(entry)
 }
 
-// What a compound member's row has in its columns, not tested: offset and length of the name. Unnamed past the table.
-pub fn row_member(table: &[u32], row: usize) -> Member
+// What a compound member's row has in its columns, not tested: none past the table.
+pub fn row_member(table: &[u32], row: usize) -> Option<Member>
     ensures { RowNames table.now row result }
 {
-    if table.len() / 16 <= row {
-        return Member::Unnamed;
-    }
-    let at = row * 16;
-    Member::Named(table[at + 1], table[at + 3])
+    member_columns(table, row, 1)
+}
+
+// A member whose name lies in the pool at `place`.
+fn named_at(pool: &[u8], place: usize, member: Member) -> Option<Member>
+    ensures { result ≡ then_some (leb (place + member.name) (length pool.now)) member }
+{
+    piece_fits(pool, place, member.name, 1).then_some(member)
 }
 
 // What `member_at` answers of a row that is known to be a member's.
-pub fn known_member_at(table: &[u32], pool: &[u8], row: usize, place: usize) -> Member
-    ensures is { MemberIfKnown (member_at_of table.now pool.now row place) result }
-    ensures inside { MemberInside result (length table.now) (length pool.now) row place (member_name_length result) }
+pub fn known_member_at(table: &[u32], pool: &[u8], row: usize, place: usize) -> Option<Member>
+    ensures is { IfKnown (member_at_of table.now pool.now row place) result }
+    ensures inside { MemberInside result (length table.now) (length pool.now) row place }
 {
-    let member = row_member(table, row);
-    match member {
-        Member::Unnamed => Member::Unnamed,
-        Member::Named(_, length) => member_if(piece_fits(pool, place, length, 1), member),
-    }
+    named_at(pool, place, member_columns(table, row, 1)?)
 }
 
 // What `enum_member_at` answers of a row that is known to be an enumeration member's.
-pub fn known_enum_member_at(table: &[u32], pool: &[u8], row: usize, place: usize) -> Member
-    ensures is { MemberIfKnown (enum_member_at_of table.now pool.now row place) result }
-    ensures inside { MemberInside result (length table.now) (length pool.now) row place (enum_member_name_length result) }
+pub fn known_enum_member_at(table: &[u32], pool: &[u8], row: usize, place: usize) -> Option<Member>
+    ensures is { IfKnown (enum_member_at_of table.now pool.now row place) result }
+    ensures inside { MemberInside result (length table.now) (length pool.now) row place }
 {
-    if table.len() / 16 <= row {
-        return Member::Unnamed;
-    }
-    let at = row * 16;
-    let length = table[at + 3];
-    let value = table[at + 4];
-    member_if(
-        piece_fits(pool, place, length, 1),
-        Member::Named(length, value),
-    )
+    named_at(pool, place, member_columns(table, row, 4)?)
 }

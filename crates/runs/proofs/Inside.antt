@@ -1,4 +1,5 @@
 -- The walk over a compound's members, and over an array's entries: one law for each way out of them.
+use Rattle.std.specs.Prelude.{Option, Some, None}
 use Prim.Native.Nat.{ℕ, suc, ◌+◌, ◌-◌, ◌*◌, ◌<◌, ◌≤◌}
 use mathlib.Core.Path.{◌≡◌, refl, ◌∙◌}
 use mathlib.Core.List.{List, [], ◌++◌}
@@ -12,7 +13,6 @@ use Rattle.format.specs.Table.{Found, found, bad, Walk, and_then, type_at, membe
 use Rattle.format.proofs.Walking.{member_walked, entry_walked}
 use Rattle.rows.specs.Entries.{member_at_of, from_member, RowNames}
 use Rattle.rows.specs.declared.Member.{Member}
-use Rattle.rows.specs.declared.Member.TheVariants.{Named, Unnamed}
 use Rattle.rows.proofs.Decode.{members_at-entry}
 use Rattle.rows.proofs.Known.{claim_of-members}
 use Rattle.compare.specs.Agreeing.{Admitted, AdmittedIn}
@@ -83,65 +83,69 @@ module _ (name : List ℕ) (o : ℕ) (rest : Walk Members) (limit at : ℕ) wher
 
 -- ---- members
 
--- what is listed of the members from here on is listed of all
-pub record Leads (most levels : ℕ) (table pool : List ℕ) (left r count row limit at : ℕ) (s : Runs) (w : List ℕ) (s₁ : Runs) (w₁ : List ℕ) : Type 0 where
+-- what is listed of the members behind the first k is listed of all
+pub record Leads (most levels : ℕ) (table pool : List ℕ) (k r count row limit at : ℕ) (s : Runs) (w : List ℕ) (s₁ : Runs) (w₁ : List ℕ) : Type 0 where
   pub same : length w₁ ≡ length w
-  pub leads : (s' : Runs) (w' : List ℕ) → ListsMembers most levels table pool left r limit at s₁ w₁ s' w' → ListsMembers most levels table pool count row limit at s w s' w'
+  pub leads : (s' : Runs) (w' : List ℕ) → ListsMembers most levels table pool (count - k) r limit at s₁ w₁ s' w' → ListsMembers most levels table pool count row limit at s w s' w'
 
-pub members-start : (most levels : ℕ) (table pool : List ℕ) (count row limit at : ℕ) (s : Runs) (w : List ℕ) → Leads most levels table pool count row count row limit at s w s w
-members-start most levels table pool count row limit at s w = record { same = refl; leads = λ s' w' h. h }
+pub members-start : (most levels : ℕ) (table pool : List ℕ) (count row limit at : ℕ) (s : Runs) (w : List ℕ) → Leads most levels table pool 0 row count row limit at s w s w
+members-start most levels table pool count row limit at s w = let e : count - 0 ≡ count = omega arith in record { same = refl; leads = λ s' w' h. rw e at h }
 
-module _ (table pool : List ℕ) (most depth left r count row limit at : ℕ) (s : Runs) (w : List ℕ) (s₁ : Runs) (w₁ : List ℕ) (inv : Leads most (32 - depth) table pool left r count row limit at s w s₁ w₁) where
-  pub members_end : left ≤ 0 → ListsMembers most (32 - depth) table pool count row limit at s w (record { row = r; closed = s₁.closed; place = s₁.place; size = s₁.size; ended = s₁.ended }) w₁
+module _ (table pool : List ℕ) (most depth k r count row limit at : ℕ) (s : Runs) (w : List ℕ) (s₁ : Runs) (w₁ : List ℕ) (inv : Leads most (32 - depth) table pool k r count row limit at s w s₁ w₁) where
+  pub members_end : count ≤ k → ListsMembers most (32 - depth) table pool count row limit at s w (record { row = r; closed = s₁.closed; place = s₁.place; size = s₁.size; ended = s₁.ended }) w₁
   members_end e =
-      let k : left ≡ 0 = omega arith in
+      let k : count - k ≡ 0 = omega arith in
       inv.leads _ _ (record { grows = grows_same s₁.closed; lists = λ z p. rw k (unfold members_at ListsIn in λ n d l. unfold fields_of move_fields add_runs in (record { row_is = refl; holds = λ len v h. record { open_is = h.open_is; low = h.low; closed_is = h.closed_is; stored = h.stored } })) })
 
   pub members-stopped : most ≤ s₁.closed → ListsMembers most (32 - depth) table pool count row limit at s w s₁ w₁
   members-stopped h = inv.leads s₁ w₁ (record { grows = grows_same s₁.closed; lists = λ z. absurd (omega arith) })
 
-  module _ (some_left : 0 < left) where
+  module _ (some_left : k < count) where
+    -- how many are left behind the member at hand
+    abbrev left : ℕ
+    left = count - (k + 1)
+
     abbrev rd : Walk Datatype
     rd = type_at (32 - depth) table pool
 
-    members_as : (s' : Runs) (w' : List ℕ) → Grows s₁.closed s'.closed → (s'.closed < most → (p : ℕ) → ListsIn (members_at rd table pool (suc (left - 1)) r p) limit at s₁ w₁ s' w') → ListsMembers most (32 - depth) table pool count row limit at s w s' w'
+    members_as : (s' : Runs) (w' : List ℕ) → Grows s₁.closed s'.closed → (s'.closed < most → (p : ℕ) → ListsIn (members_at rd table pool (suc left) r p) limit at s₁ w₁ s' w') → ListsMembers most (32 - depth) table pool count row limit at s w s' w'
     members_as s' w' c h =
-        let j : left ≡ suc (left - 1) = omega arith in
+        let j : count - k ≡ suc left = omega arith in
         inv.leads s' w' (record { grows = c; lists = λ z p. rw j (h z p) })
 
     pub members-deep : 32 ≤ depth → ListsMembers most (32 - depth) table pool count row limit at s w s₁ w₁
-    members-deep h = members_as s₁ w₁ (grows_same s₁.closed) (λ z p. rw (members_at-entry table pool (left - 1) r p rd) (go p (member_at_of table pool r p)))
+    members-deep h = members_as s₁ w₁ (grows_same s₁.closed) (λ z p. rw (members_at-entry table pool left r p rd) (go p (member_at_of table pool r p)))
       where
-        go : (p : ℕ) (m : Member) → ListsIn (from_member (type_at (32 - depth) table pool) (members_at (type_at (32 - depth) table pool) table pool (left - 1)) pool r p m) limit at s₁ w₁ s₁ w₁
-        go p (Named o n) = let k : 32 - depth ≡ 0 = omega arith in rw k (unfold from_member type_at and_then ListsIn in tt)
-        go p Unnamed = unfold from_member ListsIn in tt
+        go : (p : ℕ) (m : Option Member) → ListsIn (from_member (type_at (32 - depth) table pool) (members_at (type_at (32 - depth) table pool) table pool left) pool r p m) limit at s₁ w₁ s₁ w₁
+        go p (Some m) = let k : 32 - depth ≡ 0 = omega arith in rw k (unfold from_member type_at and_then ListsIn in tt)
+        go p None = unfold from_member ListsIn in tt
 
-    module _ {m : Member} (names : RowNames table r m) where
-      by_member : (s' : Runs) (w' : List ℕ) {f : Member} → m ≡ f → Grows s₁.closed s'.closed → (s'.closed < most → (p : ℕ) → ListsIn (from_member rd (members_at rd table pool (left - 1)) pool r p f) limit at s₁ w₁ s' w')
+    module _ {m : Option Member} (names : RowNames table r m) where
+      by_member : (s' : Runs) (w' : List ℕ) {f : Option Member} → m ≡ f → Grows s₁.closed s'.closed → (s'.closed < most → (p : ℕ) → ListsIn (from_member rd (members_at rd table pool left) pool r p f) limit at s₁ w₁ s' w')
           → ListsMembers most (32 - depth) table pool count row limit at s w s' w'
       by_member s' w' e c h =
-          members_as s' w' c (λ z p. claim_of-members table pool r p (λ (y : Found Members). ListsIn y limit at s₁ w₁ s' w') (unfold ListsIn in tt) rd (left - 1) m (names.is pool p) (λ q. rw e (h z p)))
+          members_as s' w' c (λ z p. claim_of-members table pool r p (λ (y : Found Members). ListsIn y limit at s₁ w₁ s' w') (unfold ListsIn in tt) rd left m (names.is pool p) (λ q. rw e (h z p)))
 
-      pub members_unnamed : m ≡ Unnamed → ListsMembers most (32 - depth) table pool count row limit at s w s₁ w₁
+      pub members_unnamed : m ≡ None → ListsMembers most (32 - depth) table pool count row limit at s w s₁ w₁
       members_unnamed e = by_member s₁ w₁ e (grows_same s₁.closed) (λ z p. unfold from_member ListsIn in tt)
 
-      module _ {o n : ℕ} (e : m ≡ Named o n) where
-        members-named : (s' : Runs) (w' : List ℕ) → Grows s₁.closed s'.closed → (s'.closed < most → (p : ℕ) → ListsIn (Behind (take n (drop p pool)) o (members_at rd table pool (left - 1)) limit at (rd (r + 1) (p + n))) limit at s₁ w₁ s' w')
+      module _ {v : Member} (e : m ≡ Some v) where
+        members-named : (s' : Runs) (w' : List ℕ) → Grows s₁.closed s'.closed → (s'.closed < most → (p : ℕ) → ListsIn (Behind (take v.name (drop p pool)) v.number (members_at rd table pool left) limit at (rd (r + 1) (p + v.name))) limit at s₁ w₁ s' w')
             → ListsMembers most (32 - depth) table pool count row limit at s w s' w'
         members-named s' w' c h = by_member s' w' e c (λ z p. unfold from_member in (rw (add-one r) at (h z p)))
 
-        pub members-past : limit - at < o → ListsMembers most (32 - depth) table pool count row limit at s w s₁ w₁
-        members-past h = members-named s₁ w₁ (grows_same s₁.closed) (λ z p. past _ o _ limit at s₁ w₁ s₁ w₁ _ h)
+        pub members-past : limit - at < v.number → ListsMembers most (32 - depth) table pool count row limit at s w s₁ w₁
+        members-past h = members-named s₁ w₁ (grows_same s₁.closed) (λ z p. past _ v.number _ limit at s₁ w₁ s₁ w₁ _ h)
 
-        pub members-next : (s₂ : Runs) (w₂ : List ℕ) → ListsAt most (32 - depth) table pool (r + 1) limit (at + o) s₁ w₁ s₂ w₂ → length w₂ ≡ length w₁
-            → Leads most (32 - depth) table pool (left - 1) s₂.row count row limit at s w s₂ w₂
+        pub members-next : (s₂ : Runs) (w₂ : List ℕ) → ListsAt most (32 - depth) table pool (r + 1) limit (at + v.number) s₁ w₁ s₂ w₂ → length w₂ ≡ length w₁
+            → Leads most (32 - depth) table pool (k + 1) s₂.row count row limit at s w s₂ w₂
         members-next s₂ w₂ g q =
             record {
               same = q ∙ inv.same;
               leads = λ s' w' h.
                   members-named s' w' (grows_both g.grows h.grows) (λ z p.
                   let below : s₂.closed < most = omega (arith, h.grows.more) in
-                  next _ o _ limit at s₁ w₁ s₂ w₂ _ (g.lists below (p + n)) s' w' (h.lists z));
+                  next _ v.number _ limit at s₁ w₁ s₂ w₂ _ (g.lists below (p + v.name)) s' w' (h.lists z));
             }
 
 -- ---- entries

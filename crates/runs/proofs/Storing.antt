@@ -1,17 +1,17 @@
 -- One field added to the runs that a state and a workspace hold, and a run stored: one law for each way out.
 use Prim.Native.Nat.{ℕ, suc, ◌+◌, ◌-◌, ◌*◌, ◌/◌, ◌<◌, ◌≤◌}
 use mathlib.Core.Path.{◌≡◌, refl, sym, ◌∙◌}
-use mathlib.Core.Bool.{Bool, true, false, not, ◌&&◌, and-true}
+use mathlib.Core.Bool.{Bool, true, false}
 use mathlib.Core.List.{List, ◌∷◌}
 use native.Mathlib.Omega.{arith}
 use native.Mathlib.Numerals.{add-one}
 use lib.ListN.{length, drop, set, length-set}
 use lib.Seq.{drop-cons, drop-set-lt, get_or-set_same, get_or-set_other}
 use lib.Dec.{eqb}
+use mir.Val.{bool_byte}
 use borrow.Author.Tests.{eqb-true, eq-eqb, ne_eqb}
 use Rattle.format.proofs.Booleans.{same_test}
-use Rattle.rows.specs.declared.Entry.{Entry}
-use Rattle.compare.specs.Agreeing.{field_at, is_field_of, is_string_of}
+use Rattle.compare.specs.Agreeing.{field_at}
 use Rattle.groups.specs.Runs.{RunList, joins, joined, add_runs, run_code_of, words_of}
 use Rattle.groups.proofs.Runs.{joins-says, run-longer, run-new}
 use Rattle.runs.specs.Listing.{open_run, Grows, Stores, ListsOne, ListsField}
@@ -46,13 +46,10 @@ module _ (s : Runs) (place : ℕ) (ended : Bool) where
 
 -- ---- a run's second word
 
-pub code_ended : (n : ℕ) {e : Bool} → e ≡ true → n * 2 + 1 ≡ run_code_of (field_at 0 n e)
+pub code_is : (n : ℕ) (e : Bool) → n * 2 + bool_byte e ≡ run_code_of (field_at 0 n e)
 unfolding run_code_of
-code_ended n h = rw h
-
-pub code_whole : (n : ℕ) {e : Bool} → e ≡ false → n * 2 ≡ run_code_of (field_at 0 n e)
-unfolding run_code_of
-code_whole n h = rw h
+code_is n true = refl
+code_is n false = omega arith
 
 -- ---- the count of closed runs
 
@@ -126,14 +123,18 @@ module _ (s : Runs) (place size : ℕ) (ended : Bool) (row : ℕ) (w : List ℕ)
     pub longer-from : s.place ≤ place
     longer-from = omega (arith, touches)
 
-    longer : (v : RunList) → open_run s ≡ v.last → field_at s.place (place - s.place + size) false ≡ joined v.last (field_at place size ended)
+    -- a run that is lengthened counts whole
+    whole : s.ended ≡ false
+    whole = (joins-says (open_run s) (field_at place size ended) (test-is so)).whole_run
+
+    longer : (v : RunList) → open_run s ≡ v.last → field_at s.place (place - s.place + size) s.ended ≡ joined v.last (field_at place size ended)
     unfolding joined
     longer v h =
         let n : place - s.place + size ≡ s.size + size = omega (arith, touches) in
-        rw (n, ← h)
+        rw (n, whole, ← h)
 
     pub add_longer : place + size < 4294967296
-        → ListsOne (field_at place size ended) row s w (record { row = row; closed = s.closed; place = s.place; size = place - s.place + size; ended = false }) w
+        → ListsOne (field_at place size ended) row s w (record { row = row; closed = s.closed; place = s.place; size = place - s.place + size; ended = s.ended }) w
     unfolding add_runs
     add_longer l =
         record {
@@ -171,15 +172,3 @@ module _ (n : ℕ) (ended : Bool) (limit at next : ℕ) (s : Runs) (w : List ℕ
 
   pub field-listed : (s' : Runs) (w' : List ℕ) → ListsOne (field_at at n ended) next s w s' w' → ListsField n ended limit at next s w s' w'
   field-listed s' w' h = record { grows = h.grows; lists = λ l. h.lists }
-
--- ---- a field that counts whole
-
-pub whole-string : (e : Entry) {c : Bool} → c ≡ is_string_of e → c ≡ true → false ≡ (is_field_of e && not (is_string_of e))
-whole-string e h t = go (is_field_of e) (sym h ∙ t)
-  where
-    go : (f : Bool) {s : Bool} → s ≡ true → false ≡ (f && not s)
-    go true q = rw q
-    go false q = refl
-
-pub whole-field : (e : Entry) {c f : Bool} → c ≡ is_string_of e → c ≡ false → f ≡ is_field_of e → f ≡ (is_field_of e && not (is_string_of e))
-whole-field e h n g = rw (← h, n, and-true) g

@@ -1,6 +1,7 @@
 -- The walk's ways out at a type's row, but for what its members and entries list.
+use Rattle.std.specs.Prelude.{Option, Some, None}
 use Prim.Native.Nat.{ℕ, suc, ◌+◌, ◌-◌, ◌*◌, ◌/◌, ◌<◌, ◌≤◌, min}
-use mathlib.Core.Path.{◌≡◌, refl, sym, ◌∙◌}
+use mathlib.Core.Path.{◌≡◌, refl, sym, ap, ◌∙◌}
 use mathlib.Core.Bool.{Bool, true, false, not, ◌&&◌, false≢true}
 use mathlib.Core.List.{List, [], ◌∷◌}
 use native.Mathlib.Omega.{arith}
@@ -17,14 +18,14 @@ use Rattle.format.proofs.Ownership.{array_size}
 use Rattle.format.proofs.Slots.{or_else_none}
 use Rattle.rows.specs.Entries.{entry_at, leaf_type, from_entry, RowSays}
 use Rattle.rows.specs.declared.Entry.{Entry}
-use Rattle.rows.specs.declared.Entry.TheVariants.{Leaf, Compound, Enumeration, VariableLength, Array, Unknown}
+use Rattle.rows.specs.declared.Entry.TheVariants.{Leaf, Compound, Enumeration, VariableLength, Array}
 use Rattle.rows.proofs.Known.{claim_of-type}
 use Rattle.table.specs.Known.{PassesTo, PassesType, TotalAt, SizedTo, SizedAt}
 use Rattle.table.specs.Path.{top_of, Entered}
 use Rattle.table.specs.declared.Path.{Path}
 use Rattle.compare.specs.Agreeing.{nul_terminated_of, is_field_of, is_string_of}
 use Rattle.compare.proofs.Fields.{IsField, field-moved, leaf-field, enumeration-field, OneField, type-field}
-use Rattle.compare.proofs.Types.{base-admitted, base-sized, total-is, count-is, count-some}
+use Rattle.compare.proofs.Types.{base-admitted, base-sized, total-is, count-is, count-some, untyped}
 use Rattle.groups.specs.Runs.{RunList, add_runs}
 use Rattle.groups.proofs.Runs.{whole_at, runs_entries}
 use Rattle.runs.specs.Listing.{Standing, Grows, Lists, ListsField, ListsAs, ListsIn, ListsEach, ListsAt, ListsMembers, ListsEntries, ListsArray}
@@ -79,15 +80,12 @@ module _ (limit at : ℕ) (s : Runs) (w : List ℕ) (s' : Runs) (w' : List ℕ) 
 
 -- ---- by the row
 
-module _ (table pool : List ℕ) (most depth row limit at : ℕ) (s : Runs) (w : List ℕ) (s' : Runs) (w' : List ℕ) {e : Entry} (shallow : depth ≤ 32) (says : RowSays table row e) where
-  by_row : {f : Entry} → e ≡ f → Grows s.closed s'.closed → (s'.closed < most → (p : ℕ) → f ≡ entry_at table pool row p → ListsAs (from_entry (type_at (32 - depth) table pool) table pool row p f) limit at s w s' w')
+module _ (table pool : List ℕ) (most depth row limit at : ℕ) (s : Runs) (w : List ℕ) (s' : Runs) (w' : List ℕ) {e : Entry} (shallow : depth ≤ 32) (says : RowSays table row (Some e)) where
+  by_row : {f : Entry} → e ≡ f → Grows s.closed s'.closed → (s'.closed < most → (p : ℕ) → Some f ≡ entry_at table pool row p → ListsAs (from_entry (type_at (32 - depth) table pool) table pool row p (Some f)) limit at s w s' w')
       → ListsAt most (33 - depth) table pool row limit at s w s' w'
   by_row h c v =
       let j : 33 - depth ≡ suc (32 - depth) = omega arith in
-      record { grows = c; lists = λ z p. rw j (claim_of-type table pool row p (λ (y : Found Datatype). ListsAs y limit at s w s' w') (unfold ListsAs in tt) (32 - depth) e (says.is pool p) (λ q. rw h (v z p (sym h ∙ q)))) }
-
-  pub type_unknown : Grows s.closed s'.closed → e ≡ Unknown → ListsAt most (33 - depth) table pool row limit at s w s' w'
-  type_unknown c h = by_row h c (λ z p q. unfold from_entry ListsAs in tt)
+      record { grows = c; lists = λ z p. rw j (claim_of-type table pool row p (λ (y : Found Datatype). ListsAs y limit at s w s' w') (unfold ListsAs in tt) (32 - depth) (Some e) (says.is pool p) (λ q. rw h (v z p (ap Some (sym h) ∙ q)))) }
 
   pub type-variable_length : {i v c : ℕ} → Grows s.closed s'.closed → e ≡ VariableLength i v c → ListsAt most (33 - depth) table pool row limit at s w s' w'
   type-variable_length {i = i} {v = v} {c = c} g h = by_row h g (λ z p q. unfold from_entry in go (type_at (32 - depth) table pool (suc row) p))
@@ -98,7 +96,7 @@ module _ (table pool : List ℕ) (most depth row limit at : ℕ) (s : Runs) (w :
 
   pub type-leaf : {k n l y : ℕ} {c : Bool} → e ≡ Leaf k n l y → c ≡ nul_terminated_of k y → ListsField n c limit at (row + 1) s w s' w' → ListsAt most (33 - depth) table pool row limit at s w s' w'
   type-leaf {k = k} {n = n} {l = l} {y = y} h u v =
-      by_row h v.grows (λ z p q. unfold from_entry in field-lists limit at s w s' w' (leaf_type table pool row p k) (suc row) (p + l) n (nul_terminated_of k y) (row + 1) (leaf-field table pool row p q refl) (add-one row) (rw u at v))
+      by_row h v.grows (λ z p q. unfold from_entry in field-lists limit at s w s' w' (leaf_type table pool row p k) (suc row) (p + l) n (nul_terminated_of k y) (row + 1) (leaf-field table pool row p q refl refl) (add-one row) (rw u at v))
 
   -- an enumeration ends where its members do
   pub type-enumeration : {n k next : ℕ} → e ≡ Enumeration n k → PassesType (33 - depth) table row next → ListsField n false limit at next s w s' w'
@@ -106,7 +104,7 @@ module _ (table pool : List ℕ) (most depth row limit at : ℕ) (s : Runs) (w :
   unfolding from_entry
   type-enumeration {n = n} {k = k} {next = next} h b v =
       let j : 33 - depth ≡ suc (32 - depth) = omega arith in
-      record { grows = v.grows; lists = λ z p. rw j (claim_of-type table pool row p (λ (y : Found Datatype). PassesTo y next → ListsAs y limit at s w s' w') (λ g. unfold ListsAs in tt) (32 - depth) e (says.is pool p) (λ q. rw h (of-base p)) (rw j at (b.passes pool p))) }
+      record { grows = v.grows; lists = λ z p. rw j (claim_of-type table pool row p (λ (y : Found Datatype). PassesTo y next → ListsAs y limit at s w s' w') (λ g. unfold ListsAs in tt) (32 - depth) (Some e) (says.is pool p) (λ q. rw h (of-base p)) (rw j at (b.passes pool p))) }
     where
       of_values : (t : Datatype) (y : Found (List EnumMember)) → PassesTo (and_then y (λ ms r₃ p₃. found (enumeration n t ms) r₃ p₃)) next
           → ListsAs (and_then y (λ ms r₃ p₃. found (enumeration n t ms) r₃ p₃)) limit at s w s' w'
@@ -124,8 +122,8 @@ module _ (table pool : List ℕ) (most depth row limit at : ℕ) (s : Runs) (w :
       of_types (found t r p) g = unfold and_then in of-names t (enum_names_at table pool k r p) (unfold and_then in g)
       of_types bad g = unfold and_then ListsAs in tt
 
-      of-base : (p : ℕ) → PassesTo (from_entry (type_at (32 - depth) table pool) table pool row p (Enumeration n k)) next
-          → ListsAs (from_entry (type_at (32 - depth) table pool) table pool row p (Enumeration n k)) limit at s w s' w'
+      of-base : (p : ℕ) → PassesTo (from_entry (type_at (32 - depth) table pool) table pool row p (Some (Enumeration n k))) next
+          → ListsAs (from_entry (type_at (32 - depth) table pool) table pool row p (Some (Enumeration n k))) limit at s w s' w'
       of-base p g = of_types (type_at (32 - depth) table pool (suc row) p) g
 
   pub type-array : {k : ℕ} → e ≡ Array k → ListsArray most (32 - depth) table pool row k limit at s w s' w' → ListsAt most (33 - depth) table pool row limit at s w s' w'
@@ -163,17 +161,22 @@ module _ (table pool : List ℕ) (most depth row k limit at : ℕ) (s : Runs) (w
     array-none c e = record { grows = c; lists = λ z p q. array-zero limit at s w s' w' _ size (type_at (32 - depth) table pool (suc row) (p + k * 4)) (base-size (p + k * 4)) e }
 
     module _ {total : ℕ} (h : TotalAt table pool row k size total) where
-      pub array-of-field : {c : Bool} (i : Entry) (next : ℕ) → RowSays table (row + 1) i → c ≡ (is_field_of i && not (is_string_of i)) → c ≡ true → PassesType (32 - depth) table (row + 1) next
+      pub array-of-field : {c : Bool} {a : Option Entry} (i : Entry) (next : ℕ) → RowSays table (row + 1) a → a ≡ Some i → c ≡ (is_field_of i && not (is_string_of i)) → c ≡ true → PassesType (32 - depth) table (row + 1) next
           → ListsField total false limit at next s w s' w' → ListsArray most (32 - depth) table pool row k limit at s w s' w'
       unfolding from_entry
-      array-of-field i next n b c g v =
+      array-of-field i next n a b c g v =
           let o = whole_says i b c in
           record {
             grows = v.grows;
             lists = λ z p q.
                 array_whole limit at s w s' w' _ size (h.total p q) (type_at (32 - depth) table pool (suc row) (p + k * 4)) next (base-size (p + k * 4)) (rw (add-one row) at (g.passes pool (p + k * 4)))
-                (rw (add-one row, o.1) at (type-field (32 - depth) table pool (row + 1) (p + k * 4) i (n.is pool (p + k * 4)) o.0)) v;
+                (rw (add-one row, o.1) at (type-field (32 - depth) table pool (row + 1) (p + k * 4) i (rw a at (n.is pool (p + k * 4))) o.0)) v;
           }
+
+      -- where the base's row says nothing there is no base
+      pub array-unknown : {o : Option Entry} → Grows s.closed s'.closed → RowSays table (row + 1) o → o ≡ None → ListsArray most (32 - depth) table pool row k limit at s w s' w'
+      unfolding from_entry
+      array-unknown c says e = record { grows = c; lists = λ z p q. rw (rw (add-one row) at (untyped table pool (row + 1) (32 - depth) says e (p + k * 4))) (unfold and_then ListsAs in tt) }
 
       pub array-entries : {path : Path} (inner : Path) → path.depth ≡ depth → Entered path (row + 1) inner → depth < 32
           → ListsEntries most (33 - inner.depth) table pool (top_of inner) size (total / size) limit at s w s' w' → ListsArray most (32 - depth) table pool row k limit at s w s' w'
@@ -199,3 +202,7 @@ member-entered table pool most depth row limit at s w s' w' inner e d h g =
     let i = h.deeper in
     let j : 33 - inner.depth ≡ 32 - depth = omega arith in
     rw (j, h.top) at g
+
+pub member_unknown : (table pool : List ℕ) (most depth row limit at : ℕ) (s : Runs) (w : List ℕ) (s' : Runs) (w' : List ℕ) {o : Option Entry} → Grows s.closed s'.closed → RowSays table row o → o ≡ None
+    → ListsAt most (32 - depth) table pool row limit at s w s' w'
+member_unknown table pool most depth row limit at s w s' w' c says e = record { grows = c; lists = λ z p. rw (untyped table pool row (32 - depth) says e p) (unfold ListsAs in tt) }

@@ -1,5 +1,5 @@
 -- What the walk that lists runs does for a type that is found.
-use Rattle.std.specs.Prelude.{ℕ, ◌+◌, ◌-◌, ◌*◌, ◌<◌, ◌≤◌, min, ◌≡◌, Bool, List, [], ◌∷◌, length, drop}
+use Rattle.std.specs.Prelude.{ℕ, ◌+◌, ◌-◌, ◌*◌, ◌<◌, ◌≤◌, min, ◌≡◌, Bool, List, [], ◌∷◌, length, drop, Some}
 use Rattle.format.specs.Datatype.{Datatype, Members, type_size_of}
 use Rattle.format.specs.Image.{Field, move_fields, field_entries, fields_of, member_fields}
 use Rattle.format.specs.Table.{Found, found, bad, type_at, members_at}
@@ -95,7 +95,7 @@ pub record ListsEntries (most levels : ℕ) (table pool : List ℕ) (row stride 
 -- of an array's row, with so many levels left below it
 pub record ListsArray (most levels : ℕ) (table pool : List ℕ) (row rank limit at : ℕ) (s : Runs) (w : List ℕ) (s' : Runs) (w' : List ℕ) : Type 0 where
   pub grows : Grows s.closed s'.closed
-  pub lists : s'.closed < most → (p : ℕ) → Array rank ≡ entry_at table pool row p → ListsAs (from_entry (type_at levels table pool) table pool row p (Array rank)) limit at s w s' w'
+  pub lists : s'.closed < most → (p : ℕ) → Some (Array rank) ≡ entry_at table pool row p → ListsAs (from_entry (type_at levels table pool) table pool row p (Some (Array rank))) limit at s w s' w'
 
 -- `list_runs`: how many runs, which stand at the workspace's end if it has the room; an answer that is not below `most` says neither
 pub record RunsListed (most : ℕ) (rs : List Field) (r : ℕ) (w w' : List ℕ) : Type 0 where

@@ -10,7 +10,7 @@ ghost use Rattle.table.specs.Path.{top_of};
 ghost use Rattle.runs.specs.Listing.{open_run, Standing, Stores, ListsOne, ListsField, ListsAt, ListsArray, ListsMembers, ListsEntries, RunsListed};
 
 use compare::{is_field, is_string, nul_terminated};
-use rows::{Entry, Member, row_entry, row_member};
+use rows::{Entry, row_entry, row_member};
 use table::{Path, array_total, enter, next_row, size_at};
 
 // The runs so far: the row behind what is listed, how many runs are closed, and the open one. Closed runs stand in the workspace from its end
@@ -28,13 +28,7 @@ pub struct Runs {
 fn joins_run(s: Runs, place: usize, ended: bool) -> bool
     ensures { result ≡ joins (open_run s) (field_at place 0 ended) }
 {
-    if s.ended {
-        return false;
-    }
-    if ended {
-        return false;
-    }
-    if place < s.place {
+    if s.ended || ended || place < s.place {
         return false;
     }
     place - s.place == s.size
@@ -45,11 +39,7 @@ fn run_code(size: usize, ended: bool) -> u64
     requires { size < 4294967296 }
     ensures { result ≡ run_code_of (field_at 0 size ended) }
 {
-    if ended {
-        (size as u64) * 2 + 1
-    } else {
-        (size as u64) * 2
-    }
+    (size as u64) * 2 + u64::from(ended)
 }
 
 // Stores the open run before those that stand at the workspace's end, if there is room. The answer is how many are closed then; it stops at
@@ -80,20 +70,18 @@ fn add_run(s: Runs, place: usize, size: usize, ended: bool, row: usize, work: &m
 {
     if joins_run(s, place, ended) {
         return Runs {
-            row: row,
-            closed: s.closed,
-            place: s.place,
+            row,
             size: place - s.place + size,
-            ended: false,
+            ..s
         };
     }
     let closed = store_run(s, work);
     Runs {
-        row: row,
-        closed: closed,
-        place: place,
-        size: size,
-        ended: ended,
+        row,
+        closed,
+        place,
+        size,
+        ended,
     }
 }
 
@@ -120,10 +108,7 @@ fn list_field(
 fn is_whole(entry: Entry) -> bool
     ensures { result ≡ (is_field_of entry && not (is_string_of entry)) }
 {
-    if is_string(entry) {
-        return false;
-    }
-    is_field(entry)
+    is_field(entry) && !is_string(entry)
 }
 
 // The fields of the type at the top of the path, of which `entry` is the row; its record begins at `at`.
@@ -139,7 +124,7 @@ fn list_type(
     s: Runs,
     work: &mut [u64],
 ) -> Runs
-    requires { Standing path limit at × RowSays table.now (top_of path) entry }
+    requires { Standing path limit at × RowSays table.now (top_of path) (Some entry) }
     ensures { ListsAt most (33 - path.depth) table.now pool.now (top_of path) limit at s work.old result work.new }
 {
     let depth = path.depth;
@@ -147,7 +132,6 @@ fn list_type(
     let rows = path.rows;
     let row = rows[depth - 1];
     match entry {
-        Entry::Unknown => s,
         Entry::VariableLength(_, _, _) => s,
         Entry::Leaf(class, size, _, code) => {
             let ended = nul_terminated(class, code);
@@ -201,7 +185,9 @@ fn list_array(
         return s;
     }
     let bytes = array_total(table, pool, row, rank, stride);
-    let entry = row_entry(table, below);
+    let Some(entry) = row_entry(table, below) else {
+        return s;
+    };
     if is_whole(entry) {
         let next = next_row(table, below, 32 - depth);
         return list_field(limit, s, at, bytes as usize, false, next, work);
@@ -229,7 +215,7 @@ fn list_members(
     pool: &[u8],
     path: Path,
     row: usize,
-    count: u32,
+    members: u32,
     limit: usize,
     at: usize,
     most: usize,
@@ -237,24 +223,23 @@ fn list_members(
     work: &mut [u64],
 ) -> Runs
     requires { Standing path limit at }
-    ensures { ListsMembers most (32 - path.depth) table.now pool.now count row limit at s work.old result work.new }
+    ensures { ListsMembers most (32 - path.depth) table.now pool.now members row limit at s work.old result work.new }
 {
     let depth = path.depth;
     let mut state = s;
     let mut r = row;
-    let mut left = count;
-    while left > 0 {
+    for _ in 0..members {
         if state.closed >= most {
             return state;
         }
         if depth >= 32 {
             return state;
         }
-        let member = row_member(table, r);
-        let Member::Named(offset, _) = member else {
+        let Some(member) = row_member(table, r) else {
             return state;
         };
-        if limit - at < offset as usize {
+        let offset = member.number as usize;
+        if limit - at < offset {
             return state;
         }
         state = list_member(
@@ -263,13 +248,12 @@ fn list_members(
             path,
             r + 1,
             limit,
-            at + offset as usize,
+            at + offset,
             most,
             state,
             work,
         );
         r = state.row;
-        left -= 1;
     }
     state.row = r;
     state
@@ -291,7 +275,9 @@ fn list_member(
     requires { (path.depth < 32) × ((at ≤ limit) × (limit < 4294967296)) }
     ensures { ListsAt most (32 - path.depth) table.now pool.now row limit at s work.old result work.new }
 {
-    let entry = row_entry(table, row);
+    let Some(entry) = row_entry(table, row) else {
+        return s;
+    };
     list_type(
         table,
         pool,
@@ -320,13 +306,12 @@ fn list_entries(
     s: Runs,
     work: &mut [u64],
 ) -> Runs
-    requires { Standing path limit at × RowSays table.now (top_of path) entry }
+    requires { Standing path limit at × RowSays table.now (top_of path) (Some entry) }
     ensures { ListsEntries most (33 - path.depth) table.now pool.now (top_of path) stride count limit at s work.old result work.new }
 {
     let mut state = s;
     let mut start = at;
-    let mut done: usize = 0;
-    while done < count {
+    for _ in 0..count {
         if state.closed >= most {
             return state;
         }
@@ -335,7 +320,6 @@ fn list_entries(
         }
         state = list_type(table, pool, path, entry, limit, start, most, state, work);
         start += stride;
-        done += 1;
     }
     state
 }
@@ -359,18 +343,10 @@ pub fn list_runs(table: &[u32], pool: &[u8], size: u32, most: usize, work: &mut 
         size: 0,
         ended: false,
     };
-    let entry = row_entry(table, 0);
-    let s = list_type(
-        table,
-        pool,
-        path,
-        entry,
-        size as usize,
-        0,
-        most,
-        start,
-        work,
-    );
-    let closed = store_run(s, work);
-    closed as u64
+    let Some(entry) = row_entry(table, 0) else {
+        return 0;
+    };
+    let limit = size as usize;
+    let s = list_type(table, pool, path, entry, limit, 0, most, start, work);
+    store_run(s, work) as u64
 }

@@ -9,7 +9,6 @@ mod files;
 mod numbers;
 mod say;
 
-use numbers::Parsed;
 use std::rt::{Env, Files};
 
 fn main(rt: HostRuntime) {
@@ -29,8 +28,7 @@ Writes one line: same, differs, refused with number and values, or error and wha
         return;
     }
     let mut message = io::large_buffer();
-    let length = files::argument(&rt, 1, b"message file", &mut message);
-    if length > 0 {
+    if let Some(length) = files::argument(&rt, 1, "message file", &mut message) {
         with_message(&rt, &message[..length]);
     }
 }
@@ -41,22 +39,15 @@ fn with_message(rt: &(impl Env + Files), message: &[u8]) {
         return;
     }
     let mut block = buffers::block();
-    let length = files::argument(rt, 2, b"record file", &mut block);
-    if length > 0 {
+    if let Some(length) = files::argument(rt, 2, "record file", &mut block) {
         with_block(rt, message, &block[..length]);
     }
 }
 
 fn with_block(rt: &impl Env, message: &[u8], block: &[u8]) {
-    let first = numbers::argument(rt, 3);
-    match first {
-        Parsed::NoNumber => {}
-        Parsed::Number(i) => {
-            let second = numbers::argument(rt, 4);
-            match second {
-                Parsed::NoNumber => {}
-                Parsed::Number(j) => with_numbers(message, block, i, j),
-            }
+    if let Some(i) = numbers::argument(rt, 3) {
+        if let Some(j) = numbers::argument(rt, 4) {
+            with_numbers(message, block, i, j);
         }
     }
 }

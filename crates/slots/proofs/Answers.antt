@@ -1,27 +1,26 @@
 -- The answers of `embedded_reference_slots`.
-use Rattle.std.proofs.Common.{◌≡◌, ℕ, suc, ◌+◌, ◌-◌, ◌/◌, ◌<◌, ◌≤◌, min, Bool, true, false, ◌||◌, ltb, List, [], ◌∷◌, length, sym, refl, ap, ◌∙◌, div-mul-le_self, arith, w8, Fits as FitsIn, ltb-false, le-ltb, lt-ltb, le-leb}
+use Rattle.std.proofs.Common.{◌≡◌, ℕ, ◌+◌, ◌/◌, ◌<◌, ◌≤◌, min, Bool, true, false, ◌||◌, ltb, List, [], ◌∷◌, length, sym, refl, ap, ◌∙◌, div-mul-le_self, arith, ltb-false, le-ltb, lt-ltb, le-leb}
 use mathlib.Core.Bool.{or-true}
-use mathlib.Core.Option.{Option, none, some}
+use mathlib.Core.Option as maybe
+use Rattle.std.specs.Prelude.{Option, Some, None, Result, Ok, Err}
+use Rattle.std.specs.Option.{ok_or}
 use borrow.Author.Tests.{lt-leb}
 use Rattle.refusal.specs.declared.Refusal.{Refusal}
 use Rattle.refusal.specs.declared.Refusal.TheVariants.{BadTable, ZeroSize, Unmapped, NoRoom}
 use Rattle.format.specs.Datatype.{type_size_of}
-use Rattle.format.specs.Outcome.{Outcome, gives, refuses, when_given, unless, needed, output_after, outcome_number, outcome_values}
+use Rattle.format.specs.Outcome.{gives, refuses, when_given, unless, needed, output_after}
+use Rattle.format.proofs.Outcomes.{answers-given, answers-refused}
 use Rattle.format.specs.Slots.{slots, slot_count, slot_end_of, shifted, holds_other_reference, holds_hidden_reference, some_outside_of, unmapped, first_zero, unless_zero, slotting, finding_slots}
 use Rattle.format.proofs.Booleans.{or_neither}
 use Rattle.format.proofs.Lists.{sets-front}
 use Rattle.format.proofs.Slots.{length-slots, slots-outside, unmapped-counted}
-use Rattle.table.specs.Survey.{survey_of, zero_code_of, Sets, Checks}
+use Rattle.table.specs.Survey.{survey_of, as_option, Sets, Checks}
 use Rattle.table.specs.declared.Survey.{Survey}
-use Rattle.table.specs.declared.Checked.{Checked}
-use Rattle.table.specs.declared.Checked.TheVariants.{Bad}
-use Rattle.table.proofs.Surveys.{zero_code}
-use Rattle.table.proofs.ZeroClass.{zero-low}
-use Rattle.slots.specs.Slots.{Counted, CountedAs, TallyAt, AllBelow, Fits, Listed, PutAs, PutAt, slots_number, slots_values, answer_of, SlotsAre}
+use Rattle.table.proofs.Answers.{bad-table, bad-answer}
+use Rattle.table.proofs.Surveys.{zero_none, zero_some}
+use Rattle.slots.specs.Slots.{Counted, CountedAs, TallyAt, AllBelow, Fits, Listed, PutAs, PutAt, SlotsAre}
 use Rattle.slots.specs.declared.Tally.{Tally}
 use Rattle.slots.specs.declared.Put.{Put}
-use Rattle.slots.specs.declared.Slots.{Slots}
-use Rattle.slots.specs.declared.Slots.TheVariants.{Found as SlotsFound, Refused}
 use Rattle.slots.proofs.Shifting.{shifted-zero}
 
 -- ---- the answers
@@ -33,36 +32,19 @@ all-low size (s ∷ ss) h k =
     let u = or_neither (ltb size (s + 8)) (some_outside_of size ss) k in
     (omega (arith, ltb-false size (s + 8) u.0), all-low size ss h u.1)
 
-some_code : {A : Type 0} (x : Option ℕ) (y : Outcome A) → (zero_code_of x ≡ 0 → ⊥) → unless_zero x y ≡ refuses (ZeroSize (zero_code_of x - 1))
-unfolding zero_code_of unless_zero
-some_code none y h = absurd (h refl)
-some_code (some c) y h = let e : suc c - 1 ≡ c = omega arith in rw e
+refused : (table pool out : List ℕ) (e : Refusal) → finding_slots table pool (length out) ≡ refuses e → SlotsAre table pool (Err e) out out
+unfolding output_after
+refused table pool out e h = record { answers = answers-refused _ _ _ e _ h refl; out-is = rw h }
 
--- an answer that is the definition's has its number and values
-told : (o : Outcome (List ℕ)) {r : Slots} → r ≡ answer_of o → (slots_number r ≡ outcome_number o) × (slots_values r ≡ outcome_values (λ s. length s ∷ []) o)
-unfolding answer_of slots_number slots_values outcome_number outcome_values
-told (gives s) e = (ap slots_number e, ap slots_values e)
-told (refuses x) e = (ap slots_number e, ap slots_values e)
-
-refused : (table pool out : List ℕ) (e : Refusal) → finding_slots table pool (length out) ≡ refuses e → SlotsAre table pool (Refused e) out out
-unfolding answer_of output_after
-refused table pool out e h =
-    let a : Refused e ≡ answer_of (finding_slots table pool (length out)) = rw h in
-    let w = told (finding_slots table pool (length out)) a in
-    record { answer = a; number = w.0; values = w.1; out-is = rw h }
-
-pub slots-bad : (table pool out : List ℕ) {k : Checked} → Checks table pool k → k ≡ Bad → SlotsAre table pool (Refused BadTable) out out
+pub slots-bad : (table pool out : List ℕ) {k : Option Survey} {o : Result Survey Refusal} {a : Result ℕ Refusal} {e y : Refusal} → Checks table pool k → o ≡ ok_or k BadTable → o ≡ Err e → a ≡ Err y → y ≡ e → SlotsAre table pool a out out
 unfolding finding_slots when_given
-slots-bad table pool out h e = refused table pool out BadTable (rw (h.bad-table e))
+slots-bad table pool out h w i d f = rw (bad-answer table pool h w i d f) (refused table pool out BadTable (rw (bad-table table pool h w i)))
 
 -- of a type that the check has surveyed
 module _ (table pool : List ℕ) {s : Survey} (given : Sets table pool s) where
-  zeroed : s.zero ≡ zero_code_of (first_zero given.type)
+  zeroed : s.zero ≡ as_option (first_zero given.type)
   unfolding survey_of
   zeroed = let g = given.says in cc
-
-  pub zero-fits : FitsIn w8 (s.zero - 1)
-  zero-fits = record { fits = omega (arith, zero-low given.type, zeroed) }
 
 module _ (table pool out : List ℕ) {s : Survey} (given : Sets table pool s) where
   sized : s.size ≡ type_size_of given.type
@@ -73,24 +55,23 @@ module _ (table pool out : List ℕ) {s : Survey} (given : Sets table pool s) wh
   unfolding finding_slots when_given
   finding = rw given.is
 
-  pub slots-zero : (s.zero ≡ 0 → ⊥) → SlotsAre table pool (Refused (ZeroSize (s.zero - 1))) out out
-  unfolding slotting
-  slots-zero z =
-      refused table pool out _ (finding ∙ some_code (first_zero given.type) _ (λ f. z (zeroed table pool given ∙ f)) ∙ ap (λ (n : ℕ). refuses (ZeroSize (n - 1))) (sym (zeroed table pool given)))
+  pub slots-zero : {class : ℕ} → s.zero ≡ Some class → SlotsAre table pool (Err (ZeroSize class)) out out
+  unfolding slotting unless_zero
+  slots-zero {class = class} z = refused table pool out _ (finding ∙ rw (zero_some (first_zero given.type) class (sym (zeroed table pool given) ∙ z)))
 
-  module _ (z : s.zero ≡ 0) (t : Tally) (g : TallyAt 32 table pool 0 t) where
-    none-zero : first_zero given.type ≡ none
-    none-zero = zero_code _ (sym (zeroed table pool given) ∙ z)
+  module _ (z : s.zero ≡ None) (t : Tally) (g : TallyAt 32 table pool 0 t) where
+    none-zero : first_zero given.type ≡ maybe.none
+    none-zero = zero_none _ (sym (zeroed table pool given) ∙ z)
 
     counted : Counted (holds_other_reference given.type || holds_hidden_reference given.type) (slot_count given.type) (slot_end_of given.type) t
     unfolding CountedAs
     counted = rw given.stands at (g.counts 0) none-zero
 
-    refused-unmapped : unmapped given.type ≡ true → SlotsAre table pool (Refused Unmapped) out out
+    refused-unmapped : unmapped given.type ≡ true → SlotsAre table pool (Err Unmapped) out out
     unfolding slotting unless_zero unless
     refused-unmapped u = refused table pool out Unmapped (finding ∙ rw (none-zero, u))
 
-    pub slots_other : t.unmapped ≡ true → SlotsAre table pool (Refused Unmapped) out out
+    pub slots_other : t.unmapped ≡ true → SlotsAre table pool (Err Unmapped) out out
     slots_other u =
         refused-unmapped (unmapped-counted given.type ∙ go (holds_other_reference given.type) (holds_hidden_reference given.type) _ (sym counted.unmapped-is ∙ u))
       where
@@ -98,12 +79,12 @@ module _ (table pool out : List ℕ) {s : Survey} (given : Sets table pool s) wh
         go true b c h = refl
         go false b c h = rw h
 
-    pub slots-many : s.size / 8 < t.count → SlotsAre table pool (Refused Unmapped) out out
+    pub slots-many : s.size / 8 < t.count → SlotsAre table pool (Err Unmapped) out out
     slots-many l =
         let w : type_size_of given.type / 8 < slot_count given.type = omega (arith, counted.count-is, ap (λ (n : ℕ). n / 8) sized) in
         refused-unmapped (unmapped-counted given.type ∙ rw (lt-ltb (type_size_of given.type / 8) (slot_count given.type) w, or-true, or-true))
 
-    pub slots_far : s.size < t.end → SlotsAre table pool (Refused Unmapped) out out
+    pub slots_far : s.size < t.end → SlotsAre table pool (Err Unmapped) out out
     slots_far l =
         let w : type_size_of given.type < slot_end_of given.type = omega (arith, counted.end_is, sized) in
         refused-unmapped (unmapped-counted given.type ∙ rw (lt-ltb (type_size_of given.type) (slot_end_of given.type) w, or-true, or-true, or-true))
@@ -127,14 +108,14 @@ module _ (table pool out : List ℕ) {s : Survey} (given : Sets table pool s) wh
       long : length (slots given.type) ≡ t.count
       long = length-slots given.type ∙ all-counted
 
-      pub slots-room : length out < t.count → SlotsAre table pool (Refused (NoRoom t.count)) out out
+      pub slots-room : length out < t.count → SlotsAre table pool (Err (NoRoom t.count)) out out
       unfolding slotting unless_zero unless needed
       slots-room l =
           let e : min t.count 18446744073709551615 ≡ t.count = omega (arith, div-mul-le_self s.size 8) in
           refused table pool out (NoRoom t.count) (finding ∙ rw (none-zero, mapped, long, lt-leb t.count (length out) l, e))
 
-      pub slots-found : (x : Put) (out' : List ℕ) → t.count ≤ length out → PutAt 32 table pool 0 0 out 0 x out' → SlotsAre table pool (SlotsFound t.count) out out'
-      unfolding PutAs slotting unless_zero unless answer_of output_after
+      pub slots-found : (x : Put) (out' : List ℕ) → t.count ≤ length out → PutAt 32 table pool 0 0 out 0 x out' → SlotsAre table pool (Ok t.count) out out'
+      unfolding PutAs slotting unless_zero unless output_after
       slots-found x out' r v =
           let w = rw given.stands at (v.lists 0) in
           let q : shifted 0 (slots given.type) ≡ slots given.type = shifted-zero (slots given.type) in
@@ -143,6 +124,4 @@ module _ (table pool out : List ℕ) {s : Survey} (given : Sets table pool s) wh
           let p : Fits (slots given.type) out 0 = record { room = omega (arith, long); low = all-low (type_size_of given.type) (slots given.type) (omega (arith, sized)) o } in
           let l : Listed (slots given.type) out 0 x.next out' = rw q at (w (record { sized = none-zero; mapped = neither }) (rw q p)) in
           let d : finding_slots table pool (length out) ≡ gives (slots given.type) = finding ∙ rw (none-zero, mapped, long, le-leb t.count (length out) r) in
-          let a : SlotsFound t.count ≡ answer_of (finding_slots table pool (length out)) = rw (d, long) in
-          let n = told (finding_slots table pool (length out)) a in
-          record { answer = a; number = n.0; values = n.1; out-is = l.out-is ∙ rw d (sets-front (slots given.type) out (omega (arith, long))) }
+          record { answers = answers-given length _ _ (slots given.type) _ d (rw long); out-is = l.out-is ∙ rw d (sets-front (slots given.type) out (omega (arith, long))) }

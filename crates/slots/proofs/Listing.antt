@@ -6,9 +6,10 @@ use Rattle.format.specs.Slots.{is_slot, shifted, entries, slots, holds_other_ref
 use Rattle.format.specs.Table.{Found, found, bad, Walk, and_then, type_at}
 use Rattle.format.proofs.Booleans.{or_neither}
 use Rattle.format.proofs.Slots.{first-zero-size, or_else_none}
+use Rattle.std.specs.Prelude.{Option, Some, None}
 use Rattle.rows.specs.Entries.{entry_at, leaf_type, from_entry, RowSays}
 use Rattle.rows.specs.declared.Entry.{Entry}
-use Rattle.rows.specs.declared.Entry.TheVariants.{Leaf, Compound, Enumeration, VariableLength, Array, Unknown}
+use Rattle.rows.specs.declared.Entry.TheVariants.{Leaf, Compound, Enumeration, VariableLength, Array}
 use Rattle.rows.proofs.Leaves.{leaf_law}
 use Rattle.table.specs.Known.{TotalAt, SizedTo, SizedAt}
 use Rattle.table.specs.Path.{top_of, Entered}
@@ -36,11 +37,11 @@ put_empty (found t r p) base out at h = λ l f. rw (shifted_none base (slots t) 
 put_empty bad base out at h = tt
 
 module _ (rd : Walk Datatype) (table pool : List ℕ) (r p : ℕ) where
-  empty_enumeration : (n k : ℕ) → Empty (from_entry rd table pool r p (Enumeration n k))
+  empty_enumeration : (n k : ℕ) → Empty (from_entry rd table pool r p (Some (Enumeration n k)))
   unfolding from_entry Empty slots
   empty_enumeration n k = empty_then _ _ (λ t r p. empty_then _ _ (λ ns r₁ p₁. empty_then _ _ (λ ms r₂ p₂. refl)))
 
-  empty_variable_length : (i a c : ℕ) → Empty (from_entry rd table pool r p (VariableLength i a c))
+  empty_variable_length : (i a c : ℕ) → Empty (from_entry rd table pool r p (Some (VariableLength i a c)))
   unfolding from_entry Empty slots
   empty_variable_length i a c = empty_then _ _ (λ t r p. refl)
 
@@ -58,14 +59,14 @@ module _ (row class base : ℕ) (out : List ℕ) (at : ℕ) where
     leaf-stored = record { behind = refl; one = λ i f. record { next = refl; out-is = refl }; none_else = λ i. absurd (i reference) }
 
 -- what a leaf's row says of its type
-module _ (table pool : List ℕ) (r p : ℕ) {k n l x : ℕ} (q : Leaf k n l x ≡ entry_at table pool r p) where
+module _ (table pool : List ℕ) (r p : ℕ) {k n l x : ℕ} (q : Some (Leaf k n l x) ≡ entry_at table pool r p) where
   leaf-slots : slots (leaf_type table pool r p k) ≡ cond (eqb k 7 && is_slot n x) (0 ∷ []) []
   unfolding slots
-  leaf-slots = let h = leaf_law table pool r p q refl in rw (h.is, h.refers_by)
+  leaf-slots = let h = leaf_law table pool r p q refl refl in rw (h.is, h.refers_by)
 
   leaf-others : holds_other_reference (leaf_type table pool r p k) ≡ (eqb k 7 && not (is_slot n x))
   unfolding holds_other_reference
-  leaf-others = let h = leaf_law table pool r p q refl in rw (h.is, h.refers_by)
+  leaf-others = let h = leaf_law table pool r p q refl refl in rw (h.is, h.refers_by)
 
   leaf-none : (k ≡ 7 → ⊥) → slots (leaf_type table pool r p k) ≡ []
   leaf-none h = leaf-slots ∙ rw (ne_eqb k 7 h)
@@ -144,54 +145,54 @@ array-put ds stride n base out at next out₁ x out' bad v s e w = tt
 
 -- ---- by the row
 
-module _ (table pool : List ℕ) (depth row base : ℕ) (out : List ℕ) (at : ℕ) {e : Entry} (shallow : depth ≤ 32) (s : RowSays table row e) where
-  lists_by : (x : ℕ) (out' : List ℕ) {f : Entry} → e ≡ f → ((p : ℕ) → f ≡ entry_at table pool row p → PutAs (from_entry (type_at (32 - depth) table pool) table pool row p f) base out at x out') → (p : ℕ)
+module _ (table pool : List ℕ) (depth row base : ℕ) (out : List ℕ) (at : ℕ) {e : Option Entry} (shallow : depth ≤ 32) (s : RowSays table row e) where
+  lists_by : (x : ℕ) (out' : List ℕ) {f : Option Entry} → e ≡ f → ((p : ℕ) → f ≡ entry_at table pool row p → PutAs (from_entry (type_at (32 - depth) table pool) table pool row p f) base out at x out') → (p : ℕ)
       → PutAs (type_at (33 - depth) table pool row p) base out at x out'
   lists_by x out' i v p = by_row table pool depth row shallow s (λ (y : Found Datatype). PutAs y base out at x out') (unfold PutAs in tt) p i (v p)
 
   deep : 33 - depth ≡ 0 → ⊥
   deep = above depth shallow
 
-  type_empty : {x : Put} {f : Entry} → Passed (33 - depth) table row at x → e ≡ f → ((p : ℕ) → Empty (from_entry (type_at (32 - depth) table pool) table pool row p f)) → PutAt (33 - depth) table pool row base out at x out
+  type_empty : {x : Put} {f : Option Entry} → Passed (33 - depth) table row at x → e ≡ f → ((p : ℕ) → Empty (from_entry (type_at (32 - depth) table pool) table pool row p f)) → PutAt (33 - depth) table pool row base out at x out
   type_empty {x = x} v i h = record { passes = v.passes; lists = lists_by x.next out i (λ p q. rw v.stays (put_empty _ base out at (h p))) }
 
-  pub type_unknown : {x : Put} → Passed (33 - depth) table row at x → e ≡ Unknown → PutAt (33 - depth) table pool row base out at x out
+  pub type_unknown : {x : Put} → Passed (33 - depth) table row at x → e ≡ None → PutAt (33 - depth) table pool row base out at x out
   type_unknown v i = type_empty v i (λ p. unfold from_entry Empty in tt)
 
-  pub type-enumeration : {x : Put} {n k : ℕ} → Passed (33 - depth) table row at x → e ≡ Enumeration n k → PutAt (33 - depth) table pool row base out at x out
-  type-enumeration v i = type_empty v i (λ p. empty_enumeration _ table pool row p _ _)
+  pub type-enumeration : {x : Put} {n k : ℕ} {f : Entry} → Passed (33 - depth) table row at x → e ≡ Some f → f ≡ Enumeration n k → PutAt (33 - depth) table pool row base out at x out
+  type-enumeration v i h = type_empty v (i ∙ ap Some h) (λ p. empty_enumeration _ table pool row p _ _)
 
-  pub type-variable_length : {x : Put} {a c d : ℕ} → Passed (33 - depth) table row at x → e ≡ VariableLength a c d → PutAt (33 - depth) table pool row base out at x out
-  type-variable_length v i = type_empty v i (λ p. empty_variable_length _ table pool row p _ _ _)
+  pub type-variable_length : {x : Put} {a c d : ℕ} {f : Entry} → Passed (33 - depth) table row at x → e ≡ Some f → f ≡ VariableLength a c d → PutAt (33 - depth) table pool row base out at x out
+  type-variable_length v i h = type_empty v (i ∙ ap Some h) (λ p. empty_variable_length _ table pool row p _ _ _)
 
-  pub type-leaf : (x : Put) (out' : List ℕ) {k n l y : ℕ} → e ≡ Leaf k n l y → PutLeaf (row + 1) k base out at x out' → PutAt (33 - depth) table pool row base out at x out'
-  type-leaf x out' i v =
+  pub type-leaf : (x : Put) (out' : List ℕ) {k n l y : ℕ} {f : Entry} → e ≡ Some f → f ≡ Leaf k n l y → PutLeaf (row + 1) k base out at x out' → PutAt (33 - depth) table pool row base out at x out'
+  type-leaf x out' i h v =
       record {
-        passes = rw v.behind (passes-leaf table row (33 - depth) deep s i);
-        lists = lists_by x.next out' i (λ p q. unfold from_entry in leaf-put table pool row p q (row + 1) base out at x out' _ _ v);
+        passes = rw v.behind (passes-leaf table row (33 - depth) deep s i h);
+        lists = lists_by x.next out' (i ∙ ap Some h) (λ p q. unfold from_entry in leaf-put table pool row p q (row + 1) base out at x out' _ _ v);
       }
 
-  pub type-compound : (x : Put) (out' : List ℕ) {n k : ℕ} → e ≡ Compound n k → PutInside (32 - depth) table pool (row + 1) k base out at x out' → PutAt (33 - depth) table pool row base out at x out'
+  pub type-compound : (x : Put) (out' : List ℕ) {n k : ℕ} {f : Entry} → e ≡ Some f → f ≡ Compound n k → PutInside (32 - depth) table pool (row + 1) k base out at x out' → PutAt (33 - depth) table pool row base out at x out'
   unfolding from_entry
-  type-compound x out' {n = n} i v =
+  type-compound x out' {n = n} i h v =
       record {
-        passes = passes-compound table row (33 - depth) deep s i (rw (below depth) v.passes);
-        lists = lists_by x.next out' i (λ p q. go _ (rw (add-one row) at (v.lists p)));
+        passes = passes-compound table row (33 - depth) deep s i h (rw (below depth) v.passes);
+        lists = lists_by x.next out' (i ∙ ap Some h) (λ p q. go _ (rw (add-one row) at (v.lists p)));
       }
     where
       go : (y : Found Members) → PutIn y base out at x.next out' → PutAs (and_then y (λ ms r' p'. found (compound n ms) r' p')) base out at x.next out'
       go (found ms r p) w = unfold and_then PutAs PutIn slots first_zero holds_other_reference holds_hidden_reference in λ l f. w (record { sized = (or_else_none _ _ l.sized).1; mapped = l.mapped }) f
       go bad w = unfold and_then PutAs in tt
 
-  pub row_is : {k : ℕ} → e ≡ Array k → RowSays table row (Array k)
-  row_is i = rw i at s
+  pub row_is : {k : ℕ} {f : Entry} → e ≡ Some f → f ≡ Array k → RowSays table row (Some (Array k))
+  row_is i h = rw (i, h) at s
 
-pub type-array : (table pool : List ℕ) (depth row base : ℕ) (out : List ℕ) (at : ℕ) (out₁ : List ℕ) (x : ℕ) (out' : List ℕ) {k stride n : ℕ} {y : Put} → depth ≤ 32 → RowSays table row (Array k)
+pub type-array : (table pool : List ℕ) (depth row base : ℕ) (out : List ℕ) (at : ℕ) (out₁ : List ℕ) (x : ℕ) (out' : List ℕ) {k stride n : ℕ} {y : Put} → depth ≤ 32 → RowSays table row (Some (Array k))
     → PutAt (32 - depth) table pool (row + 1) base out at y out₁ → SizedAt (32 - depth) table pool (row + 1) stride → TotalAt table pool row k 1 n → Repeats stride n at y.next out₁ x out'
     → PutAt (33 - depth) table pool row base out at (record { row = y.row; next = x }) out'
 type-array table pool depth row base out at out₁ x out' {k = k} {stride = stride} {n = n} {y = y} h s v z t w =
     record {
-      passes = passes-array table row (33 - depth) (above depth h) s refl (rw (below depth) v.passes);
+      passes = passes-array table row (33 - depth) (above depth h) s refl refl (rw (below depth) v.passes);
       lists = lists_by table pool depth row base out at h s x out' refl (λ p q. unfold from_entry in array-put _ stride n base out at y.next out₁ x out' _ (rw (add-one row) at (v.lists (p + k * 4))) (rw (add-one row) at (z.sized (p + k * 4))) (t.total p q) w);
     }
 
@@ -214,11 +215,11 @@ inner-none table pool depth row base out at x h =
     let j : 32 - depth ≡ 0 = omega arith in
     record { passes = passes_none table row (32 - depth) x.row j; lists = λ p. rw j (unfold type_at PutAs in tt) }
 
-pub inner-leaf : (table pool : List ℕ) (depth row base : ℕ) (out : List ℕ) (at : ℕ) (x : Put) (out' : List ℕ) {e : Entry} {k n l y : ℕ} → depth ≤ 32 → (depth ≡ 32 → ⊥) → RowSays table row e → e ≡ Leaf k n l y
+pub inner-leaf : (table pool : List ℕ) (depth row base : ℕ) (out : List ℕ) (at : ℕ) (x : Put) (out' : List ℕ) {e : Option Entry} {f : Entry} {k n l y : ℕ} → depth ≤ 32 → (depth ≡ 32 → ⊥) → RowSays table row e → e ≡ Some f → f ≡ Leaf k n l y
     → PutLeaf (row + 1) k base out at x out' → PutAt (32 - depth) table pool row base out at x out'
-inner-leaf table pool depth row base out at x out' h d s i v =
+inner-leaf table pool depth row base out at x out' h d s i g v =
     let c : 33 - (depth + 1) ≡ 32 - depth = omega arith in
-    rw c at (type-leaf table pool (depth + 1) row base out at (omega (arith, d)) s x out' i v)
+    rw c at (type-leaf table pool (depth + 1) row base out at (omega (arith, d)) s x out' i g v)
 
 pub inner_type : (table pool : List ℕ) (path inner : Path) (row base : ℕ) (out : List ℕ) (at : ℕ) (x : Put) (out' : List ℕ) → Entered path row inner → PutAt (33 - inner.depth) table pool (top_of inner) base out at x out'
     → PutAt (32 - path.depth) table pool row base out at x out'

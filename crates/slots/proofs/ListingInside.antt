@@ -6,9 +6,9 @@ use Rattle.format.specs.Table.{Found, found, bad, Walk, and_then, type_at, membe
 use Rattle.format.proofs.Booleans.{or_neither}
 use Rattle.format.proofs.Slots.{or_else_none}
 use Rattle.format.proofs.TableSteps.{then_found}
+use Rattle.std.specs.Prelude.{Option, Some, None}
 use Rattle.rows.specs.Entries.{from_member, RowNames}
 use Rattle.rows.specs.declared.Member.{Member}
-use Rattle.rows.specs.declared.Member.TheVariants.{Named, Unnamed}
 use Rattle.rows.proofs.Known.{claim_of-members}
 use Rattle.table.specs.Known.{PassesTo}
 use Rattle.table.proofs.Passing.{passes-start, passes_end, passes_unnamed, passes-next}
@@ -66,28 +66,28 @@ module _ (levels : ℕ) (table pool : List ℕ) (r left base : ℕ) (out : List 
       let k : left ≡ 0 = omega arith in
       inv.goes _ out (record { passes = passes_end levels table r left r left (passes-start levels table r left) l; lists = λ p. rw k (λ m f. listed-none out at) })
 
-  module _ {m : Member} (some_left : 0 < left) (s : RowNames table r m) where
-    lists-from : (x : ℕ) (out' : List ℕ) {f : Member} → m ≡ f → (p : ℕ)
+  module _ {m : Option Member} (some_left : 0 < left) (s : RowNames table r m) where
+    lists-from : (x : ℕ) (out' : List ℕ) {f : Option Member} → m ≡ f → (p : ℕ)
         → PutIn (from_member (type_at levels table pool) (members_at (type_at levels table pool) table pool (left - 1)) pool r p f) base out at x out' → PutIn (members_at (type_at levels table pool) table pool left r p) base out at x out'
     lists-from x out' h p v =
         let j : left ≡ suc (left - 1) = omega arith in
         rw j (claim_of-members table pool r p (λ (w : Found Members). PutIn w base out at x out') (unfold PutIn in tt) (type_at levels table pool) (left - 1) m (s.is pool p) (λ q. rw h v))
 
-    pub members_unnamed : m ≡ Unnamed → PutInside levels table pool row count base out₀ at₀ (record { row = r; next = at }) out
+    pub members_unnamed : m ≡ None → PutInside levels table pool row count base out₀ at₀ (record { row = r; next = at }) out
     members_unnamed h =
         inv.goes _ out (record {
           passes = passes_unnamed levels table r left r left (passes-start levels table r left) some_left s r h;
           lists = λ p. lists-from at out h p (unfold from_member PutIn in tt);
         })
 
-    pub members-next : (out₁ : List ℕ) {offset n : ℕ} {b : Put} → m ≡ Named offset n → PutAt levels table pool (r + 1) (base + offset) out at b out₁ → length out₁ ≡ length out
-        → Puts levels table pool row count base out₀ at₀ b.row (left - 1) out₁ b.next
-    members-next out₁ {offset = offset} {n = n} {b = b} h v e =
-        record {
+    pub members-next : (out₁ : List ℕ) {f : Member} {b : Put} {offset rest : ℕ} → m ≡ Some f → offset ≡ f.number → PutAt levels table pool (r + 1) (base + offset) out at b out₁ → length out₁ ≡ length out → rest ≡ left - 1
+        → Puts levels table pool row count base out₀ at₀ b.row rest out₁ b.next
+    members-next out₁ {f = f} {b = b} h j v e hr =
+        rw hr (record {
           same = e ∙ inv.same;
           goes = λ x out₂ w.
               inv.goes x out₂ (record {
-                passes = (passes-next levels table r left r left (passes-start levels table r left) some_left s h v.passes).on x.row w.passes;
-                lists = λ p. lists-from x.next out₂ h p (unfold from_member in put_next _ offset base (members_at (type_at levels table pool) table pool (left - 1)) b out at out₁ x.next out₂ _ (rw (add-one r) at (v.passes.passes pool (p + n))) (rw (add-one r) at (v.lists (p + n))) (λ p₁. w.lists p₁));
+                passes = (passes-next levels table r left r left (passes-start levels table r left) some_left s h v.passes refl).on x.row w.passes;
+                lists = λ p. lists-from x.next out₂ h p (unfold from_member in put_next _ f.number base (members_at (type_at levels table pool) table pool (left - 1)) b out at out₁ x.next out₂ _ (rw (add-one r) at (v.passes.passes pool (p + f.name))) (rw (add-one r, j) at (v.lists (p + f.name))) (λ p₁. w.lists p₁));
               });
-        }
+        })

@@ -1,5 +1,5 @@
 -- The small counts: sums, products and ends that stop, and what a leaf counts.
-use Rattle.std.proofs.Common.{◌≡◌, ℕ, zero, suc, ◌+◌, ◌-◌, ◌*◌, ◌<◌, ◌≤◌, min, max, Bool, true, false, ◌||◌, ltb, sym, refl, ap, ◌∙◌, mul-le-mul_right, mul-le-mul, one-mul, mul-zero, zero-mul, le-mul_of_pos_right, arith, ne_eqb}
+use Rattle.std.proofs.Common.{◌≡◌, ℕ, zero, suc, ◌+◌, ◌-◌, ◌*◌, ◌<◌, ◌≤◌, min, max, Bool, true, false, cond, not, ◌&&◌, ◌||◌, eqb, ltb, sym, refl, ap, ◌∙◌, mul-le-mul_right, mul-le-mul, one-mul, mul-zero, zero-mul, le-mul_of_pos_right, arith}
 use native.Mathlib.Decide.{dec_le}
 use Rattle.format.specs.Slots.{is_slot, last_end, moved_end_of}
 use Rattle.format.proofs.Slots.{moved_end}
@@ -7,17 +7,6 @@ use Rattle.slots.specs.Slots.{most_slots, most_end, leaf_tally_of, hidden_tally_
 use Rattle.slots.specs.declared.Tally.{Tally}
 
 -- ---- n entries of so many slots
-
-pub times_none : (n c : ℕ) → n ≡ 0 → 0 ≡ most_slots (n * c)
-times_none n c h = rw h (ap (λ (k : ℕ). min k 1073741824) (sym (zero-mul c)))
-
-pub times_many : (n c : ℕ) → (n ≡ 0 → ⊥) → 1073741824 ≤ c → 1073741824 ≡ most_slots (n * c)
-times_many n c h k =
-    let p : 1 ≤ n = omega (arith, h) in
-    omega (arith, mul-le-mul_right c p, one-mul c)
-
-pub times_fits : (n c : ℕ) → n ≤ 4294967296 → c < 1073741824 → n * c < 18446744073709551616
-times_fits n c h k = let l : c ≤ 1073741824 = omega arith in omega (arith, mul-le-mul h l)
 
 pub sums_stop : (c s m : ℕ) → most_slots (most_slots (c + most_slots s) + m) ≡ most_slots (c + (s + m))
 sums_stop c s m = omega arith
@@ -44,25 +33,12 @@ pub ends_stop : (e a m : ℕ) → most_end (max (most_end (max e a)) m) ≡ most
 ends_stop e a m = stop_max (max e a) m ∙ ap most_end (max-three e a m)
 
 module _ (most o e : ℕ) where
-  pub further-none : most < 4294967296 → e ≡ 0 → most ≡ most_end (max most (moved_end_of o e))
+  pub further-none : e ≡ 0 → most_end most ≡ most_end (max most (moved_end_of o e))
   unfolding moved_end_of
-  further-none h z = rw z (omega arith)
+  further-none z = rw z (omega arith)
 
-  module _ (z : e ≡ 0 → ⊥) where
-    moved_as : moved_end_of o e ≡ o + e
-    moved_as = moved_end o e (omega (arith, z))
-
-    pub further_end_lem : 4294967296 ≤ e → 4294967296 ≡ most_end (max most (moved_end_of o e))
-    further_end_lem h = rw moved_as (omega arith)
-
-    pub further_past : 4294967296 ≤ o + e → 4294967296 ≡ most_end (max most (moved_end_of o e))
-    further_past h = rw moved_as (omega arith)
-
-    pub further-less : most < 4294967296 → o + e < most → most ≡ most_end (max most (moved_end_of o e))
-    further-less h l = rw moved_as (omega arith)
-
-    pub further-more : o + e < 4294967296 → most ≤ o + e → o + e ≡ most_end (max most (moved_end_of o e))
-    further-more h l = rw moved_as (omega arith)
+  pub further-moved : (e ≡ 0 → ⊥) → most_end (max most (o + most_end e)) ≡ most_end (max most (moved_end_of o e))
+  further-moved z = rw (moved_end o e (omega (arith, z))) (omega arith)
 
 -- ---- the end of the last of n entries
 
@@ -81,49 +57,33 @@ last_entry stride zero n h k = omega arith
 last_entry stride (suc end) zero h k = omega arith
 last_entry stride (suc end) (suc n) h k = ap (λ (j : ℕ). j * stride + suc end) (omega arith)
 
--- so a product of 64 bits holds it
-last-product : (stride n : ℕ) → stride < 4294967296 → n ≤ 4294967296 → (n - 1) * stride ≤ 18446744065119617025
-last-product stride n h i =
-    let a : n - 1 ≤ 4294967295 = omega arith in
-    let b : stride ≤ 4294967295 = omega arith in
-    mul-le-mul a b
-
-pub last_multiplied : (stride n : ℕ) → stride < 4294967296 → n ≤ 4294967296 → (n - 1) * stride < 18446744073709551616
-last_multiplied stride n h i = omega (arith, last-product stride n h i)
-
 module _ (stride end n : ℕ) (e : end ≡ 0 → ⊥) (k : n ≡ 0 → ⊥) where
   last_as : last_end stride end n ≡ (n - 1) * stride + end
   last_as = last_entry stride end n (omega (arith, e)) (omega (arith, k))
 
-  pub last_far : 4294967296 ≤ end → 4294967296 ≡ most_end (last_end stride end n)
-  last_far h = rw last_as (omega arith)
-
-  pub last_fits : stride < 4294967296 → n ≤ 4294967296 → end < 4294967296 → (n - 1) * stride + end < 18446744073709551616
-  last_fits h i j = omega (arith, last-product stride n h i)
-
-  pub last-near : (n - 1) * stride + end < 4294967296 → (n - 1) * stride + end ≡ most_end (last_end stride end n)
-  last-near h = rw last_as (omega arith)
-
-  pub last-past : 4294967296 ≤ (n - 1) * stride + end → 4294967296 ≡ most_end (last_end stride end n)
-  last-past h = rw last_as (omega arith)
+  pub last-is : most_end ((n - 1) * stride + most_end end) ≡ most_end (last_end stride end n)
+  last-is = rw last_as (omega arith)
 
 -- ---- a leaf
 
-pub leaf-slot : (c n x r : ℕ) → c ≡ 7 → n ≡ 8 → x ≡ 0 → record { row = r; unmapped = false; count = 1; end = 8 } ≡ leaf_tally_of c n x r
-unfolding leaf_tally_of is_slot
-leaf-slot c n x r h i j = rw (h, i, j)
+module _ (c n x r : ℕ) where
+  pub leaf-slot : (eqb c 7 && (eqb n 8 && eqb x 0)) ≡ true → record { row = r; unmapped = false; count = 1; end = 8 } ≡ leaf_tally_of c n x r
+  unfolding leaf_tally_of is_slot
+  leaf-slot h = go (eqb c 7) (eqb n 8 && eqb x 0) h
+    where
+      go : (a b : Bool) → (a && b) ≡ true → ◌≡◌ {A = Tally} (record { row = r; unmapped = false; count = 1; end = 8 }) (record { row = r; unmapped = a && not b; count = cond (a && b) 1 0; end = cond (a && b) 8 0 })
+      go true true h = refl
+      go true false h = cc
+      go false b h = cc
 
-pub leaf_other_kind : (c n x r : ℕ) → c ≡ 7 → n ≡ 8 → (x ≡ 0 → ⊥) → record { row = r; unmapped = true; count = 0; end = 0 } ≡ leaf_tally_of c n x r
-unfolding leaf_tally_of is_slot
-leaf_other_kind c n x r h i j = rw (h, i, ne_eqb x 0 j)
-
-pub leaf_other_size : (c n x r : ℕ) → c ≡ 7 → (n ≡ 8 → ⊥) → record { row = r; unmapped = true; count = 0; end = 0 } ≡ leaf_tally_of c n x r
-unfolding leaf_tally_of is_slot
-leaf_other_size c n x r h i = rw (h, ne_eqb n 8 i)
-
-pub leaf-none : (c n x r : ℕ) → (c ≡ 7 → ⊥) → record { row = r; unmapped = false; count = 0; end = 0 } ≡ leaf_tally_of c n x r
-unfolding leaf_tally_of
-leaf-none c n x r h = rw (ne_eqb c 7 h)
+  pub leaf-none : (eqb c 7 && (eqb n 8 && eqb x 0)) ≡ false → record { row = r; unmapped = eqb c 7; count = 0; end = 0 } ≡ leaf_tally_of c n x r
+  unfolding leaf_tally_of is_slot
+  leaf-none h = go (eqb c 7) (eqb n 8 && eqb x 0) h
+    where
+      go : (a b : Bool) → (a && b) ≡ false → ◌≡◌ {A = Tally} (record { row = r; unmapped = a; count = 0; end = 0 }) (record { row = r; unmapped = a && not b; count = cond (a && b) 1 0; end = cond (a && b) 8 0 })
+      go true true h = cc
+      go true false h = refl
+      go false b h = refl
 
 -- ---- by the base's count
 

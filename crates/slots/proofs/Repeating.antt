@@ -206,21 +206,22 @@ module _ (stride count at next : ℕ) (out : List ℕ) where
           let b : stride ≤ 4294967295 = omega arith in
           omega (arith, mul-le-mul a b)
 
-      pub doubling_next : (out'' : List ℕ) → at < next → out'' ≡ moved_on (done * stride) (k - at) k (k + (next - at) * more - k) out' → length out'' ≡ length out'
+      pub doubling_next : (out'' : List ℕ) {wide : ℕ} → at < next → wide ≡ stride → out'' ≡ moved_on (done * wide) (k - at) k (k + (next - at) * more - k) out' → length out'' ≡ length out'
           → Doubling stride count at next out (done + more) (k + (next - at) * more) out''
-      doubling_next out'' there e same =
+      doubling_next out'' there v f same =
+          let e : out'' ≡ moved_on (done * stride) (k - at) k (k + (next - at) * more - k) out' = rw v at f in
           record {
             same = same ∙ inv.same;
             some = omega (arith, inv.some);
             few = omega arith;
             room = inv.room;
             reached = omega (arith, inv.reached, mul-add (next - at) done more);
-            goes = λ base ss out₀ z f a. go base ss out₀ z f a;
+            goes = λ base ss out₀ z f a. go e base ss out₀ z f a;
           }
         where
-          go : (base : ℕ) (ss out₀ : List ℕ) → 0 < count → Fits (shifted base (entries stride ss 0 count)) out₀ at → Listed (shifted base ss) out₀ at next out
+          go : out'' ≡ moved_on (done * stride) (k - at) k (k + (next - at) * more - k) out' → (base : ℕ) (ss out₀ : List ℕ) → 0 < count → Fits (shifted base (entries stride ss 0 count)) out₀ at → Listed (shifted base ss) out₀ at next out
               → Listed (shifted base (entries stride ss 0 (done + more))) out₀ at (k + (next - at) * more) out''
-          go base ss out₀ z f a =
+          go e base ss out₀ z f a =
               let n : next - at ≡ length ss = omega (arith, a.next, length-shifted base ss) in
               let c : count ≡ done + more + (count - (done + more)) = omega arith in
               let q : (next - at) * more ≡ more * length ss = mul_comm (next - at) more ∙ ap (λ (j : ℕ). more * j) n in

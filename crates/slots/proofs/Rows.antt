@@ -2,10 +2,11 @@
 use Rattle.std.proofs.Common.{◌≡◌, ℕ, suc, ◌+◌, ◌-◌, ◌*◌, ◌<◌, ◌≤◌, List, length, sym, refl, ◌∙◌, arith, w64, Fits}
 use Rattle.format.specs.Datatype.{Datatype}
 use Rattle.format.specs.Table.{Found, bad, type_at}
+use Rattle.std.specs.Prelude.{Option, Some}
 use Rattle.rows.specs.Entries.{entry_at, from_entry, RowSays}
 use Rattle.rows.specs.declared.Entry.{Entry}
 use Rattle.rows.specs.declared.Entry.TheVariants.{Array}
-use Rattle.rows.proofs.Known.{claim_of-type, says-array-row, says-array-next}
+use Rattle.rows.proofs.Known.{claim_of-type, says-row, says-next}
 
 -- a path of so many levels leaves others
 level : (depth : ℕ) → depth ≤ 32 → 33 - depth ≡ suc (32 - depth)
@@ -18,15 +19,15 @@ pub below : (depth : ℕ) → 33 - depth - 1 ≡ 32 - depth
 below depth = omega arith
 
 -- a claim that says nothing where no type is found
-pub by_row : (table pool : List ℕ) (depth row : ℕ) {e : Entry} → depth ≤ 32 → RowSays table row e → (C : Found Datatype → Type 0) → C bad → (p : ℕ) {f : Entry} → e ≡ f
+pub by_row : (table pool : List ℕ) (depth row : ℕ) {e : Option Entry} → depth ≤ 32 → RowSays table row e → (C : Found Datatype → Type 0) → C bad → (p : ℕ) {f : Option Entry} → e ≡ f
     → (f ≡ entry_at table pool row p → C (from_entry (type_at (32 - depth) table pool) table pool row p f)) → C (type_at (33 - depth) table pool row p)
 by_row table pool depth row {e = e} h s C n p i v =
     rw (level depth h) (claim_of-type table pool row p C n (32 - depth) e (s.is pool p) (λ q. rw i (v (sym i ∙ q))))
 
 -- a row that says an array lies in the table
-module _ (table : List ℕ) (row : ℕ) {k : ℕ} (s : RowSays table row (Array k)) where
+module _ (table : List ℕ) (row : ℕ) {k : ℕ} (s : RowSays table row (Some (Array k))) where
   pub array-row : row * 16 + 16 ≤ length table
-  array-row = says-array-row table row s refl
+  array-row = says-row table row s refl
 
   pub array-next : length table < 18446744073709551616 → Fits w64 (row + 1)
-  array-next = says-array-next table row s refl
+  array-next = says-next table row s refl

@@ -9,11 +9,11 @@ use Rattle.format.specs.Table.{Found, found, bad, Walk, and_then, type_at, membe
 use Rattle.format.proofs.Booleans.{or_neither}
 use Rattle.format.proofs.Slots.{refers-within, first-zero-size, or_else_none, no_slot_no_reference}
 use Rattle.format.proofs.TableSteps.{then_found}
+use Rattle.std.specs.Prelude.{Option, Some, None}
 use Rattle.rows.specs.Entries.{entry_at, leaf_type, from_entry, from_member, RowSays, RowNames}
 use Rattle.rows.specs.declared.Entry.{Entry}
-use Rattle.rows.specs.declared.Entry.TheVariants.{Leaf, Compound, Enumeration, VariableLength, Array, Unknown}
+use Rattle.rows.specs.declared.Entry.TheVariants.{Leaf, Compound, Enumeration, VariableLength, Array}
 use Rattle.rows.specs.declared.Member.{Member}
-use Rattle.rows.specs.declared.Member.TheVariants.{Named, Unnamed}
 use Rattle.rows.proofs.Known.{claim_of-members}
 use Rattle.rows.proofs.Leaves.{leaf_law}
 use Rattle.table.specs.Known.{PassesTo, PassesType, PassesMembers, PassesNames, TotalAt, SizedTo, SizedAt}
@@ -35,10 +35,10 @@ total-past table pool row rank x t h = record { total = λ p q. let w = t.total 
 
 module _ (table pool : List ℕ) (r p : ℕ) where
   -- what a leaf's row says of its type
-  leaf-told : {k n l x : ℕ} → Leaf k n l x ≡ entry_at table pool r p → (row : ℕ) → CountedAs (found (leaf_type table pool r p k) (suc r) (p + l)) (leaf_tally_of k n x row)
+  leaf-told : {k n l x : ℕ} → Some (Leaf k n l x) ≡ entry_at table pool r p → (row : ℕ) → CountedAs (found (leaf_type table pool r p k) (suc r) (p + l)) (leaf_tally_of k n x row)
   unfolding CountedAs leaf_tally_of holds_other_reference holds_hidden_reference slot_count slot_end_of
   leaf-told {k = k} {n = n} {x = x} q row =
-      let h = leaf_law table pool r p q refl in
+      let h = leaf_law table pool r p q refl refl in
       rw h.is (λ z. rw (h.refers_by, h.refers_by) (one-slot (eqb k 7 && not (is_slot n x)) (eqb k 7 && is_slot n x)))
     where
       one-slot : (u b : Bool) → Counted (u || false) (cond b 1 0) (cond b 8 0) (record { row = row; unmapped = u; count = cond b 1 0; end = cond b 8 0 })
@@ -132,30 +132,30 @@ array-counted ds b stride bad h s i = tt
 
 -- ---- by the row
 
-module _ (table pool : List ℕ) (depth row : ℕ) {e : Entry} (shallow : depth ≤ 32) (s : RowSays table row e) where
-  counts_by : (x : Tally) {f : Entry} → e ≡ f → ((p : ℕ) → f ≡ entry_at table pool row p → CountedAs (from_entry (type_at (32 - depth) table pool) table pool row p f) x) → (p : ℕ)
+module _ (table pool : List ℕ) (depth row : ℕ) {e : Option Entry} (shallow : depth ≤ 32) (s : RowSays table row e) where
+  counts_by : (x : Tally) {f : Option Entry} → e ≡ f → ((p : ℕ) → f ≡ entry_at table pool row p → CountedAs (from_entry (type_at (32 - depth) table pool) table pool row p f) x) → (p : ℕ)
       → CountedAs (type_at (33 - depth) table pool row p) x
   counts_by x i v p = by_row table pool depth row shallow s (λ (y : Found Datatype). CountedAs y x) (unfold CountedAs in tt) p i (v p)
 
   deep : 33 - depth ≡ 0 → ⊥
   deep = above depth shallow
 
-  pub type_unknown : (x : Tally) → e ≡ Unknown → TallyAt (33 - depth) table pool row x
+  pub type_unknown : (x : Tally) → e ≡ None → TallyAt (33 - depth) table pool row x
   type_unknown x i = record { passes = passes_unknown table row (33 - depth) deep s x.row i; counts = counts_by x i (λ p q. unfold from_entry CountedAs in tt) }
 
-  pub type-leaf : {k n l code : ℕ} {x : Tally} → e ≡ Leaf k n l code → x ≡ leaf_tally_of k n code (row + 1) → TallyAt (33 - depth) table pool row x
-  type-leaf i j =
+  pub type-leaf : {k n l code : ℕ} {x : Tally} {f : Entry} → e ≡ Some f → f ≡ Leaf k n l code → x ≡ leaf_tally_of k n code (row + 1) → TallyAt (33 - depth) table pool row x
+  type-leaf i h j =
       rw j (record {
-        passes = unfold leaf_tally_of in passes-leaf table row (33 - depth) deep s i;
-        counts = counts_by _ i (λ p q. unfold from_entry in leaf-told table pool row p q (row + 1));
+        passes = unfold leaf_tally_of in passes-leaf table row (33 - depth) deep s i h;
+        counts = counts_by _ (i ∙ ap Some h) (λ p q. unfold from_entry in leaf-told table pool row p q (row + 1));
       })
 
-  pub type-compound : {n k : ℕ} {x : Tally} → e ≡ Compound n k → TallyIn (32 - depth) table pool (row + 1) k x → TallyAt (33 - depth) table pool row x
+  pub type-compound : {n k : ℕ} {x : Tally} {f : Entry} → e ≡ Some f → f ≡ Compound n k → TallyIn (32 - depth) table pool (row + 1) k x → TallyAt (33 - depth) table pool row x
   unfolding from_entry
-  type-compound {n = n} {x = x} i v =
+  type-compound {n = n} {x = x} i h v =
       record {
-        passes = passes-compound table row (33 - depth) deep s i (rw (below depth) v.passes);
-        counts = counts_by x i (λ p q. go _ (rw (add-one row) at (v.counts p)));
+        passes = passes-compound table row (33 - depth) deep s i h (rw (below depth) v.passes);
+        counts = counts_by x (i ∙ ap Some h) (λ p q. go _ (rw (add-one row) at (v.counts p)));
       }
     where
       go : (y : Found Members) → CountedIn y x → CountedAs (and_then y (λ ms r' p'. found (compound n ms) r' p')) x
@@ -169,25 +169,25 @@ module _ (table pool : List ℕ) (depth row : ℕ) {e : Entry} (shallow : depth 
     base-counts : (p : ℕ) → CountedAs (type_at (32 - depth) table pool (suc row) p) b
     base-counts p = rw (add-one row) at (v.counts p)
 
-    pub type-enumeration : {n k r : ℕ} {x : Tally} → e ≡ Enumeration n k → PassesNames table b.row k r → x ≡ hidden_tally_of r b → TallyAt (33 - depth) table pool row x
-    type-enumeration {n = n} {k = k} {r = r} i w j =
+    pub type-enumeration : {n k r : ℕ} {x : Tally} {f : Entry} → e ≡ Some f → f ≡ Enumeration n k → PassesNames table b.row k r → x ≡ hidden_tally_of r b → TallyAt (33 - depth) table pool row x
+    type-enumeration {n = n} {k = k} {r = r} i h w j =
         rw j (record {
-          passes = unfold hidden_tally_of in passes-enumeration table row (33 - depth) deep s i base-passes w;
-          counts = counts_by _ i (λ p q. unfold from_entry in enumeration-counted table pool r n k b _ (base-counts p));
+          passes = unfold hidden_tally_of in passes-enumeration table row (33 - depth) deep s i h base-passes w;
+          counts = counts_by _ (i ∙ ap Some h) (λ p q. unfold from_entry in enumeration-counted table pool r n k b _ (base-counts p));
         })
 
-    pub type-variable_length : {a c d : ℕ} {x : Tally} → e ≡ VariableLength a c d → x ≡ hidden_tally_of b.row b → TallyAt (33 - depth) table pool row x
-    type-variable_length {a = a} {c = c} {d = d} i j =
+    pub type-variable_length : {a c d : ℕ} {x : Tally} {f : Entry} → e ≡ Some f → f ≡ VariableLength a c d → x ≡ hidden_tally_of b.row b → TallyAt (33 - depth) table pool row x
+    type-variable_length {a = a} {c = c} {d = d} i h j =
         rw j (record {
-          passes = unfold hidden_tally_of in passes-variable_length table row (33 - depth) deep s i base-passes;
-          counts = counts_by _ i (λ p q. unfold from_entry in variable_counted b.row a c d b _ (base-counts p));
+          passes = unfold hidden_tally_of in passes-variable_length table row (33 - depth) deep s i h base-passes;
+          counts = counts_by _ (i ∙ ap Some h) (λ p q. unfold from_entry in variable_counted b.row a c d b _ (base-counts p));
         })
 
-    pub type-array : {k stride n : ℕ} {x : Tally} → e ≡ Array k → SizedAt (32 - depth) table pool (row + 1) stride → TotalAt table pool row k 1 n → x ≡ entries_tally_of stride n b → TallyAt (33 - depth) table pool row x
-    type-array {k = k} i z t j =
+    pub type-array : {k stride n : ℕ} {x : Tally} {f : Entry} → e ≡ Some f → f ≡ Array k → SizedAt (32 - depth) table pool (row + 1) stride → TotalAt table pool row k 1 n → x ≡ entries_tally_of stride n b → TallyAt (33 - depth) table pool row x
+    type-array {k = k} i h z t j =
         rw j (record {
-          passes = unfold entries_tally_of in passes-array table row (33 - depth) deep s i base-passes;
-          counts = counts_by _ i (λ p q. unfold from_entry in array-counted _ b _ _ (base-counts (p + k * 4)) (rw (add-one row) at (z.sized (p + k * 4))) (t.total p q));
+          passes = unfold entries_tally_of in passes-array table row (33 - depth) deep s i h base-passes;
+          counts = counts_by _ (i ∙ ap Some h) (λ p q. unfold from_entry in array-counted _ b _ _ (base-counts (p + k * 4)) (rw (add-one row) at (z.sized (p + k * 4))) (t.total p q));
         })
 
 -- ---- a level further down
@@ -197,11 +197,11 @@ inner-none table pool depth row x h =
     let j : 32 - depth ≡ 0 = omega arith in
     record { passes = passes_none table row (32 - depth) x.row j; counts = λ p. rw j (unfold type_at CountedAs in tt) }
 
-pub inner-leaf : (table pool : List ℕ) (depth row : ℕ) {e : Entry} {k n l code : ℕ} {x : Tally} → depth ≤ 32 → (depth ≡ 32 → ⊥) → RowSays table row e → e ≡ Leaf k n l code → x ≡ leaf_tally_of k n code (row + 1)
+pub inner-leaf : (table pool : List ℕ) (depth row : ℕ) {e : Option Entry} {f : Entry} {k n l code : ℕ} {x : Tally} → depth ≤ 32 → (depth ≡ 32 → ⊥) → RowSays table row e → e ≡ Some f → f ≡ Leaf k n l code → x ≡ leaf_tally_of k n code (row + 1)
     → TallyAt (32 - depth) table pool row x
-inner-leaf table pool depth row h d s i j =
+inner-leaf table pool depth row h d s i g j =
     let c : 33 - (depth + 1) ≡ 32 - depth = omega arith in
-    rw c at (type-leaf table pool (depth + 1) row (omega (arith, d)) s i j)
+    rw c at (type-leaf table pool (depth + 1) row (omega (arith, d)) s i g j)
 
 pub inner_type : (table pool : List ℕ) (path inner : Path) (row : ℕ) (x : Tally) → Entered path row inner → TallyAt (33 - inner.depth) table pool (top_of inner) x → TallyAt (32 - path.depth) table pool row x
 inner_type table pool path inner row x e v =
@@ -275,29 +275,29 @@ module _ (table pool : List ℕ) (levels row count r left : ℕ) (u : Bool) (c e
         counts = λ p. rw k (λ z. record { unmapped-is = sym (or-false u); count-is = omega (arith, inv.few); end_is = omega (arith, inv.near) });
       })
 
-  module _ {m : Member} (some_left : 0 < left) (s : RowNames table r m) where
-    counts-from : (x : Tally) {f : Member} → m ≡ f → (p : ℕ) → CountedOn u c e (from_member (type_at levels table pool) (members_at (type_at levels table pool) table pool (left - 1)) pool r p f) x
+  module _ {m : Option Member} (some_left : 0 < left) (s : RowNames table r m) where
+    counts-from : (x : Tally) {f : Option Member} → m ≡ f → (p : ℕ) → CountedOn u c e (from_member (type_at levels table pool) (members_at (type_at levels table pool) table pool (left - 1)) pool r p f) x
         → CountedOn u c e (members_at (type_at levels table pool) table pool left r p) x
     counts-from x h p v =
         let j : left ≡ suc (left - 1) = omega arith in
         rw j (claim_of-members table pool r p (λ (w : Found Members). CountedOn u c e w x) (unfold CountedOn in tt) (type_at levels table pool) (left - 1) m (s.is pool p) (λ q. rw h v))
 
-    pub members_unnamed : (x : Tally) → m ≡ Unnamed → TallyIn levels table pool row count x
+    pub members_unnamed : (x : Tally) → m ≡ None → TallyIn levels table pool row count x
     members_unnamed x h =
         inv.goes x (record {
           passes = passes_unnamed levels table r left r left (passes-start levels table r left) some_left s x.row h;
           counts = λ p. counts-from x h p (unfold from_member CountedOn in tt);
         })
 
-    pub members-next : {offset n : ℕ} {b : Tally} {u' : Bool} {c' e' : ℕ} → m ≡ Named offset n → TallyAt levels table pool (r + 1) b → u' ≡ (u || b.unmapped) → c' ≡ most_slots (c + b.count) → e' ≡ most_end (max e (moved_end_of offset b.end))
-        → Counts levels table pool row count b.row (left - 1) u' c' e'
-    members-next {offset = offset} {n = n} {b = b} h v hu hc he =
-        record {
+    pub members-next : {f : Member} {b : Tally} {c' e' rest : ℕ} → m ≡ Some f → TallyAt levels table pool (r + 1) b → c' ≡ most_slots (c + b.count) → e' ≡ most_end (max e (moved_end_of f.number b.end)) → rest ≡ left - 1
+        → Counts levels table pool row count b.row rest (u || b.unmapped) c' e'
+    members-next {f = f} {b = b} h v hc he hr =
+        rw hr (record {
           few = omega (arith, hc);
           near = omega (arith, he);
           goes = λ x w.
               inv.goes x (record {
-                passes = (passes-next levels table r left r left (passes-start levels table r left) some_left s h v.passes).on x.row w.passes;
-                counts = λ p. counts-from x h p (unfold from_member in counted_next u c e offset b hu hc he _ (members_at (type_at levels table pool) table pool (left - 1)) x _ (rw (add-one r) at (v.counts (p + n))) (rw (add-one r) at (v.passes.passes pool (p + n))) (λ p₁. w.counts p₁));
+                passes = (passes-next levels table r left r left (passes-start levels table r left) some_left s h v.passes refl).on x.row w.passes;
+                counts = λ p. counts-from x h p (unfold from_member in counted_next u c e f.number b refl hc he _ (members_at (type_at levels table pool) table pool (left - 1)) x _ (rw (add-one r) at (v.counts (p + f.name))) (rw (add-one r) at (v.passes.passes pool (p + f.name))) (λ p₁. w.counts p₁));
               });
-        }
+        })

@@ -1,18 +1,16 @@
 -- What the walks of slots answer of a type that is found; and what `embedded_reference_slots` promises.
-use Rattle.std.specs.Prelude.{◌≡◌, ℕ, zero, suc, ◌+◌, ◌-◌, ◌*◌, ◌%◌, ◌^◌, ◌<◌, ◌≤◌, min, Bool, false, cond, not, ◌&&◌, ◌||◌, List, [], ◌∷◌, length, ◌==◌, ◌≢◌, nat_lt, slice_index, slice_set}
+use Rattle.std.specs.Prelude.{◌≡◌, ℕ, zero, suc, ◌+◌, ◌-◌, ◌*◌, ◌%◌, ◌^◌, ◌<◌, ◌≤◌, min, Bool, false, cond, not, ◌&&◌, ◌||◌, List, [], ◌∷◌, length, ◌==◌, ◌≢◌, nat_lt, slice_index, slice_set, Result}
 use Rattle.std.proofs.Math.Option.{none}
 use Rattle.std.proofs.lemmas.List.Edits.{sets}
-use Rattle.refusal.specs.Refusal.{number_of, values_of}
+use Rattle.refusal.specs.declared.Refusal.{Refusal}
 use Rattle.format.specs.Datatype.{Datatype, Members}
-use Rattle.format.specs.Outcome.{Outcome, gives, refuses, output_after, outcome_number, outcome_values}
+use Rattle.format.specs.Outcome.{output_after, Answers}
 use Rattle.format.specs.Slots.{is_slot, shifted, entries, slots, member_slots, last_end, slot_count, member_slot_count, slot_end_of, member_slot_end, holds_other_reference, member_holds_other_reference, holds_hidden_reference, member_holds_hidden_reference, first_zero, member_first_zero, finding_slots}
 use Rattle.format.specs.Table.{Found, found, bad, type_at, members_at}
 use Rattle.slots.specs.declared.Tally.{Tally}
 use Rattle.slots.specs.declared.Put.{Put}
 use Rattle.table.specs.declared.Path.{Path}
 use Rattle.table.specs.Known.{PassesType, PassesMembers}
-use Rattle.slots.specs.declared.Slots.{Slots}
-use Rattle.slots.specs.declared.Slots.TheVariants.{Found as SlotsFound, Refused}
 
 abbrev pub most_slots : ℕ → ℕ
 most_slots n = min n 1073741824
@@ -131,22 +129,10 @@ pub record Repeats (stride count at next : ℕ) (out : List ℕ) (x : ℕ) (out'
   pub repeats : (base : ℕ) (ss out₀ : List ℕ) → 0 < count → Fits (shifted base (entries stride ss 0 count)) out₀ at → Listed (shifted base ss) out₀ at next out
       → Listed (shifted base (entries stride ss 0 count)) out₀ at x out'
 
--- Document 01's number and values: 0 and the count, or the refusal's
-unfoldable pub slots_number : Slots → ℕ
-slots_number (SlotsFound n) = 0
-slots_number (Refused e) = number_of e
+-- the values of an answer: the count
+unfoldable pub slots_values : ℕ → List ℕ
+slots_values n = n ∷ []
 
-unfoldable pub slots_values : Slots → List ℕ
-slots_values (SlotsFound n) = n ∷ []
-slots_values (Refused e) = values_of e
-
--- the answer that the definition's is
-unfoldable pub answer_of : Outcome (List ℕ) → Slots
-answer_of (gives s) = SlotsFound (length s)
-answer_of (refuses e) = Refused e
-
-pub record SlotsAre (table pool : List ℕ) (r : Slots) (out out' : List ℕ) : Type 0 where
-  pub answer : r ≡ answer_of (finding_slots table pool (length out))
-  pub number : slots_number r ≡ outcome_number (finding_slots table pool (length out))
-  pub values : slots_values r ≡ outcome_values (λ s. length s ∷ []) (finding_slots table pool (length out))
+pub record SlotsAre (table pool : List ℕ) (r : Result ℕ Refusal) (out out' : List ℕ) : Type 0 where
+  pub answers : Answers length slots_values (finding_slots table pool (length out)) r
   pub out-is : out' ≡ output_after out (finding_slots table pool (length out))

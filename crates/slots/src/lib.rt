@@ -11,12 +11,9 @@ ghost use Rattle.table.specs.Survey.{Sets};
 ghost use Rattle.slots.specs.Slots.{most_slots, most_end, leaf_tally_of, hidden_tally_of, entries_tally_of, TallyAt, TallyIn, Standing, Passed, PutLeaf, moved_on, Repeats, PutAt, PutInside, SlotsAre};
 
 use refusal::Refusal;
-use rows::{Entry, Member, row_entry, row_member};
+use rows::{Entry, row_entry, row_member};
 use std::num::wrapping_add_u64;
-use table::{
-    Checked, Path, Survey, array_total, behind_enum_members, check, either, enter, next_row,
-    size_at,
-};
+use table::{Path, Survey, array_total, behind_enum_members, check, enter, next_row, size_at};
 
 // What a first walk finds, before anything is listed: the row behind the type, whether the type holds a reference that is no slot's, the number
 // of slots and the greatest slot + 8; the last two stop at 1,073,741,824 and 4,294,967,296, past all that a type of 32-bit size can have.
@@ -35,28 +32,11 @@ pub struct Put {
     pub next: usize,
 }
 
-// The answer: how many slots, or why none.
-#[derive(Clone, Copy)]
-pub enum Slots {
-    Found(u64),
-    Refused(Refusal),
-}
-
 // The sum of two numbers of slots.
 fn sum_slots(a: u64, b: u64) -> u64
     ensures { result ≡ most_slots (a + b) }
 {
-    if a >= 1073741824 {
-        return 1073741824;
-    }
-    if b >= 1073741824 {
-        return 1073741824;
-    }
-    if a + b < 1073741824 {
-        a + b
-    } else {
-        1073741824
-    }
+    (a.min(1073741824) + b.min(1073741824)).min(1073741824)
 }
 
 // The slots of n entries.
@@ -64,34 +44,18 @@ fn times_slots(n: u64, count: u64) -> u64
     requires { n ≤ 4294967296 }
     ensures { result ≡ most_slots (n * count) }
 {
-    if n == 0 {
-        return 0;
-    }
-    if count >= 1073741824 {
-        return 1073741824;
-    }
-    let all = n * count;
-    if all < 1073741824 { all } else { 1073741824 }
+    (n * count.min(1073741824)).min(1073741824)
 }
 
 // The greater of an end and a member's, which is moved by the member's offset.
 fn further_end(most: u64, offset: u32, end: u64) -> u64
     ensures { result ≡ most_end (max most (moved_end_of offset end)) }
 {
-    if most >= 4294967296 {
-        return 4294967296;
-    }
     if end == 0 {
-        return most;
+        return most.min(4294967296);
     }
-    if end >= 4294967296 {
-        return 4294967296;
-    }
-    let moved = (offset as u64) + end;
-    if moved >= 4294967296 {
-        return 4294967296;
-    }
-    if moved < most { most } else { moved }
+    let moved = u64::from(offset) + end.min(4294967296);
+    most.max(moved).min(4294967296)
 }
 
 // The end of the last of n entries.
@@ -99,17 +63,11 @@ fn last_end(stride: u32, end: u64, n: u64) -> u64
     requires { n ≤ 4294967296 }
     ensures { result ≡ most_end (last_end stride end n) }
 {
-    if end == 0 {
+    if end == 0 || n == 0 {
         return 0;
     }
-    if n == 0 {
-        return 0;
-    }
-    if end >= 4294967296 {
-        return 4294967296;
-    }
-    let last = (n - 1) * (stride as u64) + end;
-    if last < 4294967296 { last } else { 4294967296 }
+    let last = (n - 1) * u64::from(stride) + end.min(4294967296);
+    last.min(4294967296)
 }
 
 // A leaf, the row behind it given: an 8-byte object reference is a slot, every other reference no slot's. One of class 0 counts nothing, and
@@ -117,27 +75,18 @@ fn last_end(stride: u32, end: u64, n: u64) -> u64
 fn leaf_tally(class: u32, size: u32, code: u32, row: usize) -> Tally
     ensures { result ≡ leaf_tally_of class size code row }
 {
-    if class == 7 {
-        if size == 8 {
-            if code == 0 {
-                return Tally {
-                    row: row,
-                    unmapped: false,
-                    count: 1,
-                    end: 8,
-                };
-            }
-        }
+    let reference = class == 7;
+    if reference & ((size == 8) & (code == 0)) {
         return Tally {
-            row: row,
-            unmapped: true,
-            count: 0,
-            end: 0,
+            row,
+            unmapped: false,
+            count: 1,
+            end: 8,
         };
     }
     Tally {
-        row: row,
-        unmapped: false,
+        row,
+        unmapped: reference,
         count: 0,
         end: 0,
     }
@@ -147,12 +96,13 @@ fn leaf_tally(class: u32, size: u32, code: u32, row: usize) -> Tally
 fn hidden_tally(row: usize, base: Tally) -> Tally
     ensures { result ≡ hidden_tally_of row base }
 {
-    let none: u64 = 0;
+    // What is below is not listed.
+    let count = 0;
     Tally {
-        row: row,
-        unmapped: either(base.unmapped, none < base.count),
-        count: none,
-        end: none,
+        row,
+        unmapped: base.unmapped | (0 < base.count),
+        count,
+        end: 0,
     }
 }
 
@@ -190,9 +140,10 @@ fn tally_type(table: &[u32], pool: &[u8], path: Path) -> Tally
     // In a local of its own: read out of the path, the array is compiled to one copy more.
     let rows = path.rows;
     let row = rows[depth - 1];
-    let entry = row_entry(table, row);
+    let Some(entry) = row_entry(table, row) else {
+        return leaf_tally(0, 0, 0, row);
+    };
     match entry {
-        Entry::Unknown => leaf_tally(0, 0, 0, row),
         Entry::Leaf(class, size, _, code) => leaf_tally(class, size, code, row + 1),
         Entry::Compound(_, count) => tally_members(table, pool, path, row + 1, count),
         Entry::Enumeration(_, count) => {
@@ -221,9 +172,8 @@ fn tally_inner(table: &[u32], pool: &[u8], path: Path, row: usize) -> Tally
     if path.depth == 32 {
         return leaf_tally(0, 0, 0, row);
     }
-    let entry = row_entry(table, row);
-    match entry {
-        Entry::Leaf(class, size, _, code) => leaf_tally(class, size, code, row + 1),
+    match row_entry(table, row) {
+        Some(Entry::Leaf(class, size, _, code)) => leaf_tally(class, size, code, row + 1),
         _ => tally_type(table, pool, enter(path, row)),
     }
 }
@@ -235,25 +185,22 @@ fn tally_members(table: &[u32], pool: &[u8], path: Path, row: usize, count: u32)
     ensures { TallyIn (32 - path.depth) table.now pool.now row count result }
 {
     let mut r = row;
-    let mut left = count;
     let mut unmapped = false;
     let mut slots: u64 = 0;
     let mut end: u64 = 0;
-    while left > 0 {
-        let member = row_member(table, r);
-        let Member::Named(offset, _) = member else {
+    for _ in 0..count {
+        let Some(member) = row_member(table, r) else {
             return leaf_tally(0, 0, 0, r);
         };
         let t = tally_inner(table, pool, path, r + 1);
         r = t.row;
-        unmapped = either(unmapped, t.unmapped);
+        unmapped |= t.unmapped;
         slots = sum_slots(slots, t.count);
-        end = further_end(end, offset, t.end);
-        left -= 1;
+        end = further_end(end, member.number, t.end);
     }
     Tally {
         row: r,
-        unmapped: unmapped,
+        unmapped,
         count: slots,
         end: end,
     }
@@ -263,9 +210,8 @@ fn tally_members(table: &[u32], pool: &[u8], path: Path, row: usize, count: u32)
 fn pass(table: &[u32], row: usize, levels: usize, at: usize) -> Put
     ensures { Passed levels table.now row at result }
 {
-    let behind = next_row(table, row, levels);
     Put {
-        row: behind,
+        row: next_row(table, row, levels),
         next: at,
     }
 }
@@ -274,23 +220,11 @@ fn pass(table: &[u32], row: usize, levels: usize, at: usize) -> Put
 fn put_leaf(row: usize, class: u32, base: u64, out: &mut [u64], at: usize) -> Put
     ensures { PutLeaf row class base out.old at result out.new }
 {
-    if class != 7 {
-        return Put { row: row, next: at };
-    }
-    if out.len() <= at {
-        return Put { row: row, next: at };
+    if class != 7 || out.len() <= at {
+        return Put { row, next: at };
     }
     out[at] = base;
-    Put {
-        row: row,
-        next: at + 1,
-    }
-}
-
-fn lesser(a: u64, b: u64) -> u64
-    ensures { result ≡ min a b }
-{
-    if a < b { a } else { b }
+    Put { row, next: at + 1 }
 }
 
 // Each number from `from` up to `to` becomes `by` more than the one `back` places before it.
@@ -298,16 +232,14 @@ fn move_on(out: &mut [u64], from: usize, to: usize, back: usize, by: u64)
     requires { (back ≤ from) × (to ≤ length out.old) }
     ensures { out.new ≡ moved_on by back from (to - from) out.old }
 {
-    let mut k = from;
-    while k < to {
+    for k in from..to {
         out[k] = wrapping_add_u64(out[k - back], by);
-        k += 1;
     }
 }
 
 // Lists the slots of all entries of an array, a stride apart, whose first entry's stand from `at` up to `next`; the answer is where the next
 // slot would go. Each turn moves all that is listed so far, or as much of it as is left: `move_on` then reads nothing that it writes, and is
-// compiled to steps of several numbers.
+// compiled to steps of several numbers. A `while`, since its steps differ.
 fn repeat_slots(out: &mut [u64], at: usize, next: usize, stride: u32, count: u64) -> usize
     requires { count ≤ 4294967296 }
     ensures { Repeats stride count at next out.old result out.new }
@@ -325,9 +257,9 @@ fn repeat_slots(out: &mut [u64], at: usize, next: usize, stride: u32, count: u64
     let mut done: u64 = 1;
     let mut k = next;
     while done < count {
-        let more = lesser(done, count - done);
+        let more = done.min(count - done);
         let end = k + n * (more as usize);
-        move_on(out, k, end, k - at, done * (stride as u64));
+        move_on(out, k, end, k - at, done * u64::from(stride));
         k = end;
         done += more;
     }
@@ -345,9 +277,10 @@ fn put_type(table: &[u32], pool: &[u8], path: Path, base: u64, out: &mut [u64], 
     // In a local of its own, as above.
     let rows = path.rows;
     let row = rows[depth - 1];
-    let entry = row_entry(table, row);
+    let Some(entry) = row_entry(table, row) else {
+        return pass(table, row, 33 - depth, at);
+    };
     match entry {
-        Entry::Unknown => pass(table, row, 33 - depth, at),
         Entry::Enumeration(_, _) => pass(table, row, 33 - depth, at),
         Entry::VariableLength(_, _, _) => pass(table, row, 33 - depth, at),
         Entry::Leaf(class, _, _, _) => put_leaf(row + 1, class, base, out, at),
@@ -368,7 +301,7 @@ fn put_array(
     out: &mut [u64],
     at: usize,
 ) -> Put
-    requires { Standing path base × RowSays table.now row (Array rank) }
+    requires { Standing path base × RowSays table.now row (Some (Array rank)) }
     ensures { PutAt (33 - path.depth) table.now pool.now row base out.old at result out.new }
 {
     let depth = path.depth;
@@ -378,7 +311,7 @@ fn put_array(
     let next = repeat_slots(out, at, first.next, stride, count);
     Put {
         row: first.row,
-        next: next,
+        next,
     }
 }
 
@@ -398,19 +331,17 @@ fn put_members(
     ensures { PutInside (32 - path.depth) table.now pool.now row count base out.old at result out.new }
 {
     let mut r = row;
-    let mut left = count;
     let mut next = at;
-    while left > 0 {
-        let member = row_member(table, r);
-        let Member::Named(offset, _) = member else {
-            return Put { row: r, next: next };
+    for _ in 0..count {
+        let Some(member) = row_member(table, r) else {
+            return Put { row: r, next };
         };
-        let put = put_inner(table, pool, path, r + 1, base + offset as u64, out, next);
+        let begins = base + u64::from(member.number);
+        let put = put_inner(table, pool, path, r + 1, begins, out, next);
         r = put.row;
         next = put.next;
-        left -= 1;
     }
-    Put { row: r, next: next }
+    Put { row: r, next }
 }
 
 // The same of a type at a row one level below the path, which begins at `base` in the record. One that begins past all 32-bit places lists
@@ -435,53 +366,43 @@ fn put_inner(
     if depth == 32 {
         return pass(table, row, 0, at);
     }
-    let entry = row_entry(table, row);
-    match entry {
-        Entry::Leaf(class, _, _, _) => put_leaf(row + 1, class, base, out, at),
+    match row_entry(table, row) {
+        Some(Entry::Leaf(class, _, _, _)) => put_leaf(row + 1, class, base, out, at),
         _ => put_type(table, pool, enter(path, row), base, out, at),
     }
 }
 
 // Of a type that the check has surveyed.
-fn slots_checked(table: &[u32], pool: &[u8], out: &mut [u64], s: Survey) -> Slots
+fn slots_checked(table: &[u32], pool: &[u8], out: &mut [u64], s: Survey) -> Result<u64, Refusal>
     requires { Sets table.now pool.now s }
     ensures { SlotsAre table.now pool.now result out.old out.new }
 {
-    if s.zero != 0 {
-        return Slots::Refused(Refusal::ZeroSize((s.zero - 1) as u8));
+    if let Some(class) = s.zero {
+        return Err(Refusal::ZeroSize(class));
     }
     let path = Path {
         rows: [0; 32],
         depth: 1,
     };
     let t = tally_type(table, pool, path);
-    if t.unmapped {
-        return Slots::Refused(Refusal::Unmapped);
-    }
-    let size = s.size as u64;
-    if size / 8 < t.count {
-        return Slots::Refused(Refusal::Unmapped);
-    }
-    if size < t.end {
-        return Slots::Refused(Refusal::Unmapped);
+    let size = u64::from(s.size);
+    if t.unmapped || size / 8 < t.count || size < t.end {
+        return Err(Refusal::Unmapped);
     }
     let count = t.count;
     if (out.len() as u64) < count {
-        return Slots::Refused(Refusal::NoRoom(count));
+        return Err(Refusal::NoRoom(count));
     }
     put_type(table, pool, path, 0, out, 0);
-    Slots::Found(count)
+    Ok(count)
 }
 
 // The slots of the type that a table and pool set out, in walking order, into the front of `out`; a refusal leaves it as it is. Refused, in
 // this order: BadTable, ZeroSize, Unmapped, NoRoom. Cost: the check of the table; a count that steps over each row but for an enumeration's
 // members; and the listing, which steps over the same rows once and then costs one store a slot, however many entries an array has.
-pub fn embedded_reference_slots(table: &[u32], pool: &[u8], out: &mut [u64]) -> Slots
+pub fn embedded_reference_slots(table: &[u32], pool: &[u8], out: &mut [u64]) -> Result<u64, Refusal>
     ensures { SlotsAre table.now pool.now result out.old out.new }
 {
-    let checked = check(table, pool);
-    match checked {
-        Checked::Bad => Slots::Refused(Refusal::BadTable),
-        Checked::Good(s) => slots_checked(table, pool, out, s),
-    }
+    let s = check(table, pool).ok_or(Refusal::BadTable)?;
+    slots_checked(table, pool, out, s)
 }

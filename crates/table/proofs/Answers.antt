@@ -1,28 +1,26 @@
 -- The answers of the calls that only ask for the check's survey.
 use Prim.Native.Nat.{ℕ, suc, ◌-◌, ◌<◌, ◌≤◌}
 use mathlib.Core.Path.{◌≡◌, refl, sym, ap, ◌∙◌}
-use mathlib.Core.Bool.{Bool, true, false}
+use mathlib.Core.Bool.{Bool}
 use mathlib.Core.List.{List}
 use native.Mathlib.Omega.{arith}
 use lib.ListN.{length, get_or, get_or-append}
 use borrow.Author.Tests.{lt-ltb}
+use Rattle.std.specs.Prelude.{Option, Some, None, Result, Ok, Err}
+use Rattle.std.specs.Option.{ok_or}
+use Rattle.refusal.specs.declared.Refusal.{Refusal}
 use Rattle.refusal.specs.declared.Refusal.TheVariants.{BadTable, ZeroSize}
 use Rattle.format.specs.Bytes.{padded}
 use Rattle.format.specs.Datatype.{Datatype, leaf, compound, enumeration, variable_length, array, row_count, type_size_of, class_number}
-use Rattle.format.specs.Outcome.{Outcome, gives, refuses, when_given, unless, outcome_number, outcome_values}
+use Rattle.format.specs.Outcome.{refuses, when_given, unless}
+use Rattle.format.proofs.Outcomes.{answers-given, answers-refused}
 use Rattle.format.specs.Sizes.{sizing, element_sizing, object_address_held, file_address_held, holds_object_address, holds_file_address}
-use Rattle.format.specs.Table.{row, leaf_row, compound_row, enumeration_row, variable_length_row, array_row, rows, found}
+use Rattle.format.specs.Table.{row, leaf_row, compound_row, enumeration_row, variable_length_row, array_row, rows, found, type_of}
 use Rattle.format.proofs.Bytes.{all-bytes}
 use Rattle.format.proofs.Rows.{leaf_class-low, length-rows}
 use Rattle.format.proofs.Table.{type_of_sound}
-use Rattle.table.specs.Survey.{Checks, sized_number, sized_values, sized_of, SizedAs, held_number, held_values, held_of, yes_or_no, HeldAs}
+use Rattle.table.specs.Survey.{Checks, SizedAs, HeldAs}
 use Rattle.table.specs.declared.Survey.{Survey}
-use Rattle.table.specs.declared.Checked.{Checked}
-use Rattle.table.specs.declared.Checked.TheVariants.{Good, Bad}
-use Rattle.table.specs.declared.Sized.{Sized}
-use Rattle.table.specs.declared.Sized.TheVariants.{Size, Refused as SizedRefused}
-use Rattle.table.specs.declared.Held.{Held}
-use Rattle.table.specs.declared.Held.TheVariants.{Yes, No, Refused as HeldRefused}
 use Rattle.table.proofs.Surveys.{Says, Told, told}
 
 -- the first word of a type's rows is its class + 1
@@ -50,74 +48,76 @@ rows-some (enumeration n t ms) = omega arith
 rows-some (variable_length i a k t) = omega arith
 rows-some (array ds t) = omega arith
 
--- an answer that is the definition's has its number and values
-sized_as : (o : Outcome ℕ) {r : Sized} → r ≡ sized_of o → SizedAs o r
-unfolding sized_of sized_number sized_values outcome_number outcome_values
-sized_as (gives n) e = record { answer = e; number = ap sized_number e; values = ap sized_values e }
-sized_as (refuses x) e = record { answer = e; number = ap sized_number e; values = ap sized_values e }
+-- `check(..).ok_or(BadTable)`: a survey, or no type is set out
+module _ {A : Type 0} {r : Option A} {o : Result A Refusal} (w : o ≡ ok_or r BadTable) where
+  pub ok-some : {s : A} → o ≡ Ok s → r ≡ Some s
+  ok-some {s = s} i = go r (sym w ∙ i)
+    where
+      go : (r : Option A) → ok_or r BadTable ≡ Ok s → r ≡ Some s
+      go (Some x) e = let f : x ≡ s = cc in rw f
+      go None e = cc
 
-held_as : (o : Outcome Bool) {r : Held} → r ≡ held_of o → HeldAs o r
-unfolding held_of held_number held_values outcome_number outcome_values yes_or_no
-held_as (gives true) e = record { answer = e; number = ap held_number e; values = ap held_values e }
-held_as (gives false) e = record { answer = e; number = ap held_number e; values = ap held_values e }
-held_as (refuses x) e = record { answer = e; number = ap held_number e; values = ap held_values e }
+  pub err-none : {e : Refusal} → o ≡ Err e → (r ≡ None) × (e ≡ BadTable)
+  err-none {e = e} i = go r (sym w ∙ i)
+    where
+      go : (r : Option A) → ok_or r BadTable ≡ Err e → (r ≡ None) × (e ≡ BadTable)
+      go (Some x) f = cc
+      go None f = (refl, cc)
 
-module _ (table pool : List ℕ) {r : Checked} (h : Checks table pool r) where
-  says : {s : Survey} (g : r ≡ Good s) → Says s (h.good s g).type s.row s.place
+module _ (table pool : List ℕ) {r : Option Survey} (h : Checks table pool r) where
+  says : {s : Survey} (g : r ≡ Some s) → Says s (h.good s g).type s.row s.place
   unfolding Told
   says {s = s} g = told (found (h.good s g).type s.row s.place) s refl (h.good s g).says
 
-  pub size-bad : r ≡ Bad → SizedAs (sizing table pool) (SizedRefused BadTable)
-  unfolding sizing sized_of when_given
-  size-bad e = sized_as _ (rw (h.bad-table e))
+  size-is : {s : Survey} (g : r ≡ Some s) → type_size_of (h.good s g).type ≡ s.size
+  size-is g = sym (ap (λ (v : Survey). v.size) (says g).is)
 
-  pub size-good : {s : Survey} → r ≡ Good s → SizedAs (sizing table pool) (Size s.size)
-  unfolding sizing sized_of when_given
-  size-good {s = s} g =
-      let f : s.size ≡ type_size_of (h.good s g).type = ap (λ (v : Survey). v.size) (says g).is in
-      sized_as _ (rw ((h.good s g).is, ← f))
+  -- what is refused for a bad table
+  module _ {o : Result Survey Refusal} (w : o ≡ ok_or r BadTable) {e : Refusal} (i : o ≡ Err e) where
+    pub bad-table : type_of table pool ≡ refuses BadTable
+    bad-table = h.bad-table (err-none w i).0
 
-  pub object_bad : r ≡ Bad → HeldAs (object_address_held table pool) (HeldRefused BadTable)
-  unfolding object_address_held held_of when_given
-  object_bad e = held_as _ (rw (h.bad-table e))
+    pub bad-answer : {A : Type 0} {a : Result A Refusal} {y : Refusal} → a ≡ Err y → y ≡ e → a ≡ Err BadTable
+    bad-answer d f = d ∙ rw (f, (err-none w i).1)
 
-  pub object_yes : {s : Survey} → r ≡ Good s → s.object ≡ true → HeldAs (object_address_held table pool) Yes
-  unfolding object_address_held held_of when_given
-  object_yes {s = s} g e =
-      let f : holds_object_address (h.good s g).type ≡ true = sym (ap (λ (v : Survey). v.object) (says g).is) ∙ e in
-      held_as _ (rw ((h.good s g).is, f))
+    module _ {a : Result ℕ Refusal} {y : Refusal} (d : a ≡ Err y) (f : y ≡ e) where
+      pub size-bad : SizedAs (sizing table pool) a
+      unfolding sizing when_given
+      size-bad = answers-refused _ _ _ BadTable _ (rw bad-table) (bad-answer d f)
 
-  pub object_no : {s : Survey} → r ≡ Good s → s.object ≡ false → HeldAs (object_address_held table pool) No
-  unfolding object_address_held held_of when_given
-  object_no {s = s} g e =
-      let f : holds_object_address (h.good s g).type ≡ false = sym (ap (λ (v : Survey). v.object) (says g).is) ∙ e in
-      held_as _ (rw ((h.good s g).is, f))
+      pub element_bad : SizedAs (element_sizing table pool) a
+      unfolding element_sizing when_given
+      element_bad = answers-refused _ _ _ BadTable _ (rw bad-table) (bad-answer d f)
 
-  pub file_bad : r ≡ Bad → HeldAs (file_address_held table pool) (HeldRefused BadTable)
-  unfolding file_address_held held_of when_given
-  file_bad e = held_as _ (rw (h.bad-table e))
+    module _ {a : Result Bool Refusal} {y : Refusal} (d : a ≡ Err y) (f : y ≡ e) where
+      pub object_bad : HeldAs (object_address_held table pool) a
+      unfolding object_address_held when_given
+      object_bad = answers-refused _ _ _ BadTable _ (rw bad-table) (bad-answer d f)
 
-  pub file_yes : {s : Survey} → r ≡ Good s → s.file ≡ true → HeldAs (file_address_held table pool) Yes
-  unfolding file_address_held held_of when_given
-  file_yes {s = s} g e =
-      let f : holds_file_address (h.good s g).type ≡ true = sym (ap (λ (v : Survey). v.file) (says g).is) ∙ e in
-      held_as _ (rw ((h.good s g).is, f))
+      pub file_bad : HeldAs (file_address_held table pool) a
+      unfolding file_address_held when_given
+      file_bad = answers-refused _ _ _ BadTable _ (rw bad-table) (bad-answer d f)
 
-  pub file_no : {s : Survey} → r ≡ Good s → s.file ≡ false → HeldAs (file_address_held table pool) No
-  unfolding file_address_held held_of when_given
-  file_no {s = s} g e =
-      let f : holds_file_address (h.good s g).type ≡ false = sym (ap (λ (v : Survey). v.file) (says g).is) ∙ e in
-      held_as _ (rw ((h.good s g).is, f))
+  module _ {s : Survey} (g : r ≡ Some s) where
+    pub size-good : SizedAs (sizing table pool) (Ok s.size)
+    unfolding sizing when_given
+    size-good = answers-given _ _ _ s.size _ (rw ((h.good s g).is, size-is g)) refl
 
-  pub element_bad : r ≡ Bad → SizedAs (element_sizing table pool) (SizedRefused BadTable)
-  unfolding element_sizing sized_of when_given
-  element_bad e = sized_as _ (rw (h.bad-table e))
+    pub object_good : HeldAs (object_address_held table pool) (Ok s.object)
+    unfolding object_address_held when_given
+    object_good =
+        let f : holds_object_address (h.good s g).type ≡ s.object = sym (ap (λ (v : Survey). v.object) (says g).is) in
+        answers-given _ _ _ s.object _ (rw ((h.good s g).is, f)) refl
 
-  pub element_good : {s : Survey} → r ≡ Good s → (s.size ≡ 0 → ⊥) → SizedAs (element_sizing table pool) (Size s.size)
-  unfolding element_sizing sized_of when_given unless
-  element_good {s = s} g e =
-      let f : s.size ≡ type_size_of (h.good s g).type = ap (λ (v : Survey). v.size) (says g).is in
-      sized_as _ (rw ((h.good s g).is, ← f, lt-ltb 0 s.size (omega (arith, e))))
+    pub file_good : HeldAs (file_address_held table pool) (Ok s.file)
+    unfolding file_address_held when_given
+    file_good =
+        let f : holds_file_address (h.good s g).type ≡ s.file = sym (ap (λ (v : Survey). v.file) (says g).is) in
+        answers-given _ _ _ s.file _ (rw ((h.good s g).is, f)) refl
+
+    pub element_good : (s.size ≡ 0 → ⊥) → SizedAs (element_sizing table pool) (Ok s.size)
+    unfolding element_sizing when_given unless
+    element_good e = answers-given _ _ _ s.size _ (rw ((h.good s g).is, size-is g, lt-ltb 0 s.size (omega (arith, e)))) refl
 
   -- the outermost row of a table that sets a type out
   pub record Outermost (t : Datatype) : Type 0 where
@@ -125,7 +125,7 @@ module _ (table pool : List ℕ) {r : Checked} (h : Checks table pool r) where
     pub kind : get_or table 0 0 ≡ suc (class_number t)
     pub small : get_or table 0 0 ≤ 11
 
-  outermost : {s : Survey} (g : r ≡ Good s) → ((i : ℕ) → get_or pool i 0 < 256) → Outermost (h.good s g).type
+  outermost : {s : Survey} (g : r ≡ Some s) → ((i : ℕ) → get_or pool i 0 < 256) → Outermost (h.good s g).type
   outermost {s = s} g b =
       let t = (h.good s g).type in
       let o = type_of_sound table pool t (all-bytes pool b) (h.good s g).is in
@@ -138,7 +138,7 @@ module _ (table pool : List ℕ) {r : Checked} (h : Checks table pool r) where
       first t e n = unfold padded in ap (λ (l : List ℕ). get_or l 0 0) e ∙ get_or-append (rows 0 t) _ 0 0 n ∙ rows-first 0 t
 
   -- the same in the form of a need
-  module _ {s : Survey} (g : r ≡ Good s) (b : (i : ℕ) → get_or pool i 0 < 256) where
+  module _ {s : Survey} (g : r ≡ Some s) (b : (i : ℕ) → get_or pool i 0 < 256) where
     pub outermost-there : 0 < length table
     outermost-there = omega (arith, (outermost g b).there)
 
@@ -148,11 +148,11 @@ module _ (table pool : List ℕ) {r : Checked} (h : Checks table pool r) where
     pub outermost-small : get_or table 0 0 ≤ 11
     outermost-small = (outermost g b).small
 
-  pub element_zero : {s : Survey} {k : ℕ} → ((i : ℕ) → get_or pool i 0 < 256) → r ≡ Good s → s.size ≡ 0 → k ≡ get_or table 0 0 - 1 → SizedAs (element_sizing table pool) (SizedRefused (ZeroSize k))
-  unfolding element_sizing sized_of when_given unless
+  pub element_zero : {s : Survey} {k : ℕ} → ((i : ℕ) → get_or pool i 0 < 256) → r ≡ Some s → s.size ≡ 0 → k ≡ get_or table 0 0 - 1 → SizedAs (element_sizing table pool) (Err (ZeroSize k))
+  unfolding element_sizing when_given unless
   element_zero {s = s} {k = k} b g e j =
       let t = (h.good s g).type in
-      let f : type_size_of t ≡ 0 = sym (ap (λ (v : Survey). v.size) (says g).is) ∙ e in
+      let f : type_size_of t ≡ 0 = size-is g ∙ e in
       let o = outermost g b in
       let c : k ≡ class_number t = omega (arith, o.kind) in
-      sized_as _ (rw ((h.good s g).is, f, c))
+      answers-refused _ _ _ (ZeroSize k) _ (rw ((h.good s g).is, f, c)) refl

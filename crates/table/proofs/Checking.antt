@@ -5,6 +5,8 @@ use mathlib.Core.Bool.{Bool, true, false, not, cond}
 use mathlib.Core.List.{List, ◌++◌}
 use native.Mathlib.Omega.{arith}
 use lib.ListN.{length, get_or, take, drop, length-append}
+use Rattle.std.specs.Prelude.{Option, Some, None}
+use Rattle.std.specs.Bool.{then_some}
 use borrow.Author.Tests.{le-leb, lt-leb, not-true, not-false}
 use Rattle.refusal.specs.declared.Refusal.TheVariants.{BadTable}
 use Rattle.format.specs.Bytes.{all_zero}
@@ -17,9 +19,6 @@ use Rattle.format.proofs.Bytes.{all-bytes}
 use Rattle.format.proofs.Lists.{part-all}
 use Rattle.table.specs.Survey.{survey_of, ends_at, Sets, Checks}
 use Rattle.table.specs.declared.Survey.{Survey}
-use Rattle.table.specs.declared.Surveyed.{Surveyed}
-use Rattle.table.specs.declared.Surveyed.TheVariants.{Sound, Unsound}
-use Rattle.table.specs.declared.Checked.TheVariants.{Good, Bad}
 use Rattle.table.proofs.Surveys.{Told, told, untold}
 
 picks_second : {A : Type 0} (b : Bool) (x y : A) → b ≡ false → cond b x y ≡ y
@@ -45,7 +44,7 @@ module _ (table pool : List ℕ) where
         omega (arith, s.place-behind, ap length b, length-append (pool_bytes t) (drop p pool)),
       )
 
-  pub survey_fits : (k : ℕ) {y : Surveyed} {s : Survey} → y ≡ survey_of (type_at k table pool 0 0) → y ≡ Sound s → ((i : ℕ) → get_or pool i 0 < 256) → (s.row * 16 ≤ length table) × (s.place ≤ length pool)
+  pub survey_fits : (k : ℕ) {y : Option Survey} {s : Survey} → y ≡ survey_of (type_at k table pool 0 0) → y ≡ Some s → ((i : ℕ) → get_or pool i 0 < 256) → (s.row * 16 ≤ length table) × (s.place ≤ length pool)
   unfolding Told
   survey_fits k {s = s} q e small = go (type_at k table pool 0 0) (told (type_at k table pool 0 0) s q e) refl
     where
@@ -97,19 +96,19 @@ module _ (table pool : List ℕ) where
 
   -- ---- the check
 
-  refused : type_of table pool ≡ refuses BadTable → Checks table pool Bad
-  refused h = record { good = λ s g. let z : ◌≡◌ {A = ℕ} 0 1 = cc in absurd (omega arith); bad-table = λ g. h }
+  refused : type_of table pool ≡ refuses BadTable → Checks table pool None
+  refused h = record { good = λ s g. cc; bad-table = λ g. h }
 
-  module _ {y : Surveyed} (q : y ≡ survey_of (type_at 32 table pool 0 0)) where
-    pub check_unsound : y ≡ Unsound → Checks table pool Bad
-    check_unsound e = refused (none-refused (untold _ q e))
+  module _ {y : Option Survey} (q : y ≡ survey_of (type_at 32 table pool 0 0)) where
+    pub check_none : {z : Option Survey} → y ≡ None → z ≡ None → Checks table pool z
+    check_none e g = rw g (refused (none-refused (untold _ q e)))
 
-    module _ (s : Survey) (e : y ≡ Sound s) where
+    module _ (s : Survey) (e : y ≡ Some s) where
       -- the type that the walk found
       record Standing : Type 0 where
         pub type : Datatype
         pub stands : type_at 32 table pool 0 0 ≡ found type s.row s.place
-        pub says : survey_of (found type s.row s.place) ≡ Sound s
+        pub says : survey_of (found type s.row s.place) ≡ Some s
 
       standing : Standing
       unfolding Told survey_of
@@ -122,11 +121,11 @@ module _ (table pool : List ℕ) where
               record { type = t; stands = rw (fr, fp) j; says = rw k.is }
           go bad k j = absurd k
 
-      module _ {u : Bool} (w : u ≡ ends_at table pool s.row s.place) where
-        pub check_bad : u ≡ false → Checks table pool Bad
-        check_bad f = refused (whole-refused standing.type s.row s.place standing.stands (sym w ∙ f))
-
-        pub check_good : u ≡ true → Checks table pool (Good s)
-        check_good f =
-            let x : Sets table pool s = record { type = standing.type; is = whole-given standing.type s.row s.place standing.stands (sym w ∙ f); stands = standing.stands; says = standing.says } in
-            record { good = λ s' d. let a : s ≡ s' = cc in rw (← a) x; bad-table = λ d. let z : ◌≡◌ {A = ℕ} 0 1 = cc in absurd (omega arith) }
+      pub check_ends : {u : Bool} {z : Option Survey} → u ≡ ends_at table pool s.row s.place → z ≡ then_some u s → Checks table pool z
+      check_ends {u = u} w g = rw g (go u w)
+        where
+          go : (u : Bool) → u ≡ ends_at table pool s.row s.place → Checks table pool (then_some u s)
+          go true w =
+              let x : Sets table pool s = record { type = standing.type; is = whole-given standing.type s.row s.place standing.stands (sym w); stands = standing.stands; says = standing.says } in
+              record { good = λ s' d. let a : s ≡ s' = cc in rw (← a) x; bad-table = λ d. cc }
+          go false w = refused (whole-refused standing.type s.row s.place standing.stands (sym w))

@@ -5,41 +5,37 @@ use mathlib.Core.List.{List, append-nil}
 use native.Mathlib.Omega.{arith}
 use lib.ListN.{length, get_or, take}
 use lib.Seq.{take_at}
+use Rattle.std.specs.Prelude.{Option, Some, Result, Ok, Err}
+use Rattle.std.specs.Option.{ok_or}
 use Rattle.refusal.specs.declared.Refusal.TheVariants.{BadTable}
+use Rattle.refusal.specs.declared.Refusal.{Refusal}
 use Rattle.format.specs.Bytes.{AllBytes, padded, zeros}
 use Rattle.format.specs.Datatype.{Datatype, row_count, pool_bytes}
-use Rattle.format.specs.Outcome.{Outcome, gives, refuses, when_given, outcome_number, outcome_values}
+use Rattle.format.specs.Outcome.{gives, when_given}
+use Rattle.format.proofs.Outcomes.{answers-given, answers-refused}
 use Rattle.format.specs.Table.{rows, type_of, table_of, pool_of}
 use Rattle.format.proofs.Rows.{length-rows}
 use Rattle.format.proofs.Table.{type_of_sound, type_of_of}
-use Rattle.table.specs.Extent.{Extent, extent_of, extending, extent_values, using_number, using_values, using_of, UsedAs}
+use Rattle.table.specs.Extent.{extent_of, extending, UsedAs}
+use Rattle.table.specs.declared.Used.{Used}
 use Rattle.table.specs.Survey.{Checks}
 use Rattle.table.specs.declared.Survey.{Survey}
-use Rattle.table.specs.declared.Checked.{Checked}
-use Rattle.table.specs.declared.Checked.TheVariants.{Good, Bad}
-use Rattle.table.specs.declared.Using.{Using}
-use Rattle.table.specs.declared.Using.TheVariants.{Used, Refused}
+use Rattle.table.proofs.Answers.{bad-table, bad-answer}
 use Rattle.table.proofs.Checking.{stands_at}
 
--- an answer that is the definition's has its number and values
-used_as : (o : Outcome Extent) {r : Using} → r ≡ using_of o → UsedAs o r
-unfolding using_of using_number using_values outcome_number outcome_values extent_values
-used_as (gives x) e = record { answer = e; number = ap using_number e; values = ap using_values e }
-used_as (refuses x) e = record { answer = e; number = ap using_number e; values = ap using_values e }
+module _ (table pool : List ℕ) {r : Option Survey} (h : Checks table pool r) where
+  pub extent_bad : {o : Result Survey Refusal} {a : Result Used Refusal} {e y : Refusal} → o ≡ ok_or r BadTable → o ≡ Err e → a ≡ Err y → y ≡ e → UsedAs (extending table pool) a
+  unfolding extending when_given
+  extent_bad w i d f = answers-refused _ _ _ BadTable _ (rw (bad-table table pool h w i)) (bad-answer table pool h w i d f)
 
-module _ (table pool : List ℕ) {r : Checked} (h : Checks table pool r) where
-  pub extent_bad : r ≡ Bad → UsedAs (extending table pool) (Refused BadTable)
-  unfolding extending using_of when_given
-  extent_bad e = used_as _ (rw (h.bad-table e))
-
-  pub extent_good : {s : Survey} → ((i : ℕ) → get_or pool i 0 < 256) → r ≡ Good s → UsedAs (extending table pool) (Used s.row s.place)
-  unfolding extending using_of when_given extent_of
+  pub extent_good : {s : Survey} → ((i : ℕ) → get_or pool i 0 < 256) → r ≡ Some s → UsedAs (extending table pool) (Ok (record { rows = s.row; bytes = s.place }))
+  unfolding extending when_given extent_of
   extent_good {s = s} b g =
       let x = h.good s g in
       let y = stands_at table pool 32 x.type s.row s.place b x.stands in
       let fr : s.row ≡ row_count x.type = omega (arith, y.row-behind) in
       let fp : s.place ≡ length (pool_bytes x.type) = omega (arith, y.place-behind) in
-      used_as _ (rw (x.is, ← fr, ← fp))
+      answers-given _ _ _ (record { rows = s.row; bytes = s.place }) _ (rw (x.is, ← fr, ← fp)) refl
 
 padded-whole : (s : List ℕ) → padded (length s) s ≡ s
 unfolding padded zeros

@@ -3,6 +3,7 @@ use Prim.Native.Nat.{ℕ, zero, suc, ◌+◌, ◌-◌, ◌*◌, ◌<◌, ◌≤�
 use mathlib.Core.Path.{◌≡◌, refl, sym, ap, ◌∙◌}
 use mathlib.Core.List.{List, [], ◌∷◌, ◌++◌, append-nil}
 use mathlib.Core.Option.{Option, none, some}
+use Rattle.std.specs.Prelude as core
 use native.Mathlib.Omega.{arith}
 use lib.ListN.{length, get_or, take, drop, length-append, length-take, length-drop, get_or-append, get_or-eq_default}
 use mir.Syntax.{w64}
@@ -18,8 +19,6 @@ use Rattle.table.specs.Names.{Part, name_parts, member_name_parts, enum_name_par
 use Rattle.table.specs.Survey.{Checks}
 use Rattle.table.specs.declared.NamePart.{NamePart}
 use Rattle.table.specs.declared.Survey.{Survey}
-use Rattle.table.specs.declared.Checked.{Checked}
-use Rattle.table.specs.declared.Checked.TheVariants.{Good, Bad}
 use Rattle.table.proofs.Checking.{stands_at}
 
 -- the words of a row say that it is no member's, or where the member's name lies, before an end
@@ -167,8 +166,8 @@ module _ (table pool : List ℕ) (t : Datatype) (o : SetsOut t table pool) where
         (omega (arith, n.1.1.1), (rw (a, b), a))
 
 -- the answer, by what the check answers
-module _ (table pool : List ℕ) (row : ℕ) {r : Checked} (h : Checks table pool r) where
-  pub name-bad : r ≡ Bad → PartIs table pool row (record { place = 0; length = 0 })
+module _ (table pool : List ℕ) (row : ℕ) {r : core.Option Survey} (h : Checks table pool r) where
+  pub name-bad : r ≡ core.None → PartIs table pool row (record { place = 0; length = 0 })
   unfolding name_of name_in_of name_place place_in
   name-bad e =
       record {
@@ -178,7 +177,7 @@ module _ (table pool : List ℕ) (row : ℕ) {r : Checked} (h : Checks table poo
         holds = rw (h.bad-table e);
       }
 
-  module _ (b : (i : ℕ) → get_or pool i 0 < 256) {s : Survey} (g : r ≡ Good s) where
+  module _ (b : (i : ℕ) → get_or pool i 0 < 256) {s : Survey} (g : r ≡ core.Some s) where
     set_out : SetsOut (h.good s g).type table pool
     set_out = type_of_sound table pool (h.good s g).type (all-bytes pool b) (h.good s g).is
 

@@ -1,12 +1,13 @@
 -- Rows that are not tested again: the row behind a type, its size, and the entries of an array. One law for each way out of the code.
 use Prim.Native.Nat.{ℕ, zero, suc, ◌+◌, ◌-◌, ◌*◌, ◌/◌, ◌<◌, ◌≤◌, min}
-use mathlib.Core.Path.{◌≡◌, refl, sym, ◌∙◌}
+use mathlib.Core.Path.{◌≡◌, refl, sym, ap, ◌∙◌}
 use mathlib.Core.Bool.{Bool, true, false, cond}
 use mathlib.Core.List.{List, [], ◌∷◌}
 use native.Mathlib.Omega.{arith}
 use native.Mathlib.Numerals.{add-one}
 use lib.ListN.{length, get_or, take, drop}
 use lib.Dec.{leb}
+use Rattle.std.specs.Prelude.{Option, Some, None}
 use Rattle.format.specs.Bytes.{dimensions_from}
 use Rattle.format.specs.Datatype.{Datatype, compound, enumeration, variable_length, array, Members, member, EnumMember, product, type_size_of}
 use Rattle.format.specs.Table.{Found, found, bad, and_then, type_at, members_at, enum_names_at, enum_values_at}
@@ -14,9 +15,8 @@ use Rattle.format.proofs.Scaling.{cap_again}
 use Rattle.format.proofs.TableSteps.{then-piece}
 use Rattle.rows.specs.Entries.{entry_at, enum_member_at_of, from_entry, from_member, from_enum_member, RowSays, RowNames}
 use Rattle.rows.specs.declared.Entry.{Entry}
-use Rattle.rows.specs.declared.Entry.TheVariants.{Leaf, Compound, Enumeration, VariableLength, Array, Unknown}
+use Rattle.rows.specs.declared.Entry.TheVariants.{Leaf, Compound, Enumeration, VariableLength, Array}
 use Rattle.rows.specs.declared.Member.{Member}
-use Rattle.rows.specs.declared.Member.TheVariants.{Named, Unnamed}
 use Rattle.rows.proofs.Columns.{short_enum_member}
 use Rattle.rows.proofs.Decode.{enum_names_at-entry}
 use Rattle.rows.proofs.Known.{claim_of-type, claim_of-members, array-stands}
@@ -32,11 +32,11 @@ passes_then bad f x h = tt
 -- ---- an enumeration's names and values
 
 module _ (table : List ℕ) where
-  names-step : (pool : List ℕ) (k r p : ℕ) → ((n : ℕ) → PassesTo (enum_names_at table pool k (suc r) (p + n)) (suc r + k)) → (m : Member)
+  names-step : (pool : List ℕ) (k r p : ℕ) → ((n : ℕ) → PassesTo (enum_names_at table pool k (suc r) (p + n)) (suc r + k)) → (m : Option Member)
       → PassesTo (from_enum_member (enum_names_at table pool k) pool r p m) (r + suc k)
   unfolding from_enum_member
-  names-step pool k r p rest (Named n v) = let e : r + suc k ≡ suc r + k = omega arith in passes_then (enum_names_at table pool k (suc r) (p + n)) _ (r + suc k) (rw e (rest n))
-  names-step pool k r p rest Unnamed = unfold PassesTo in tt
+  names-step pool k r p rest (Some m) = let e : r + suc k ≡ suc r + k = omega arith in passes_then (enum_names_at table pool k (suc r) (p + m.name)) _ (r + suc k) (rw e (rest m.name))
+  names-step pool k r p rest None = unfold PassesTo in tt
 
   names-go : (pool : List ℕ) (k r p : ℕ) → PassesTo (enum_names_at table pool k r p) (r + k)
   names-go pool zero r p = unfold enum_names_at PassesTo in (omega arith)
@@ -67,27 +67,27 @@ module _ (table : List ℕ) (row levels : ℕ) where
   pub passes_none : (x : ℕ) → levels ≡ 0 → PassesType levels table row x
   passes_none x e = record { passes = λ pool p. rw e (unfold type_at PassesTo in tt) }
 
-  module _ {e : Entry} (deep : levels ≡ 0 → ⊥) (s : RowSays table row e) where
-    by_row : (C : Found Datatype → Type 0) → C bad → (pool : List ℕ) (p : ℕ) {f : Entry} → e ≡ f
+  module _ {e : Option Entry} (deep : levels ≡ 0 → ⊥) (s : RowSays table row e) where
+    by_row : (C : Found Datatype → Type 0) → C bad → (pool : List ℕ) (p : ℕ) {f : Option Entry} → e ≡ f
         → (f ≡ entry_at table pool row p → C (from_entry (type_at (levels - 1) table pool) table pool row p f)) → C (type_at levels table pool row p)
     by_row C n pool p h v =
         let j : levels ≡ suc (levels - 1) = omega (arith, deep) in
         rw j (claim_of-type table pool row p C n (levels - 1) e (s.is pool p) (λ q. rw h (v (sym h ∙ q))))
 
-    passes : (x : ℕ) {f : Entry} → e ≡ f → ((pool : List ℕ) (p : ℕ) → PassesTo (from_entry (type_at (levels - 1) table pool) table pool row p f) x) → PassesType levels table row x
+    passes : (x : ℕ) {f : Option Entry} → e ≡ f → ((pool : List ℕ) (p : ℕ) → PassesTo (from_entry (type_at (levels - 1) table pool) table pool row p f) x) → PassesType levels table row x
     passes x h v = record { passes = λ pool p. by_row (λ (y : Found Datatype). PassesTo y x) (unfold PassesTo in tt) pool p h (λ q. v pool p) }
 
-    pub passes_unknown : (x : ℕ) → e ≡ Unknown → PassesType levels table row x
+    pub passes_unknown : (x : ℕ) → e ≡ None → PassesType levels table row x
     passes_unknown x h = passes x h (λ pool p. unfold from_entry PassesTo in tt)
 
-    pub passes-leaf : {c n l y : ℕ} → e ≡ Leaf c n l y → PassesType levels table row (row + 1)
-    passes-leaf h = passes (row + 1) h (λ pool p. unfold from_entry PassesTo in (omega arith))
+    pub passes-leaf : {c n l y : ℕ} {f : Entry} → e ≡ Some f → f ≡ Leaf c n l y → PassesType levels table row (row + 1)
+    passes-leaf i h = passes (row + 1) (i ∙ ap Some h) (λ pool p. unfold from_entry PassesTo in (omega arith))
 
-    pub passes-compound : {n k : ℕ} {x : ℕ} → e ≡ Compound n k → PassesMembers (levels - 1) table (row + 1) k x → PassesType levels table row x
-    passes-compound {n = n} {x = x} h v = passes x h (λ pool p. unfold from_entry in passes_then _ (compound n) x (rw (add-one row) at (v.passes pool p)))
+    pub passes-compound : {n k : ℕ} {x : ℕ} {f : Entry} → e ≡ Some f → f ≡ Compound n k → PassesMembers (levels - 1) table (row + 1) k x → PassesType levels table row x
+    passes-compound {n = n} {x = x} i h v = passes x (i ∙ ap Some h) (λ pool p. unfold from_entry in passes_then _ (compound n) x (rw (add-one row) at (v.passes pool p)))
 
     enumeration_passes : (n k y x : ℕ) → PassesType (levels - 1) table (row + 1) y → PassesNames table y k x
-        → (pool : List ℕ) (p : ℕ) → PassesTo (from_entry (type_at (levels - 1) table pool) table pool row p (Enumeration n k)) x
+        → (pool : List ℕ) (p : ℕ) → PassesTo (from_entry (type_at (levels - 1) table pool) table pool row p (Some (Enumeration n k))) x
     unfolding from_entry
     enumeration_passes n k y x v w pool₀ p₀ = go pool₀ (type_at (levels - 1) table pool₀ (suc row) p₀) (rw (add-one row) at (v.passes pool₀ p₀))
       where
@@ -101,14 +101,14 @@ module _ (table : List ℕ) (row levels : ℕ) where
         go pool (found t r p) g = unfold PassesTo and_then in values pool t (enum_names_at table pool k r p) (rw g at (w.passes pool p))
         go pool bad g = unfold and_then PassesTo in tt
 
-    pub passes-enumeration : {n k : ℕ} {y x : ℕ} → e ≡ Enumeration n k → PassesType (levels - 1) table (row + 1) y → PassesNames table y k x → PassesType levels table row x
-    passes-enumeration {n = n} {k = k} {y = y} {x = x} h v w = passes x h (enumeration_passes n k y x v w)
+    pub passes-enumeration : {n k : ℕ} {y x : ℕ} {f : Entry} → e ≡ Some f → f ≡ Enumeration n k → PassesType (levels - 1) table (row + 1) y → PassesNames table y k x → PassesType levels table row x
+    passes-enumeration {n = n} {k = k} {y = y} {x = x} i h v w = passes x (i ∙ ap Some h) (enumeration_passes n k y x v w)
 
-    pub passes-variable_length : {i a c : ℕ} {x : ℕ} → e ≡ VariableLength i a c → PassesType (levels - 1) table (row + 1) x → PassesType levels table row x
-    passes-variable_length {i = i} {a = a} {c = c} {x = x} h v = passes x h (λ pool p. unfold from_entry in passes_then _ (variable_length i a c) x (rw (add-one row) at (v.passes pool p)))
+    pub passes-variable_length : {i a c : ℕ} {x : ℕ} {f : Entry} → e ≡ Some f → f ≡ VariableLength i a c → PassesType (levels - 1) table (row + 1) x → PassesType levels table row x
+    passes-variable_length {i = i} {a = a} {c = c} {x = x} j h v = passes x (j ∙ ap Some h) (λ pool p. unfold from_entry in passes_then _ (variable_length i a c) x (rw (add-one row) at (v.passes pool p)))
 
-    pub passes-array : {k : ℕ} {x : ℕ} → e ≡ Array k → PassesType (levels - 1) table (row + 1) x → PassesType levels table row x
-    passes-array {k = k} {x = x} h v = passes x h (λ pool p. unfold from_entry in passes_then _ (array (dimensions_from k (take (k * 4) (drop p pool)))) x (rw (add-one row) at (v.passes pool (p + k * 4))))
+    pub passes-array : {k : ℕ} {x : ℕ} {f : Entry} → e ≡ Some f → f ≡ Array k → PassesType (levels - 1) table (row + 1) x → PassesType levels table row x
+    passes-array {k = k} {x = x} i h v = passes x (i ∙ ap Some h) (λ pool p. unfold from_entry in passes_then _ (array (dimensions_from k (take (k * 4) (drop p pool)))) x (rw (add-one row) at (v.passes pool (p + k * 4))))
 
 -- ---- members
 
@@ -125,22 +125,22 @@ module _ (levels : ℕ) (table : List ℕ) (r left row count : ℕ) (inv : Passe
       let k : left ≡ 0 = omega arith in
       inv.on r (record { passes = λ pool p. rw k (unfold members_at PassesTo in refl) })
 
-  module _ {m : Member} (some_left : 0 < left) (s : RowNames table r m) where
-    passes-member : (x : ℕ) {f : Member} → m ≡ f → ((pool : List ℕ) (p : ℕ) → PassesTo (from_member (type_at levels table pool) (members_at (type_at levels table pool) table pool (left - 1)) pool r p f) x)
+  module _ {m : Option Member} (some_left : 0 < left) (s : RowNames table r m) where
+    passes-member : (x : ℕ) {f : Option Member} → m ≡ f → ((pool : List ℕ) (p : ℕ) → PassesTo (from_member (type_at levels table pool) (members_at (type_at levels table pool) table pool (left - 1)) pool r p f) x)
         → PassesMembers levels table row count x
     passes-member x h v =
         let j : left ≡ suc (left - 1) = omega arith in
         inv.on x (record { passes = λ pool p. rw j (claim_of-members table pool r p (λ (w : Found Members). PassesTo w x) (unfold PassesTo in tt) (type_at levels table pool) (left - 1) m (s.is pool p) (λ q. rw h (v pool p))) })
 
-    pub passes_unnamed : (x : ℕ) → m ≡ Unnamed → PassesMembers levels table row count x
+    pub passes_unnamed : (x : ℕ) → m ≡ None → PassesMembers levels table row count x
     passes_unnamed x h = passes-member x h (λ pool p. unfold from_member PassesTo in tt)
 
-    pub passes-next : {a b y : ℕ} → m ≡ Named a b → PassesType levels table (r + 1) y → PassesOn levels table y (left - 1) row count
-    passes-next {a = a} {b = b} {y = y} h v = record { on = λ x w. passes-member x h (λ pool p. unfold from_member in go x w pool p (type_at levels table pool (suc r) (p + b)) (rw (add-one r) at (v.passes pool (p + b)))) }
+    pub passes-next : {f : Member} {y rest : ℕ} → m ≡ Some f → PassesType levels table (r + 1) y → rest ≡ left - 1 → PassesOn levels table y rest row count
+    passes-next {f = f} {y = y} h v e = rw e (record { on = λ x w. passes-member x h (λ pool p. unfold from_member in go x w pool p (type_at levels table pool (suc r) (p + f.name)) (rw (add-one r) at (v.passes pool (p + f.name)))) })
       where
         go : (x : ℕ) → PassesMembers levels table y (left - 1) x → (pool : List ℕ) (p : ℕ) (z : Found Datatype) → PassesTo z y
-            → PassesTo (and_then z (λ t r₁ p₁. and_then (members_at (type_at levels table pool) table pool (left - 1) r₁ p₁) (λ ms r₂ p₂. found (member (take b (drop p pool)) a t ms) r₂ p₂))) x
-        go x w pool p (found t r₁ p₁) g = unfold PassesTo and_then in passes_then (members_at (type_at levels table pool) table pool (left - 1) r₁ p₁) (member (take b (drop p pool)) a t) x (rw g at (w.passes pool p₁))
+            → PassesTo (and_then z (λ t r₁ p₁. and_then (members_at (type_at levels table pool) table pool (left - 1) r₁ p₁) (λ ms r₂ p₂. found (member (take f.name (drop p pool)) f.number t ms) r₂ p₂))) x
+        go x w pool p (found t r₁ p₁) g = unfold PassesTo and_then in passes_then (members_at (type_at levels table pool) table pool (left - 1) r₁ p₁) (member (take f.name (drop p pool)) f.number t) x (rw g at (w.passes pool p₁))
         go x w pool p bad g = unfold and_then PassesTo in tt
 
 -- ---- sizes
@@ -162,17 +162,17 @@ module _ (table pool : List ℕ) (row levels : ℕ) where
   pub sized-none : (x : ℕ) → levels ≡ 0 → SizedAt levels table pool row x
   sized-none x e = record { sized = λ p. rw e (unfold type_at SizedTo in tt) }
 
-  module _ {e : Entry} (deep : levels ≡ 0 → ⊥) (s : RowSays table row e) where
-    by_size : (x : ℕ) {f : Entry} → e ≡ f → ((p : ℕ) → f ≡ entry_at table pool row p → SizedTo (from_entry (type_at (levels - 1) table pool) table pool row p f) x) → SizedAt levels table pool row x
+  module _ {e : Option Entry} (deep : levels ≡ 0 → ⊥) (s : RowSays table row e) where
+    by_size : (x : ℕ) {f : Option Entry} → e ≡ f → ((p : ℕ) → f ≡ entry_at table pool row p → SizedTo (from_entry (type_at (levels - 1) table pool) table pool row p f) x) → SizedAt levels table pool row x
     by_size x h v = record { sized = λ p. by_row table row levels deep s (λ (y : Found Datatype). SizedTo y x) (unfold SizedTo in tt) pool p h (v p) }
 
-    pub sized_unknown : (x : ℕ) → e ≡ Unknown → SizedAt levels table pool row x
+    pub sized_unknown : (x : ℕ) → e ≡ None → SizedAt levels table pool row x
     sized_unknown x h = by_size x h (λ p q. unfold from_entry SizedTo in tt)
 
-    pub sized-leaf : {c n l y : ℕ} → e ≡ Leaf c n l y → SizedAt levels table pool row n
-    sized-leaf {n = n} h = by_size n h (λ p q. unfold from_entry SizedTo type_size_of in (rw (leaf_law table pool row p q refl).is))
+    pub sized-leaf : {c n l y : ℕ} {f : Entry} → e ≡ Some f → f ≡ Leaf c n l y → SizedAt levels table pool row n
+    sized-leaf {n = n} i h = by_size n (i ∙ ap Some h) (λ p q. unfold from_entry SizedTo type_size_of in (rw (leaf_law table pool row p q refl refl).is))
 
-    compound_sized : (n k p : ℕ) → SizedTo (from_entry (type_at (levels - 1) table pool) table pool row p (Compound n k)) n
+    compound_sized : (n k p : ℕ) → SizedTo (from_entry (type_at (levels - 1) table pool) table pool row p (Some (Compound n k))) n
     unfolding from_entry
     compound_sized n k p₀ = go _
       where
@@ -180,10 +180,10 @@ module _ (table pool : List ℕ) (row levels : ℕ) where
         go (found ms r p) = unfold and_then SizedTo type_size_of in refl
         go bad = unfold and_then SizedTo in tt
 
-    pub sized-compound : {n k : ℕ} → e ≡ Compound n k → SizedAt levels table pool row n
-    sized-compound {n = n} {k = k} h = by_size n h (λ p q. compound_sized n k p)
+    pub sized-compound : {n k : ℕ} {f : Entry} → e ≡ Some f → f ≡ Compound n k → SizedAt levels table pool row n
+    sized-compound {n = n} {k = k} i h = by_size n (i ∙ ap Some h) (λ p q. compound_sized n k p)
 
-    enumeration_sized : (n k p : ℕ) → SizedTo (from_entry (type_at (levels - 1) table pool) table pool row p (Enumeration n k)) n
+    enumeration_sized : (n k p : ℕ) → SizedTo (from_entry (type_at (levels - 1) table pool) table pool row p (Some (Enumeration n k))) n
     unfolding from_entry
     enumeration_sized n k p₀ = go _
       where
@@ -200,10 +200,10 @@ module _ (table pool : List ℕ) (row levels : ℕ) where
         go (found t r p) = unfold and_then in names t (enum_names_at table pool k r p)
         go bad = unfold and_then SizedTo in tt
 
-    pub sized-enumeration : {n k : ℕ} → e ≡ Enumeration n k → SizedAt levels table pool row n
-    sized-enumeration {n = n} {k = k} h = by_size n h (λ p q. enumeration_sized n k p)
+    pub sized-enumeration : {n k : ℕ} {f : Entry} → e ≡ Some f → f ≡ Enumeration n k → SizedAt levels table pool row n
+    sized-enumeration {n = n} {k = k} i h = by_size n (i ∙ ap Some h) (λ p q. enumeration_sized n k p)
 
-    variable_sized : (i a c p : ℕ) → SizedTo (from_entry (type_at (levels - 1) table pool) table pool row p (VariableLength i a c)) 16
+    variable_sized : (i a c p : ℕ) → SizedTo (from_entry (type_at (levels - 1) table pool) table pool row p (Some (VariableLength i a c))) 16
     unfolding from_entry
     variable_sized i a c p₀ = go _
       where
@@ -211,11 +211,11 @@ module _ (table pool : List ℕ) (row levels : ℕ) where
         go (found t r p) = unfold and_then SizedTo type_size_of in refl
         go bad = unfold and_then SizedTo in tt
 
-    pub sized-variable_length : {i a c : ℕ} → e ≡ VariableLength i a c → SizedAt levels table pool row 16
-    sized-variable_length {i = i} {a = a} {c = c} h = by_size 16 h (λ p q. variable_sized i a c p)
+    pub sized-variable_length : {i a c : ℕ} {f : Entry} → e ≡ Some f → f ≡ VariableLength i a c → SizedAt levels table pool row 16
+    sized-variable_length {i = i} {a = a} {c = c} j h = by_size 16 (j ∙ ap Some h) (λ p q. variable_sized i a c p)
 
-    pub sized-array : {k base total x : ℕ} → e ≡ Array k → SizedAt (levels - 1) table pool (row + 1) base → TotalAt table pool row k base total → x ≡ min total 4294967295 → SizedAt levels table pool row x
-    sized-array {k = k} {base = base} {total = total} {x = x} h v w u = by_size x h (λ p q. unfold from_entry in go (dimensions_from k (take (k * 4) (drop p pool))) (w.total p q) _ (rw (add-one row) at (v.sized (p + k * 4))))
+    pub sized-array : {k base total x : ℕ} {f : Entry} → e ≡ Some f → f ≡ Array k → SizedAt (levels - 1) table pool (row + 1) base → TotalAt table pool row k base total → x ≡ min total 4294967295 → SizedAt levels table pool row x
+    sized-array {k = k} {base = base} {total = total} {x = x} i h v w u = by_size x (i ∙ ap Some h) (λ p q. unfold from_entry in go (dimensions_from k (take (k * 4) (drop p pool))) (w.total p q) _ (rw (add-one row) at (v.sized (p + k * 4))))
       where
         go : (ds : List ℕ) → total ≡ min (base * product ds) 4294967296 → (y : Found Datatype) → SizedTo y base → SizedTo (and_then y (λ t r' p'. found (array ds t) r' p')) x
         go ds d (found t r p) g = unfold and_then SizedTo type_size_of in (u ∙ rw (d, ← g, cap_again))

@@ -6,6 +6,8 @@ use mathlib.Core.List.{List, [], ◌∷◌}
 use native.Mathlib.Omega.{arith}
 use native.Mathlib.Decide.{dec_le}
 use lib.ListN.{length}
+use Rattle.std.specs.Prelude.{Option, Some, None}
+use Rattle.table.specs.declared.Spot.{Spot}
 use lib.Dec.{leb}
 use borrow.Author.Tests.{le-leb, lt-leb}
 use Rattle.format.specs.Datatype.{EnumMember}
@@ -13,19 +15,16 @@ use Rattle.format.specs.Table.{Found, found, bad, and_then, enum_names_at, enum_
 use Rattle.format.proofs.TableSteps.{then-piece}
 use Rattle.rows.specs.Entries.{enum_member_at_of}
 use Rattle.rows.specs.declared.Member.{Member}
-use Rattle.rows.specs.declared.Member.TheVariants.{Named, Unnamed}
 use Rattle.rows.proofs.EnumNames.{names_as, names-none, values_long}
 use Rattle.table.specs.Survey.{spot_of, enum_spot_of}
-use Rattle.table.specs.declared.Found.{Found as Walked}
-use Rattle.table.specs.declared.Found.TheVariants.{At, Lost}
 
-unfoldable pub ends_at : (pool : List ℕ) (row place : ℕ) → Walked
-ends_at pool r p = cond (leb p (length pool)) (At (record { row = r; place = p })) Lost
+unfoldable pub ends_at : (pool : List ℕ) (row place : ℕ) → Option Spot
+ends_at pool r p = cond (leb p (length pool)) (Some (record { row = r; place = p })) None
 
 -- where they end, behind the names, if the values before these have a length
-unfoldable pub values_end_of : (pool : List ℕ) (before : ℕ) → Found (List (List ℕ × ℕ)) → Walked
+unfoldable pub values_end_of : (pool : List ℕ) (before : ℕ) → Found (List (List ℕ × ℕ)) → Option Spot
 values_end_of pool v (found ns r p) = ends_at pool r (p + (v + values_long ns))
-values_end_of pool v bad = Lost
+values_end_of pool v bad = None
 
 module _ (pool : List ℕ) where
   spot_then : (m : EnumMember) (x : Found (List EnumMember)) → spot_of (and_then x (λ ms r p. found (m ∷ ms) r p)) ≡ spot_of x
@@ -33,7 +32,7 @@ module _ (pool : List ℕ) where
   spot_then m (found ms r p) = refl
   spot_then m bad = refl
 
-  ends-past : (r p : ℕ) → length pool < p → ends_at pool r p ≡ Lost
+  ends-past : (r p : ℕ) → length pool < p → ends_at pool r p ≡ None
   unfolding ends_at
   ends-past r p h = rw (lt-leb p (length pool) h)
 
@@ -78,34 +77,34 @@ module _ (pool : List ℕ) where
       rw e
   next-then v l b bad = refl
 
-  past-then : (v : ℕ) (y : Found (List (List ℕ × ℕ))) → length pool < v → values_end_of pool v y ≡ Lost
+  past-then : (v : ℕ) (y : Found (List (List ℕ × ℕ))) → length pool < v → values_end_of pool v y ≡ None
   unfolding values_end_of
   past-then v (found ns r p) h = ends-past r (p + (v + values_long ns)) (omega arith)
   past-then v bad h = refl
 
 module _ (table pool : List ℕ) where
-  pub skip-none : (k r p : ℕ) → k ≡ 0 → At (record { row = r; place = p }) ≡ enum_spot_of table pool k r p
+  pub skip-none : (k r p : ℕ) → k ≡ 0 → Some (record { row = r; place = p }) ≡ enum_spot_of table pool k r p
   unfolding enum_spot_of enum_names_at enum_values_at spot_of and_then
   skip-none k r p e = rw e
 
   -- the answer from the start, where a member is there or none is
-  pub skip-start : (k r p : ℕ) {x : Member} → x ≡ enum_member_at_of table pool r p → 0 < k → enum_spot_of table pool k r p ≡ values_end_of pool 0 (enum_names_at table pool k r p)
+  pub skip-start : (k r p : ℕ) {x : Option Member} → x ≡ enum_member_at_of table pool r p → 0 < k → enum_spot_of table pool k r p ≡ values_end_of pool 0 (enum_names_at table pool k r p)
   unfolding enum_spot_of
-  skip-start k r p {x = Named n l} q h = start-then pool _ _ _ (names_as table pool r p k h q refl)
-  skip-start k r p {x = Unnamed} q h = rw (names-none table pool r p k h q refl) (unfold and_then spot_of values_end_of in refl)
+  skip-start k r p {x = Some m} q h = start-then pool _ _ _ (names_as table pool r p k h q refl)
+  skip-start k r p {x = None} q h = rw (names-none table pool r p k h q refl) (unfold and_then spot_of values_end_of in refl)
 
-  module _ (r p v k : ℕ) {x : Member} {z : Walked} (q : x ≡ enum_member_at_of table pool r p) (inv : z ≡ values_end_of pool v (enum_names_at table pool k r p)) (h : 0 < k) where
-    pub skip_unnamed : x ≡ Unnamed → Lost ≡ z
-    skip_unnamed e = sym (inv ∙ rw (names-none table pool r p k h q e) (unfold values_end_of in refl))
+  module _ (r p v k : ℕ) {x : Option Member} {z : Option Spot} (q : x ≡ enum_member_at_of table pool r p) (inv : z ≡ values_end_of pool v (enum_names_at table pool k r p)) (h : 0 < k) where
+    pub skip_unnamed : {w : Option Spot} → x ≡ None → w ≡ None → w ≡ z
+    skip_unnamed e d = d ∙ sym (inv ∙ rw (names-none table pool r p k h q e) (unfold values_end_of in refl))
 
-    pub skip-next : {n l : ℕ} → x ≡ Named n l → z ≡ values_end_of pool (v + l) (enum_names_at table pool (k - 1) (r + 1) (p + n))
-    skip-next {n = n} {l = l} e = inv ∙ ap (values_end_of pool v) (names_as table pool r p k h q e) ∙ next-then pool v l _ _
+    pub skip-next : {m : Member} {rest : ℕ} → x ≡ Some m → rest ≡ k - 1 → z ≡ values_end_of pool (v + m.number) (enum_names_at table pool rest (r + 1) (p + m.name))
+    skip-next {m = m} e d = rw d (inv ∙ ap (values_end_of pool v) (names_as table pool r p k h q e) ∙ next-then pool v m.number _ _)
 
-    pub skip-past : {n l : ℕ} → x ≡ Named n l → length pool - v < l → Lost ≡ z
-    skip-past {n = n} {l = l} e s = sym (skip-next e ∙ past-then pool (v + l) _ (omega arith))
+    pub skip-past : {m : Member} → x ≡ Some m → length pool - v < m.number → None ≡ z
+    skip-past {m = m} e s = sym (skip-next e refl ∙ past-then pool (v + m.number) _ (omega arith))
 
   -- behind the last name
-  module _ (r p v k : ℕ) {z : Walked} (inv : z ≡ values_end_of pool v (enum_names_at table pool k r p)) (h : k ≤ 0) where
+  module _ (r p v k : ℕ) {z : Option Spot} (inv : z ≡ values_end_of pool v (enum_names_at table pool k r p)) (h : k ≤ 0) where
     ended : z ≡ ends_at pool r (p + v)
     unfolding enum_names_at values_end_of values_long
     ended =
@@ -113,12 +112,9 @@ module _ (table pool : List ℕ) where
         let e : p + (v + 0) ≡ p + v = omega arith in
         inv ∙ rw (f, e)
 
-    pub skip-behind : length pool < p → Lost ≡ z
-    skip-behind g = sym (ended ∙ ends-past pool r (p + v) (omega arith))
+    pub skip-lost : length pool < p + v → None ≡ z
+    skip-lost g = sym (ended ∙ ends-past pool r (p + v) g)
 
-    pub skip-lost : length pool - p < v → Lost ≡ z
-    skip-lost g = sym (ended ∙ ends-past pool r (p + v) (omega arith))
-
-    pub skip-ended : p ≤ length pool → v ≤ length pool - p → At (record { row = r; place = p + v }) ≡ z
+    pub skip-ended : p ≤ length pool → v ≤ length pool - p → Some (record { row = r; place = p + v }) ≡ z
     unfolding ends_at
     skip-ended f g = sym (ended ∙ rw (le-leb (p + v) (length pool) (omega arith)))

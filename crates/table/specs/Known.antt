@@ -1,5 +1,5 @@
 -- What is answered of rows that are not tested again: something is said only where a type is found, wherever its pool bytes begin.
-use Rattle.std.specs.Prelude.{ℕ, ◌*◌, min, ◌≡◌, List, take, drop}
+use Rattle.std.specs.Prelude.{ℕ, ◌*◌, min, ◌≡◌, List, take, drop, Some}
 use Rattle.format.specs.Bytes.{dimensions_from}
 use Rattle.format.specs.Datatype.{Datatype, product, type_size_of}
 use Rattle.format.specs.Table.{Found, found, bad, type_at, members_at, enum_names_at}
@@ -22,7 +22,7 @@ pub record PassesNames (table : List ℕ) (row count x : ℕ) : Type 0 where
 
 -- a size times the dimensions of the array at a row: true up to 4,294,967,295
 pub record TotalAt (table pool : List ℕ) (row rank size x : ℕ) : Type 0 where
-  pub total : (p : ℕ) → Array rank ≡ entry_at table pool row p → x ≡ min (size * product (dimensions_from rank (take (rank * 4) (drop p pool)))) 4294967296
+  pub total : (p : ℕ) → Some (Array rank) ≡ entry_at table pool row p → x ≡ min (size * product (dimensions_from rank (take (rank * 4) (drop p pool)))) 4294967296
 
 -- the size of the type that is found
 unfoldable pub SizedTo : Found Datatype → ℕ → Type 0

@@ -2,43 +2,34 @@
 // carries.
 #![tactic(auto)]
 
-ghost use Rattle.std.specs.Prelude.{◌≡◌, true, ◌&&◌, ◌||◌, ℕ, ◌+◌, ◌*◌, ◌-◌, ◌≤◌, ◌<◌, min, eqb, ltb, length, take, drop};
+ghost use Rattle.std.specs.Prelude.{◌≡◌, true, ◌&&◌, ℕ, ◌+◌, ◌*◌, ◌-◌, ◌≤◌, ◌<◌, min, eqb, ltb, length, take, drop};
 ghost use Rattle.format.specs.Bytes.{dimensions_from};
 ghost use Rattle.format.specs.Datatype.{product};
 ghost use Rattle.format.specs.Sizes.{sizing, element_sizing, class_may_hold_object_address_of, object_address_held, file_address_held};
 ghost use Rattle.format.specs.Table.{type_at, members_at};
 ghost use Rattle.table.specs.Path.{Entered};
 ghost use Rattle.table.specs.Known.{PassesNames, PassesType, PassesMembers, TotalAt, SizedAt};
-ghost use Rattle.table.specs.Survey.{survey_of, survey_in, leaf_survey_of, enumeration_survey_of, variable_survey_of, array_survey_of, enum_spot_of, ends_at, Checks, first_of, zero_note_of, SizedAs, HeldAs};
+ghost use Rattle.table.specs.Survey.{survey_of, survey_in, leaf_survey_of, enumeration_survey_of, variable_survey_of, array_survey_of, enum_spot_of, ends_at, Checks, SizedAs, HeldAs};
 ghost use Rattle.table.specs.Names.{name_of, name_place, further, PartIs};
 ghost use Rattle.table.specs.Extent.{extending, UsedAs};
 
 use primitives::{low4, read_uint};
 use refusal::Refusal;
 use rows::{
-    Entry, Member, clear_bytes, clear_words, entry_at, enum_member_at, member_at, row_entry,
-    row_member,
+    Entry, clear_bytes, clear_words, entry_at, enum_member_at, member_at, row_entry, row_member,
 };
 
-// What a walk over a type finds: the next row and pool place, the size, 1 + the class of the first row of size 0 or 0 where there is none,
-// whether something reaches outside (refusal 16), whether it holds what refusal 17 names, and the two address predicates.
+// What a walk over a type finds: the next row and pool place, the size, the class of the first row of size 0, whether something reaches outside (refusal 16), whether it holds what refusal 17 names, and the two address predicates.
 #[derive(Clone, Copy)]
 pub struct Survey {
     pub row: usize,
     pub place: usize,
     pub size: u32,
-    pub zero: u32,
+    pub zero: Option<u8>,
     pub outside: bool,
     pub heap: bool,
     pub object: bool,
     pub file: bool,
-}
-
-// What the walk finds: a type, or that no type stands at the row.
-#[derive(Clone, Copy)]
-pub enum Surveyed {
-    Sound(Survey),
-    Unsound,
 }
 
 // The next row and pool place.
@@ -48,32 +39,11 @@ pub struct Spot {
     pub place: usize,
 }
 
-// Where something ends, or Lost where the rows do not set it out.
+// How many rows and pool bytes a type uses.
 #[derive(Clone, Copy)]
-pub enum Found {
-    At(Spot),
-    Lost,
-}
-
-// The answer of the check.
-#[derive(Clone, Copy)]
-pub enum Checked {
-    Good(Survey),
-    Bad,
-}
-
-// The answer of `type_size` and `element_size`.
-#[derive(Clone, Copy)]
-pub enum Sized {
-    Size(u32),
-    Refused(Refusal),
-}
-
-// The answer of `extent`: how many rows and pool bytes.
-#[derive(Clone, Copy)]
-pub enum Using {
-    Used(usize, usize),
-    Refused(Refusal),
+pub struct Used {
+    pub rows: usize,
+    pub bytes: usize,
 }
 
 // A part of the pool.
@@ -83,38 +53,11 @@ pub struct NamePart {
     pub length: usize,
 }
 
-// The answer of the two predicates over a type.
-#[derive(Clone, Copy)]
-pub enum Held {
-    Yes,
-    No,
-    Refused(Refusal),
-}
-
-// The rows of the open levels, outermost first: its top is the row at hand.
+// The rows of the open levels, outermost first: its top is the row at hand. A buffer with its length, since there is no heap.
 #[derive(Clone, Copy)]
 pub struct Path {
     pub rows: [usize; 32],
     pub depth: usize,
-}
-
-fn zero_note(kind: u32, size: u32) -> u32
-    ensures { result ≡ zero_note_of kind size }
-{
-    if size == 0 { kind } else { 0 }
-}
-
-fn first_of(a: u32, b: u32) -> u32
-    ensures { result ≡ first_of a b }
-{
-    if a == 0 { b } else { a }
-}
-
-// One of two, or both.
-pub fn either(a: bool, b: bool) -> bool
-    ensures { result ≡ (a || b) }
-{
-    if a { true } else { b }
 }
 
 // One level further down, at a row.
@@ -126,23 +69,9 @@ pub fn enter(path: Path, row: usize) -> Path
     let mut rows = path.rows;
     rows[depth] = row;
     Path {
-        rows: rows,
+        rows,
         depth: depth + 1,
     }
-}
-
-// Whether a leaf is a region reference.
-fn region(class: u32, code: u32) -> bool
-    ensures { result ≡ (eqb class 7 && eqb code 1) }
-{
-    if class == 7 { code == 1 } else { false }
-}
-
-// Whether a member ends past its compound.
-fn past(offset: u32, size: u32, limit: u32) -> bool
-    ensures { result ≡ ltb limit (offset + size) }
-{
-    (limit as u64) < (offset as u64) + (size as u64)
 }
 
 // A size times an array's dimensions: true up to 4,294,967,295, and 4,294,967,296 for all that is more.
@@ -150,16 +79,10 @@ pub fn scaled(pool: &[u8], place: usize, rank: u32, size: u32) -> u64
     requires { place + rank * 4 ≤ length pool.now }
     ensures { result ≡ min (size * product (dimensions_from rank (take (rank * 4) (drop place pool.now)))) 4294967296 }
 {
-    let mut total = size as u64;
-    let mut i: u32 = 0;
-    while i < rank {
-        let next = total * (read_uint(pool, place + 4 * (i as usize), 4) as u64);
-        if next < 4294967296 {
-            total = next;
-        } else {
-            total = 4294967296;
-        }
-        i += 1;
+    let mut total = u64::from(size);
+    for i in 0..rank as usize {
+        let dimension = u64::from(read_uint(pool, place + 4 * i, 4));
+        total = (total * dimension).min(4294967296);
     }
     total
 }
@@ -168,51 +91,39 @@ pub fn scaled(pool: &[u8], place: usize, rank: u32, size: u32) -> u64
 pub fn capped(total: u64) -> u32
     ensures { result ≡ min total 4294967295 }
 {
-    if total < 4294967295 {
-        return total as u32;
-    }
-    4294967295
+    total.min(4294967295) as u32
 }
 
 // The members of an enumeration: all names, then all values.
-pub fn skip_enum_members(table: &[u32], pool: &[u8], row: usize, place: usize, count: u32) -> Found
+pub fn skip_enum_members(
+    table: &[u32],
+    pool: &[u8],
+    row: usize,
+    place: usize,
+    count: u32,
+) -> Option<Spot>
     ensures { result ≡ enum_spot_of table.now pool.now count row place }
 {
     if count == 0 {
-        return Found::At(Spot {
-            row: row,
-            place: place,
-        });
+        return Some(Spot { row, place });
     }
     let mut r = row;
     let mut p = place;
     let mut values: usize = 0;
-    let mut left = count;
-    while left > 0 {
-        let member = enum_member_at(table, pool, r, p);
-        match member {
-            Member::Unnamed => {
-                return Found::Lost;
-            }
-            Member::Named(name, value) => {
-                let length = value as usize;
-                if pool.len() - values < length {
-                    return Found::Lost;
-                }
-                r += 1;
-                p += name as usize;
-                values += length;
-                left -= 1;
-            }
+    for _ in 0..count {
+        let member = enum_member_at(table, pool, r, p)?;
+        let length = member.number as usize;
+        if pool.len() - values < length {
+            return None;
         }
+        r += 1;
+        p += member.name as usize;
+        values += length;
     }
-    if pool.len() < p {
-        return Found::Lost;
+    if pool.len() < p || pool.len() - p < values {
+        return None;
     }
-    if pool.len() - p < values {
-        return Found::Lost;
-    }
-    Found::At(Spot {
+    Some(Spot {
         row: r,
         place: p + values,
     })
@@ -237,9 +148,10 @@ pub fn next_row(table: &[u32], row: usize, levels: usize) -> usize
     if levels == 0 {
         return row;
     }
-    let entry = row_entry(table, row);
+    let Some(entry) = row_entry(table, row) else {
+        return row;
+    };
     match entry {
-        Entry::Unknown => row,
         Entry::Leaf(_, _, _, _) => row + 1,
         Entry::Compound(_, count) => next_member_row(table, row + 1, count, levels - 1),
         Entry::Enumeration(_, count) => {
@@ -257,22 +169,13 @@ fn next_member_row(table: &[u32], row: usize, count: u32, levels: usize) -> usiz
     ensures { PassesMembers levels table.now row count result }
 {
     let mut r = row;
-    let mut left = count;
-    while left > 0 {
-        let member = row_member(table, r);
-        let Member::Named(_, _) = member else {
+    for _ in 0..count {
+        let Some(_) = row_member(table, r) else {
             return r;
         };
         r = next_row(table, r + 1, levels);
-        left -= 1;
     }
     r
-}
-
-fn wide(word: u32) -> usize
-    ensures { (result ≡ word) × (result < 4294967296) }
-{
-    word as usize
 }
 
 // A size times the dimensions of an array that is known, as `scaled` gives it: its row says where they lie in the pool.
@@ -280,7 +183,7 @@ pub fn array_total(table: &[u32], pool: &[u8], row: usize, rank: u32, size: u32)
     requires { row * 16 + 16 ≤ length table.now }
     ensures { TotalAt table.now pool.now row rank size result }
 {
-    let place = wide(table[row * 16 + 2]);
+    let place = table[row * 16 + 2] as usize;
     if pool.len() < place + (rank as usize) * 4 {
         return 0;
     }
@@ -294,9 +197,10 @@ pub fn size_at(table: &[u32], pool: &[u8], row: usize, levels: usize) -> u32
     if levels == 0 {
         return 0;
     }
-    let entry = row_entry(table, row);
+    let Some(entry) = row_entry(table, row) else {
+        return 0;
+    };
     match entry {
-        Entry::Unknown => 0,
         Entry::Leaf(_, size, _, _) => size,
         Entry::Compound(size, _) => size,
         Entry::Enumeration(size, _) => size,
@@ -313,14 +217,13 @@ fn leaf_survey(row: usize, place: usize, class: u32, size: u32, length: u32, cod
     ensures { result ≡ leaf_survey_of row place class size length code }
 {
     let reference = class == 7;
-    let next = place + length as usize;
     Survey {
         row: row + 1,
-        place: next,
-        size: size,
-        zero: zero_note(class + 1, size),
+        place: place + length as usize,
+        size,
+        zero: (size == 0).then_some(class as u8),
         outside: false,
-        heap: region(class, code),
+        heap: reference & (code == 1),
         object: reference,
         file: reference,
     }
@@ -332,12 +235,9 @@ fn enumeration_survey(size: u32, base: Survey, end: Spot) -> Survey
     Survey {
         row: end.row,
         place: end.place,
-        size: size,
-        zero: first_of(zero_note(9, size), base.zero),
-        outside: base.outside,
-        heap: base.heap,
-        object: base.object,
-        file: base.file,
+        size,
+        zero: (size == 0).then_some(8).or(base.zero),
+        ..base
     }
 }
 
@@ -345,14 +245,10 @@ fn variable_survey(base: Survey) -> Survey
     ensures { result ≡ variable_survey_of base }
 {
     Survey {
-        row: base.row,
-        place: base.place,
         size: 16,
-        zero: base.zero,
-        outside: base.outside,
         heap: true,
-        object: base.object,
         file: true,
+        ..base
     }
 }
 
@@ -363,30 +259,31 @@ fn array_survey(pool: &[u8], place: usize, rank: u32, base: Survey) -> Survey
     let total = scaled(pool, place, rank, base.size);
     let size = capped(total);
     Survey {
-        row: base.row,
-        place: base.place,
-        size: size,
-        zero: first_of(zero_note(11, size), base.zero),
-        outside: either(total > 4294967295, base.outside),
-        heap: base.heap,
-        object: base.object,
-        file: base.file,
+        size,
+        zero: (size == 0).then_some(10).or(base.zero),
+        outside: (total > 4294967295) | base.outside,
+        ..base
     }
 }
 
 // The type at a row, its pool bytes at a place, with so many levels left. Costs one pass over its rows.
 #[cycle(survey)]
-pub fn survey_type(table: &[u32], pool: &[u8], row: usize, place: usize, levels: usize) -> Surveyed
+pub fn survey_type(
+    table: &[u32],
+    pool: &[u8],
+    row: usize,
+    place: usize,
+    levels: usize,
+) -> Option<Survey>
     ensures { result ≡ survey_of (type_at levels table.now pool.now row place) }
 {
     if levels == 0 {
-        return Surveyed::Unsound;
+        return None;
     }
-    let entry = entry_at(table, pool, row, place);
+    let entry = entry_at(table, pool, row, place)?;
     match entry {
-        Entry::Unknown => Surveyed::Unsound,
         Entry::Leaf(class, size, length, code) => {
-            Surveyed::Sound(leaf_survey(row, place, class, size, length, code))
+            Some(leaf_survey(row, place, class, size, length, code))
         }
         Entry::Compound(size, count) => survey_members(
             table,
@@ -398,53 +295,40 @@ pub fn survey_type(table: &[u32], pool: &[u8], row: usize, place: usize, levels:
             levels - 1,
         ),
         Entry::Enumeration(size, count) => {
-            let got = survey_type(table, pool, row + 1, place, levels - 1);
-            match got {
-                Surveyed::Unsound => Surveyed::Unsound,
-                Surveyed::Sound(s) => {
-                    let spot = skip_enum_members(table, pool, s.row, s.place, count);
-                    match spot {
-                        Found::Lost => Surveyed::Unsound,
-                        Found::At(end) => Surveyed::Sound(enumeration_survey(size, s, end)),
-                    }
-                }
-            }
+            let base = survey_type(table, pool, row + 1, place, levels - 1)?;
+            let end = skip_enum_members(table, pool, base.row, base.place, count)?;
+            Some(enumeration_survey(size, base, end))
         }
         Entry::VariableLength(_, _, _) => {
-            let got = survey_type(table, pool, row + 1, place, levels - 1);
-            match got {
-                Surveyed::Unsound => Surveyed::Unsound,
-                Surveyed::Sound(s) => Surveyed::Sound(variable_survey(s)),
-            }
+            let base = survey_type(table, pool, row + 1, place, levels - 1)?;
+            Some(variable_survey(base))
         }
         Entry::Array(rank) => {
-            let got = survey_type(
-                table,
-                pool,
-                row + 1,
-                place + (rank as usize) * 4,
-                levels - 1,
-            );
-            match got {
-                Surveyed::Unsound => Surveyed::Unsound,
-                Surveyed::Sound(s) => Surveyed::Sound(array_survey(pool, place, rank, s)),
-            }
+            let behind = place + (rank as usize) * 4;
+            let base = survey_type(table, pool, row + 1, behind, levels - 1)?;
+            Some(array_survey(pool, place, rank, base))
         }
     }
 }
 
 // The same, of a member: a leaf is surveyed without a call of `survey_type`, which reads any other row again.
 #[cycle(survey)]
-fn survey_inner(table: &[u32], pool: &[u8], row: usize, place: usize, levels: usize) -> Surveyed
+fn survey_inner(
+    table: &[u32],
+    pool: &[u8],
+    row: usize,
+    place: usize,
+    levels: usize,
+) -> Option<Survey>
     ensures { result ≡ survey_of (type_at levels table.now pool.now row place) }
 {
     if levels == 0 {
-        return Surveyed::Unsound;
+        return None;
     }
-    let entry = entry_at(table, pool, row, place);
+    let entry = entry_at(table, pool, row, place)?;
     match entry {
         Entry::Leaf(class, size, length, code) => {
-            Surveyed::Sound(leaf_survey(row, place, class, size, length, code))
+            Some(leaf_survey(row, place, class, size, length, code))
         }
         _ => survey_type(table, pool, row, place, levels),
     }
@@ -460,52 +344,37 @@ fn survey_members(
     count: u32,
     size: u32,
     levels: usize,
-) -> Surveyed
+) -> Option<Survey>
     ensures { result ≡ survey_in size (members_at (type_at levels table.now pool.now) table.now pool.now count row place) }
 {
     let mut r = row;
     let mut p = place;
-    let mut left = count;
-    let mut zero = zero_note(7, size);
+    let mut zero = (size == 0).then_some(6);
     let mut outside = false;
     let mut heap = false;
     let mut object = false;
     let mut file = false;
-    while left > 0 {
-        let member = member_at(table, pool, r, p);
-        match member {
-            Member::Unnamed => {
-                return Surveyed::Unsound;
-            }
-            Member::Named(offset, length) => {
-                let got = survey_inner(table, pool, r + 1, p + length as usize, levels);
-                match got {
-                    Surveyed::Unsound => {
-                        return Surveyed::Unsound;
-                    }
-                    Surveyed::Sound(s) => {
-                        r = s.row;
-                        p = s.place;
-                        zero = first_of(zero, s.zero);
-                        outside = either(outside, either(past(offset, s.size, size), s.outside));
-                        heap = either(heap, s.heap);
-                        object = either(object, s.object);
-                        file = either(file, s.file);
-                        left -= 1;
-                    }
-                }
-            }
-        }
+    for _ in 0..count {
+        let member = member_at(table, pool, r, p)?;
+        let s = survey_inner(table, pool, r + 1, p + member.name as usize, levels)?;
+        let past = u64::from(size) < u64::from(member.number) + u64::from(s.size);
+        r = s.row;
+        p = s.place;
+        zero = zero.or(s.zero);
+        outside = outside | past | s.outside;
+        heap |= s.heap;
+        object |= s.object;
+        file |= s.file;
     }
-    Surveyed::Sound(Survey {
+    Some(Survey {
         row: r,
         place: p,
-        size: size,
-        zero: zero,
-        outside: outside,
-        heap: heap,
-        object: object,
-        file: file,
+        size,
+        zero,
+        outside,
+        heap,
+        object,
+        file,
     })
 }
 
@@ -528,31 +397,20 @@ pub fn ends_at(table: &[u32], pool: &[u8], row: usize, place: usize) -> bool
 }
 
 // Whether a table and pool set out exactly one type, and what a walk over it finds: row and place are its numbers of rows and pool bytes.
-pub fn check(table: &[u32], pool: &[u8]) -> Checked
+pub fn check(table: &[u32], pool: &[u8]) -> Option<Survey>
     ensures { Checks table.now pool.now result }
 {
-    let got = survey_type(table, pool, 0, 0, 32);
-    match got {
-        Surveyed::Unsound => Checked::Bad,
-        Surveyed::Sound(s) => {
-            if ends_at(table, pool, s.row, s.place) {
-                return Checked::Good(s);
-            }
-            Checked::Bad
-        }
-    }
+    let s = survey_type(table, pool, 0, 0, 32)?;
+    ends_at(table, pool, s.row, s.place).then_some(s)
 }
 
 // The size in bytes of one element: `type_size`. Refused: BadTable, for which document 01 sets nothing down in sizes and predicates. Cost: one
 // pass over the table and the pool's rest.
-pub fn type_size(table: &[u32], pool: &[u8]) -> Sized
+pub fn type_size(table: &[u32], pool: &[u8]) -> Result<u32, Refusal>
     ensures { SizedAs (sizing table.now pool.now) result }
 {
-    let checked = check(table, pool);
-    match checked {
-        Checked::Bad => Sized::Refused(Refusal::BadTable),
-        Checked::Good(s) => Sized::Size(s.size),
-    }
+    let s = check(table, pool).ok_or(Refusal::BadTable)?;
+    Ok(s.size)
 }
 
 // The class of a type's row.
@@ -564,19 +422,14 @@ fn class_of(kind: u32) -> u8
 }
 
 // The same, not 0: `element_size`. Refused: BadTable, ZeroSize of the outermost type's class. Cost: as `type_size`.
-pub fn element_size(table: &[u32], pool: &[u8]) -> Sized
+pub fn element_size(table: &[u32], pool: &[u8]) -> Result<u32, Refusal>
     ensures { SizedAs (element_sizing table.now pool.now) result }
 {
-    let checked = check(table, pool);
-    match checked {
-        Checked::Bad => Sized::Refused(Refusal::BadTable),
-        Checked::Good(s) => {
-            if s.size == 0 {
-                return Sized::Refused(Refusal::ZeroSize(class_of(table[0])));
-            }
-            Sized::Size(s.size)
-        }
+    let s = check(table, pool).ok_or(Refusal::BadTable)?;
+    if s.size == 0 {
+        return Err(Refusal::ZeroSize(class_of(table[0])));
     }
+    Ok(s.size)
 }
 
 // Whether a type of the class in a message's first byte could hold an object address: classes 6 to 10, and not 11, as in the Rust.
@@ -591,25 +444,19 @@ pub fn class_may_hold_object_address(byte: u8) -> bool
 }
 
 // Whether the type holds a reference at any level. Refused: BadTable. Cost: as `type_size`.
-pub fn datatype_holds_object_address(table: &[u32], pool: &[u8]) -> Held
+pub fn datatype_holds_object_address(table: &[u32], pool: &[u8]) -> Result<bool, Refusal>
     ensures { HeldAs (object_address_held table.now pool.now) result }
 {
-    let checked = check(table, pool);
-    match checked {
-        Checked::Bad => Held::Refused(Refusal::BadTable),
-        Checked::Good(s) => { if s.object { Held::Yes } else { Held::No } }
-    }
+    let s = check(table, pool).ok_or(Refusal::BadTable)?;
+    Ok(s.object)
 }
 
 // Whether the type holds a reference or a variable-length type at any level. Refused: BadTable. Cost: as `type_size`.
-pub fn datatype_holds_file_address(table: &[u32], pool: &[u8]) -> Held
+pub fn datatype_holds_file_address(table: &[u32], pool: &[u8]) -> Result<bool, Refusal>
     ensures { HeldAs (file_address_held table.now pool.now) result }
 {
-    let checked = check(table, pool);
-    match checked {
-        Checked::Bad => Held::Refused(Refusal::BadTable),
-        Checked::Good(s) => { if s.file { Held::Yes } else { Held::No } }
-    }
+    let s = check(table, pool).ok_or(Refusal::BadTable)?;
+    Ok(s.file)
 }
 
 // Where in the pool the name of the member lies whose row this is; the empty part at the pool's start for a bad table, a row that is no
@@ -621,26 +468,20 @@ pub fn name_part(table: &[u32], pool: &[u8], row: usize) -> NamePart
         place: 0,
         length: 0,
     };
-    let checked = check(table, pool);
-    match checked {
-        Checked::Bad => none,
-        Checked::Good(s) => {
-            if s.row <= row {
-                return none;
-            }
-            let at = row * 16;
-            let kind = table[at];
-            if kind < 12 {
-                return none;
-            }
-            let place = table[at + 2] as usize;
-            let length = table[at + 3] as usize;
-            NamePart {
-                place: place,
-                length: length,
-            }
-        }
+    let Some(s) = check(table, pool) else {
+        return none;
+    };
+    if s.row <= row {
+        return none;
     }
+    let at = row * 16;
+    let kind = table[at];
+    if kind < 12 {
+        return none;
+    }
+    let place = table[at + 2] as usize;
+    let length = table[at + 3] as usize;
+    NamePart { place, length }
 }
 
 // The name of the member whose row this is, as the part of the pool that holds it; the empty part at the pool's start where there is none.
@@ -657,12 +498,12 @@ pub fn member_name<'a>(table: &[u32], pool: &'a [u8], row: usize) -> &'a [u8]
 
 // How many rows and pool bytes the type uses: a table and pool cut to them set out the same type, and each call on them has no zeros behind
 // it to look at. Refused: BadTable. Cost: as `type_size`.
-pub fn extent(table: &[u32], pool: &[u8]) -> Using
+pub fn extent(table: &[u32], pool: &[u8]) -> Result<Used, Refusal>
     ensures { UsedAs (extending table.now pool.now) result }
 {
-    let checked = check(table, pool);
-    match checked {
-        Checked::Bad => Using::Refused(Refusal::BadTable),
-        Checked::Good(s) => Using::Used(s.row, s.place),
-    }
+    let s = check(table, pool).ok_or(Refusal::BadTable)?;
+    Ok(Used {
+        rows: s.row,
+        bytes: s.place,
+    })
 }

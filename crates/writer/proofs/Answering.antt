@@ -1,9 +1,12 @@
 -- The answers of `write`, refusal by refusal, and what it leaves in `out`.
+use Rattle.std.specs.Prelude.{Option, Some, None, Result, Ok, Err}
+use Rattle.std.specs.Result.{result_ok}
+use Rattle.std.specs.Option.{ok_or}
 use Prim.Native.Nat.{ℕ, ◌+◌, ◌*◌, ◌<◌, ◌≤◌}
 use mathlib.Core.Path.{◌≡◌, refl, sym, ap, ◌∙◌}
 use mathlib.Core.Logic.{inl, inr}
 use mathlib.Core.Bool.{Bool, true, false, not}
-use mathlib.Core.List.{List, [], ◌∷◌, ◌++◌}
+use mathlib.Core.List.{List, ◌++◌}
 use native.Mathlib.Omega.{arith}
 use native.Mathlib.Nat.{min-eq_left}
 use lib.ListN.{length, get_or, drop}
@@ -11,8 +14,9 @@ use borrow.Author.Tests.{not-true, not-false}
 use Rattle.refusal.specs.declared.Refusal.{Refusal}
 use Rattle.refusal.specs.declared.Refusal.TheVariants.{BadTable, NoSuchEdition, Unstorable, NotInEdition, NoRoom}
 use Rattle.format.specs.Datatype.{Datatype}
-use Rattle.format.specs.Message.{message, message_length, storable, carried}
-use Rattle.format.specs.Outcome.{Outcome, gives, refuses, output_after, needed, outcome_number, outcome_values}
+use Rattle.format.specs.Message.{message, message_length, storable, carried, writing}
+use Rattle.format.specs.Outcome.{gives, refuses, output_after, needed}
+use Rattle.format.proofs.Outcomes.{answers-given, answers-refused}
 use Rattle.format.specs.Table.{WithinLimits, Found, found, bad, type_at, type_of}
 use Rattle.format.proofs.Bytes.{all-bytes}
 use Rattle.format.proofs.Lists.{sets-front}
@@ -20,55 +24,46 @@ use Rattle.format.proofs.Table.{type_of_sound}
 use Rattle.format.proofs.Written.{length-message, writing-bad-table, writing_no_edition, writing_unstorable, writing-not_in_edition, writing_no_room, writing-given}
 use Rattle.table.specs.Survey.{ends_at, Checks}
 use Rattle.table.specs.declared.Survey.{Survey}
-use Rattle.table.specs.declared.Checked.{Checked}
-use Rattle.table.specs.declared.Checked.TheVariants.{Good, Bad}
 use Rattle.table.proofs.Checking.{stands-fits, whole-given, whole-refused, none-refused}
 use Rattle.measure.specs.Measure.{measure_of, most_length}
 use Rattle.measure.specs.declared.Measure.{Measure}
-use Rattle.measure.specs.declared.Measured.{Measured}
-use Rattle.measure.specs.declared.Measured.TheVariants.{At as MeasuredAt, Lost as MeasuredLost}
 use Rattle.measure.proofs.Bounds.{message-below, length-exact}
 use Rattle.measure.proofs.Measures.{Told, told, untold}
 use Rattle.writer_parts.specs.Places.{Stands}
-use Rattle.writer_parts.specs.declared.Put.{Put}
-use Rattle.writer_parts.specs.declared.Put.TheVariants.{At, Lost}
 use Rattle.writer_parts.specs.declared.Written.{Written}
 use Rattle.writer_parts.proofs.Placing.{no_at}
-use Rattle.writer.specs.Writes.{PutsType, writing_number, writing_values, answer_of, Answers, Writes}
-use Rattle.writer.specs.declared.Writing.{Writing}
-use Rattle.writer.specs.declared.Writing.TheVariants.{Written as AnswerWritten, Refused as AnswerRefused}
+use Rattle.writer.specs.Writes.{PutsType, Writes}
 use Rattle.writer.proofs.Compounds.{found-puts}
 
--- ---- an outcome's answer
+-- ---- an answer by its outcome
 
-module _ {o : Outcome (List ℕ)} {out : List ℕ} where
-  refused : {e : Refusal} → o ≡ refuses e → Answers o (AnswerRefused e) out out
-  unfolding answer_of writing_number writing_values outcome_number outcome_values output_after
-  refused h =
-      record {
-        answer = sym (ap answer_of h);
-        number = sym (ap outcome_number h);
-        values = sym (ap (outcome_values (λ s. length s ∷ [])) h);
-        out-is = sym (ap (output_after out) h);
-      }
+module _ (table pool : List ℕ) (e : ℕ) {out : List ℕ} where
+  refused : {f : Refusal} → writing table pool e (length out) ≡ refuses f → Writes table pool e (Err f) out out
+  unfolding output_after
+  refused h = record { answers = answers-refused _ _ _ _ _ h refl; out-is = sym (ap (output_after out) h) }
 
-  given : {s out' : List ℕ} {n : ℕ} → o ≡ gives s → n ≡ length s → out' ≡ s ++ drop (length s) out → Answers o (AnswerWritten n) out out'
-  unfolding answer_of writing_number writing_values outcome_number outcome_values output_after
-  given h e w =
-      record {
-        answer = ap AnswerWritten e ∙ sym (ap answer_of h);
-        number = sym (ap outcome_number h);
-        values = ap (λ (n : ℕ). n ∷ []) e ∙ sym (ap (outcome_values (λ s. length s ∷ [])) h);
-        out-is = w ∙ sym (ap (output_after out) h);
-      }
+  given : {s out' : List ℕ} {n : ℕ} → writing table pool e (length out) ≡ gives s → n ≡ length s → out' ≡ s ++ drop (length s) out → Writes table pool e (Ok n) out out'
+  unfolding output_after
+  given h q w = record { answers = answers-given _ _ _ _ _ h (ap Ok q); out-is = w ∙ sym (ap (output_after out) h) }
+
+-- what an option was that `ok_or` turned
+pub some_in : {A E : Type 0} {o : Option A} {r : Result A E} {x : A} → o ≡ result_ok r → r ≡ Ok x → o ≡ Some x
+some_in h q = h ∙ ap result_ok q
+
+pub none_in : {A E : Type 0} {o : Option A} {r : Result A E} {e : E} → o ≡ result_ok r → r ≡ Err e → o ≡ None
+none_in h q = h ∙ ap result_ok q
+
+pub ok_or-error : {A E : Type 0} (o : Option A) {r : Result A E} {e f : E} → r ≡ ok_or o e → r ≡ Err f → f ≡ e
+ok_or-error (Some x) {e = e} {f = f} h q = let z : Ok x ≡ Err f = sym h ∙ q in cc
+ok_or-error None {e = e} {f = f} h q = let z : Err e ≡ Err f = sym h ∙ q in cc
 
 -- ---- a type that is measured
 
-module _ (table pool : List ℕ) (e : ℕ) {y : Measured} (q : y ≡ measure_of e (type_at 32 table pool 0 0)) where
-  pub write_lost : (out : List ℕ) → y ≡ MeasuredLost → Writes table pool e (AnswerRefused BadTable) out out
-  write_lost out l = refused (writing-bad-table table pool e (length out) (none-refused table pool (untold e (type_at 32 table pool 0 0) q l)))
+module _ (table pool : List ℕ) (e : ℕ) {y : Option Measure} (q : y ≡ measure_of e (type_at 32 table pool 0 0)) where
+  pub write_lost : (out : List ℕ) → y ≡ None → Writes table pool e (Err BadTable) out out
+  write_lost out l = refused table pool e (writing-bad-table table pool e (length out) (none-refused table pool (untold e (type_at 32 table pool 0 0) q l)))
 
-  module _ {m : Measure} (i : y ≡ MeasuredAt m) where
+  module _ {m : Measure} (i : y ≡ Some m) where
     -- the type that the walk found
     record Measuring : Type 0 where
       pub type : Datatype
@@ -105,24 +100,24 @@ module _ (table pool : List ℕ) (e : ℕ) {y : Measured} (q : y ≡ measure_of 
     place-fits small = (stands-fits table pool 32 t m.row m.place small measuring.stands).1
 
     module _ (out : List ℕ) {u : Bool} (w : u ≡ ends_at table pool m.row m.place) where
-      pub write_behind : not u ≡ true → Writes table pool e (AnswerRefused BadTable) out out
-      write_behind n = refused (writing-bad-table table pool e (length out) (whole-refused table pool t m.row m.place measuring.stands (sym w ∙ not-true u n)))
+      pub write_behind : not u ≡ true → Writes table pool e (Err BadTable) out out
+      write_behind n = refused table pool e (writing-bad-table table pool e (length out) (whole-refused table pool t m.row m.place measuring.stands (sym w ∙ not-true u n)))
 
       module _ (n : not u ≡ false) (lo : 1 ≤ e) (hi : e ≤ 3) where
         is : type_of table pool ≡ gives t
         is = whole-given table pool t m.row m.place measuring.stands (sym w ∙ not-false u n)
 
-        pub write_unstorable : not m.storable ≡ true → Writes table pool e (AnswerRefused Unstorable) out out
+        pub write_unstorable : not m.storable ≡ true → Writes table pool e (Err Unstorable) out out
         write_unstorable s =
-            refused (writing_unstorable table pool e (length out) t is lo hi (sym measuring.storable-is ∙ not-true m.storable s))
+            refused table pool e (writing_unstorable table pool e (length out) t is lo hi (sym measuring.storable-is ∙ not-true m.storable s))
 
         module _ (s : not m.storable ≡ false) where
           is-storable : storable t ≡ true
           is-storable = sym measuring.storable-is ∙ not-false m.storable s
 
-          pub write_not-carried : not m.carried ≡ true → Writes table pool e (AnswerRefused NotInEdition) out out
+          pub write_not-carried : not m.carried ≡ true → Writes table pool e (Err NotInEdition) out out
           write_not-carried c =
-              refused (writing-not_in_edition table pool e (length out) t is lo hi is-storable (sym measuring.carried-is ∙ not-true m.carried c))
+              refused table pool e (writing-not_in_edition table pool e (length out) t is lo hi is-storable (sym measuring.carried-is ∙ not-true m.carried c))
 
           module _ (c : not m.carried ≡ false) (small : (i : ℕ) → get_or pool i 0 < 256) where
             is_carried : carried e t ≡ true
@@ -138,33 +133,33 @@ module _ (table pool : List ℕ) (e : ℕ) {y : Measured} (q : y ≡ measure_of 
             unfolding needed
             needs_all = min-eq_left (omega (arith, message-below e t, within.rows_fit, within.pool-fits)) ∙ sym exact
 
-            pub write_no_room : length out < m.length → Writes table pool e (AnswerRefused (NoRoom m.length)) out out
-            write_no_room l = refused (writing_no_room table pool e (length out) t is lo hi is-storable is_carried (omega (arith, exact)) ∙ ap (λ (n : ℕ). refuses (NoRoom n)) needs_all)
+            pub write_no_room : length out < m.length → Writes table pool e (Err (NoRoom m.length)) out out
+            write_no_room l = refused table pool e (writing_no_room table pool e (length out) t is lo hi is-storable is_carried (omega (arith, exact)) ∙ ap (λ (n : ℕ). refuses (NoRoom n)) needs_all)
 
-            module _ (l : m.length ≤ length out) {z : Put} {out' : List ℕ} (k : PutsType e 0 (type_at 32 table pool 0 0) z out out') where
+            module _ (l : m.length ≤ length out) {z : Option Written} {out' : List ℕ} (k : PutsType e 0 (type_at 32 table pool 0 0) z out out') where
               stood : Stands (message e t) m.row m.place 0 z out out'
               stood = let j : PutsType e 0 (found t m.row m.place) z out out' = rw measuring.stands at k in found-puts j is-storable is_carried
 
               fits : 0 + length (message e t) ≤ length out
               fits = omega (arith, length-message e t, exact)
 
-              pub write_unput : {r : Writing} → z ≡ Lost → Writes table pool e r out out'
+              pub write_unput : {r : Result ℕ Refusal} → z ≡ None → Writes table pool e r out out'
               write_unput f = absurd (no_at (sym f ∙ stood.answer fits))
 
-              pub write_written : {v : Written} → z ≡ At v → Writes table pool e (AnswerWritten m.length) out out'
+              pub write_written : {v : Written} → z ≡ Some v → Writes table pool e (Ok m.length) out out'
               write_written f =
-                  given (writing-given table pool e (length out) t is lo hi is-storable is_carried (omega (arith, exact))) (exact ∙ sym (length-message e t))
+                  given table pool e (writing-given table pool e (length out) t is lo hi is-storable is_carried (omega (arith, exact))) (exact ∙ sym (length-message e t))
                   (stood.written fits ∙ sets-front (message e t) out (omega (arith, fits)))
 
 -- ---- an edition that there is not
 
-module _ (table pool : List ℕ) (e : ℕ) (out : List ℕ) {x : Checked} (k : Checks table pool x) where
-  pub write_bad : x ≡ Bad → Writes table pool e (AnswerRefused BadTable) out out
-  write_bad b = refused (writing-bad-table table pool e (length out) (k.bad-table b))
+module _ (table pool : List ℕ) (e : ℕ) (out : List ℕ) {x : Option Survey} (k : Checks table pool x) where
+  pub write_bad : x ≡ None → Writes table pool e (Err BadTable) out out
+  write_bad b = refused table pool e (writing-bad-table table pool e (length out) (k.bad-table b))
 
-  module _ {s : Survey} (g : x ≡ Good s) where
-    pub write_none : e < 1 → Writes table pool e (AnswerRefused NoSuchEdition) out out
-    write_none l = let w = k.good s g in refused (writing_no_edition table pool e (length out) w.type w.is (inl l))
+  module _ {s : Survey} (g : x ≡ Some s) where
+    pub write_none : e < 1 → Writes table pool e (Err NoSuchEdition) out out
+    write_none l = let w = k.good s g in refused table pool e (writing_no_edition table pool e (length out) w.type w.is (inl l))
 
-    pub write_past : 4 ≤ e → Writes table pool e (AnswerRefused NoSuchEdition) out out
-    write_past l = let w = k.good s g in refused (writing_no_edition table pool e (length out) w.type w.is (inr (omega arith)))
+    pub write_past : 4 ≤ e → Writes table pool e (Err NoSuchEdition) out out
+    write_past l = let w = k.good s g in refused table pool e (writing_no_edition table pool e (length out) w.type w.is (inr (omega arith)))

@@ -1,10 +1,12 @@
 -- The members of a compound, one a turn: the answer of the whole is that of the members left.
+use Rattle.std.specs.Prelude.{Option, Some, None}
 use Prim.Native.Nat.{ℕ, zero, suc, ◌+◌, ◌-◌, ◌<◌, ◌≤◌}
 use mathlib.Core.Path.{◌≡◌, refl, sym, ap, ◌∙◌}
 use mathlib.Core.Bool.{true}
 use mathlib.Core.List.{List, [], ◌++◌, append_assoc}
 use native.Mathlib.Omega.{arith}
 use native.Mathlib.Numerals.{add-one}
+use native.Mathlib.Nat.{sub-zero}
 use lib.ListN.{length, take, drop, length-append}
 use Rattle.format.specs.Bytes.{little_endian, zeros}
 use Rattle.format.specs.Datatype.{Datatype, Members, member, member_count_of}
@@ -12,16 +14,11 @@ use Rattle.format.specs.Message.{message, member_bytes, name_bytes, offset_width
 use Rattle.format.specs.Table.{Found, found, bad, Walk, and_then, members_at}
 use Rattle.format.proofs.Booleans.{and_both}
 use Rattle.format.proofs.Storable.{Facts, all_facts}
-use Rattle.rows.specs.Entries.{member_at_of, MemberInside, MemberIfKnown, member_name_length, from_member}
+use Rattle.rows.specs.Entries.{member_at_of, MemberInside, IfKnown, from_member}
 use Rattle.rows.specs.declared.Member.{Member}
-use Rattle.rows.specs.declared.Member.TheVariants.{Named, Unnamed}
 use Rattle.rows.proofs.Decode.{members_at-entry, named-inside}
 use Rattle.rows.proofs.Known.{claim_of-members}
 use Rattle.writer_parts.specs.Places.{Places, PlacesFrom, Stands}
-use Rattle.writer_parts.specs.declared.Placed.{Placed}
-use Rattle.writer_parts.specs.declared.Placed.TheVariants.{Behind, Full}
-use Rattle.writer_parts.specs.declared.Put.{Put}
-use Rattle.writer_parts.specs.declared.Put.TheVariants.{At, Lost}
 use Rattle.writer_parts.specs.declared.Written.{Written}
 use Rattle.writer_parts.proofs.Placing.{none-placed, stands, stands-behind, lost-behind, row-known, placed, unplaced, where_fits}
 use Rattle.writer.specs.Writes.{PutsFound, PutsType, PutsFoundMembers, PutsMembers}
@@ -44,10 +41,10 @@ module _ (rd : Walk Datatype) (table pool : List ℕ) where
   many-type k b o (found t r p) h = many_cons k b o t (members_at rd table pool k r p) (h r p)
   many-type k b o bad h = unfold Many in tt
 
-  many-entry : (k r p : ℕ) (m : Member) → ((r p : ℕ) → Many k (members_at rd table pool k r p)) → Many (suc k) (from_member rd (members_at rd table pool k) pool r p m)
+  many-entry : (k r p : ℕ) (m : Option Member) → ((r p : ℕ) → Many k (members_at rd table pool k r p)) → Many (suc k) (from_member rd (members_at rd table pool k) pool r p m)
   unfolding from_member
-  many-entry k r p (Named o n) h = many-type k _ o (rd (suc r) (p + n)) h
-  many-entry k r p Unnamed h = unfold Many in tt
+  many-entry k r p (Some m) h = many-type k _ m.number (rd (suc r) (p + m.name)) h
+  many-entry k r p None h = unfold Many in tt
 
   many-members : (k r p : ℕ) → Many k (members_at rd table pool k r p)
   many-members zero r p = unfold Many members_at member_count_of in refl
@@ -60,26 +57,26 @@ module _ (rd : Walk Datatype) (table pool : List ℕ) where
   -- ---- one member
 
   module _ (r p : ℕ) where
-    members_as : (k : ℕ) {m : Member} {o n : ℕ} → 0 < k → m ≡ member_at_of table pool r p → m ≡ Named o n
-        → members_at rd table pool k r p ≡ and_then (rd (r + 1) (p + n)) (λ t r₁ p₁. and_then (members_at rd table pool (k - 1) r₁ p₁) (λ ms r₂ p₂. found (member (take n (drop p pool)) o t ms) r₂ p₂))
+    members_as : (k : ℕ) {m : Option Member} {u : Member} → 0 < k → m ≡ member_at_of table pool r p → m ≡ Some u
+        → members_at rd table pool k r p ≡ and_then (rd (r + 1) (p + u.name)) (λ t r₁ p₁. and_then (members_at rd table pool (k - 1) r₁ p₁) (λ ms r₂ p₂. found (member (take u.name (drop p pool)) u.number t ms) r₂ p₂))
     unfolding from_member
     members_as (suc k) h q e =
         let j : suc k - 1 ≡ k = omega arith in
         members_at-entry table pool k r p rd ∙ ap (from_member rd (members_at rd table pool k) pool r p) (sym q ∙ e) ∙ rw (j, add-one)
     members_as zero h q e = absurd (omega arith)
 
-    members-none : (k : ℕ) {m : Member} → 0 < k → m ≡ member_at_of table pool r p → m ≡ Unnamed → members_at rd table pool k r p ≡ bad
+    members-none : (k : ℕ) {m : Option Member} → 0 < k → m ≡ member_at_of table pool r p → m ≡ None → members_at rd table pool k r p ≡ bad
     unfolding from_member
     members-none (suc k) h q e = members_at-entry table pool k r p rd ∙ ap (from_member rd (members_at rd table pool k) pool r p) (sym q ∙ e)
     members-none zero h q e = absurd (omega arith)
 
 -- what is ensured of a type, or of members, that are found
-pub found-puts : {e at : ℕ} {t : Datatype} {r p : ℕ} {x : Put} {out out' : List ℕ} → PutsType e at (found t r p) x out out' → storable t ≡ true → carried e t ≡ true
+pub found-puts : {e at : ℕ} {t : Datatype} {r p : ℕ} {x : Option Written} {out out' : List ℕ} → PutsType e at (found t r p) x out out' → storable t ≡ true → carried e t ≡ true
     → Stands (message e t) r p at x out out'
 unfolding PutsFound
 found-puts h = h.puts
 
-pub found-members : {e n at : ℕ} {ms : Members} {r p : ℕ} {x : Put} {out out' : List ℕ} → PutsMembers e n at (found ms r p) x out out' → storable_members n ms ≡ true → carried_members e ms ≡ true
+pub found-members : {e n at : ℕ} {ms : Members} {r p : ℕ} {x : Option Written} {out out' : List ℕ} → PutsMembers e n at (found ms r p) x out out' → storable_members n ms ≡ true → carried_members e ms ≡ true
     → Stands (member_bytes e n ms) r p at x out out'
 unfolding PutsFoundMembers
 found-members h = h.puts
@@ -101,37 +98,37 @@ module _ (e s : ℕ) (b : List ℕ) (o : ℕ) (t : Datatype) (ms : Members) wher
   unfolding carried_members
   first-carried h = and_both (carried e t) (carried_members e ms) h
 
-module _ (e s a o : ℕ) (b out : List ℕ) {y : Placed} {out₁ : List ℕ} (h : Places (head_bytes e s b o) a y out out₁) where
+module _ (e s a o : ℕ) (b out : List ℕ) {y : Option ℕ} {out₁ : List ℕ} (h : Places (head_bytes e s b o) a y out out₁) where
   -- no room for what stands before the message
-  head-lost : y ≡ Full → (x : Found Datatype) (rest : Walk Members) (out' : List ℕ)
-      → PutsFoundMembers e s a (and_then x (λ t r₁ p₁. and_then (rest r₁ p₁) (λ ms r₂ p₂. found (member b o t ms) r₂ p₂))) Lost out out'
+  head-lost : y ≡ None → (x : Found Datatype) (rest : Walk Members) (out' : List ℕ)
+      → PutsFoundMembers e s a (and_then x (λ t r₁ p₁. and_then (rest r₁ p₁) (λ ms r₂ p₂. found (member b o t ms) r₂ p₂))) None out out'
   unfolding and_then
   head-lost f (found t r p) rest out' = go (rest r p)
     where
-      go : (z : Found Members) → PutsFoundMembers e s a (and_then z (λ ms r₂ p₂. found (member b o t ms) r₂ p₂)) Lost out out'
+      go : (z : Found Members) → PutsFoundMembers e s a (and_then z (λ ms r₂ p₂. found (member b o t ms) r₂ p₂)) None out out'
       go (found ms r₂ p₂) = unfold PutsFoundMembers and_then in λ g k. rw (member_is e s b o t ms) (lost-behind (head_bytes e s b o) _ r₂ p₂ a out h f)
       go bad = unfold PutsFoundMembers and_then in tt
   head-lost f bad rest out' = unfold PutsFoundMembers in tt
 
-  module _ {d : ℕ} (f : y ≡ Behind d) where
+  module _ {d : ℕ} (f : y ≡ Some d) where
     -- no room for the message
-    type-lost : (x : Found Datatype) {z : Put} {out₂ : List ℕ} → PutsType e d x z out₁ out₂ → z ≡ Lost → (rest : Walk Members) (out' : List ℕ)
-        → PutsFoundMembers e s a (and_then x (λ t r₁ p₁. and_then (rest r₁ p₁) (λ ms r₂ p₂. found (member b o t ms) r₂ p₂))) Lost out out'
+    type-lost : (x : Found Datatype) {z : Option Written} {out₂ : List ℕ} → PutsType e d x z out₁ out₂ → z ≡ None → (rest : Walk Members) (out' : List ℕ)
+        → PutsFoundMembers e s a (and_then x (λ t r₁ p₁. and_then (rest r₁ p₁) (λ ms r₂ p₂. found (member b o t ms) r₂ p₂))) None out out'
     unfolding and_then
     type-lost (found t r p) {z = z} {out₂ = out₂} k l rest out' = go (rest r p)
       where
-        go : (w : Found Members) → PutsFoundMembers e s a (and_then w (λ ms r₂ p₂. found (member b o t ms) r₂ p₂)) Lost out out'
+        go : (w : Found Members) → PutsFoundMembers e s a (and_then w (λ ms r₂ p₂. found (member b o t ms) r₂ p₂)) None out out'
         go (found ms r₂ p₂) =
             unfold PutsFoundMembers and_then in λ g c.
             let n : Stands (message e t) r p d z out₁ out₂ = found-puts k (first-storable e s b o t ms g).0 (first-carried e s b o t ms c).0 in
-            let v : Places (message e t) d Full out₁ out' = unplaced n l in
-            let m : Stands (message e t ++ member_bytes e s ms) r₂ p₂ d Lost out₁ out' = lost-behind (message e t) (member_bytes e s ms) r₂ p₂ d out₁ v refl in
+            let v : Places (message e t) d None out₁ out' = unplaced n l in
+            let m : Stands (message e t ++ member_bytes e s ms) r₂ p₂ d None out₁ out' = lost-behind (message e t) (member_bytes e s ms) r₂ p₂ d out₁ v refl in
             rw (member_is e s b o t ms) (stands-behind (head_bytes e s b o) _ r₂ p₂ a out h f m)
         go bad = unfold PutsFoundMembers and_then in tt
     type-lost bad k l rest out' = unfold PutsFoundMembers in tt
 
     -- the message stands, and the others behind it
-    type_put : (x : Found Datatype) {z : Put} {out₂ : List ℕ} {w : Written} → PutsType e d x z out₁ out₂ → z ≡ At w → (rest : Walk Members) (u : Put) (out' : List ℕ)
+    type_put : (x : Found Datatype) {z : Option Written} {out₂ : List ℕ} {w : Written} → PutsType e d x z out₁ out₂ → z ≡ Some w → (rest : Walk Members) (u : Option Written) (out' : List ℕ)
         → PutsMembers e s w.at (rest w.row w.place) u out₂ out'
         → PutsFoundMembers e s a (and_then x (λ t r₁ p₁. and_then (rest r₁ p₁) (λ ms r₂ p₂. found (member b o t ms) r₂ p₂))) u out out'
     unfolding and_then
@@ -152,7 +149,7 @@ module _ (e s a o : ℕ) (b out : List ℕ) {y : Placed} {out₁ : List ℕ} (h 
     type_put bad k l rest u out' v = unfold PutsFoundMembers in tt
 
 -- a member whose row is read again: nothing is said where the row is unknown
-known-members : (rd : Walk Datatype) (table pool : List ℕ) (e s a k r p : ℕ) (x : Put) (out out' : List ℕ) {m : Member} → 0 < k → MemberIfKnown (member_at_of table pool r p) m
+known-members : (rd : Walk Datatype) (table pool : List ℕ) (e s a k r p : ℕ) (x : Option Written) (out out' : List ℕ) {m : Option Member} → 0 < k → IfKnown (member_at_of table pool r p) m
     → (m ≡ member_at_of table pool r p → PutsMembers e s a (members_at rd table pool k r p) x out out') → PutsMembers e s a (members_at rd table pool k r p) x out out'
 known-members rd table pool e s a (suc k) r p x out out' {m = m} h i c =
     claim_of-members table pool r p (λ y. PutsMembers e s a y x out out') (record { puts = unfold PutsFoundMembers in tt }) rd k m i (λ q. rw (members_at-entry table pool k r p rd, ← q) at (c q))
@@ -160,41 +157,52 @@ known-members rd table pool e s a zero r p x out out' h i c = absurd (omega arit
 
 -- ---- the loop
 
-pub record MembersLeft (rd : Walk Datatype) (table pool : List ℕ) (e s count row place at : ℕ) (out₀ : List ℕ) (k r p a : ℕ) (out : List ℕ) : Type 0 where
+-- i members are stored, and the others are those from `end` on
+pub record MembersLeft (rd : Walk Datatype) (table pool : List ℕ) (e s count row place at : ℕ) (out₀ : List ℕ) (i : ℕ) (end : Written) (out : List ℕ) : Type 0 where
   pub long : length out ≡ length out₀
-  pub rest : (x : Put) (out' : List ℕ) → PutsMembers e s a (members_at rd table pool k r p) x out out' → PutsMembers e s at (members_at rd table pool count row place) x out₀ out'
+  pub rest : (x : Option Written) (out' : List ℕ) → PutsMembers e s end.at (members_at rd table pool (count - i) end.row end.place) x out out' → PutsMembers e s at (members_at rd table pool count row place) x out₀ out'
 
 module _ {rd : Walk Datatype} {table pool : List ℕ} {e s count row place at : ℕ} {out₀ : List ℕ} where
-  pub members-begun : MembersLeft rd table pool e s count row place at out₀ count row place at out₀
-  members-begun = record { long = refl; rest = λ x o h. h }
+  pub members-begun : MembersLeft rd table pool e s count row place at out₀ 0 (record { row = row; place = place; at = at }) out₀
+  members-begun = record { long = refl; rest = λ x o h. rw sub-zero at h }
 
-  module _ {k r p a : ℕ} {out : List ℕ} (i : MembersLeft rd table pool e s count row place at out₀ k r p a out) where
-    pub members-ended : k ≤ 0 → PutsMembers e s at (members_at rd table pool count row place) (At (record { row = r; place = p; at = a })) out₀ out
+  module _ {j : ℕ} {end : Written} {out : List ℕ} (i : MembersLeft rd table pool e s count row place at out₀ j end out) where
+    abbrev r : ℕ
+    r = end.row
+
+    abbrev p : ℕ
+    p = end.place
+
+    abbrev a : ℕ
+    a = end.at
+
+    pub members-ended : count ≤ j → PutsMembers e s at (members_at rd table pool count row place) (Some end) out₀ out
     members-ended h =
-        let z : k ≡ 0 = omega arith in
+        let z : count - j ≡ 0 = omega arith in
         i.rest _ out (rw z (record { puts = unfold PutsFoundMembers members_at member_bytes in λ g c. stands [] r p a none-placed refl }))
 
-    module _ (h : 0 < k) {m : Member} (j : MemberIfKnown (member_at_of table pool r p) m) where
-      known : (x : Put) (out' : List ℕ) → (m ≡ member_at_of table pool r p → PutsMembers e s a (members_at rd table pool k r p) x out out') → PutsMembers e s at (members_at rd table pool count row place) x out₀ out'
-      known x out' c = i.rest x out' (known-members rd table pool e s a k r p x out out' h j c)
+    module _ (more : j < count) {m : Option Member} (h : IfKnown (member_at_of table pool r p) m) where
+      known : (x : Option Written) (out' : List ℕ) → (m ≡ member_at_of table pool r p → PutsMembers e s a (members_at rd table pool (count - j) r p) x out out') → PutsMembers e s at (members_at rd table pool count row place) x out₀ out'
+      known x out' c = i.rest x out' (known-members rd table pool e s a (count - j) r p x out out' (omega arith) h c)
 
-      pub members_unnamed : m ≡ Unnamed → PutsMembers e s at (members_at rd table pool count row place) Lost out₀ out
-      members_unnamed f = known Lost out (λ q. rw (members-none rd table pool r p k h q f) (record { puts = unfold PutsFoundMembers in tt }))
+      pub members_unnamed : m ≡ None → PutsMembers e s at (members_at rd table pool count row place) None out₀ out
+      members_unnamed f = known None out (λ q. rw (members-none rd table pool r p (count - j) (omega arith) q f) (record { puts = unfold PutsFoundMembers in tt }))
 
-      module _ {o n : ℕ} (f : m ≡ Named o n) {y : Placed} {out₁ : List ℕ} (g : PlacesFrom pool p n (head_bytes e s (take n (drop p pool)) o) a y out out₁) where
-        pub members-full : MemberInside m (length table) (length pool) r p (member_name_length m) → y ≡ Full → PutsMembers e s at (members_at rd table pool count row place) Lost out₀ out₁
-        members-full d v =
+      module _ {w : Member} (f : m ≡ Some w) {y : Option ℕ} {out₁ : List ℕ} (g : PlacesFrom pool p w.name (head_bytes e s (take w.name (drop p pool)) w.number) a y out out₁) where
+        pub members-full : MemberInside m (length table) (length pool) r p → y ≡ None → PutsMembers e s at (members_at rd table pool count row place) None out₀ out₁
+        members-full d l =
             let b = named-inside (length table) (length pool) r p f d in
-            known Lost out₁ (λ q. rw (members_as rd table pool r p k h q f) (record { puts = head-lost e s a o (take n (drop p pool)) out (g.places (omega (arith, b.1))) v (rd (r + 1) (p + n)) (members_at rd table pool (k - 1)) out₁ }))
+            known None out₁ (λ q. rw (members_as rd table pool r p (count - j) (omega arith) q f) (record { puts = head-lost e s a w.number (take w.name (drop p pool)) out (g.places (omega (arith, b.1))) l (rd (r + 1) (p + w.name)) (members_at rd table pool (count - j - 1)) out₁ }))
 
-        module _ {d : ℕ} (v : y ≡ Behind d) {z : Put} {out₂ : List ℕ} (t : PutsType e d (rd (r + 1) (p + n)) z out₁ out₂) where
-          pub members-lost : z ≡ Lost → PutsMembers e s at (members_at rd table pool count row place) Lost out₀ out₂
-          members-lost l = known Lost out₂ (λ q. rw (members_as rd table pool r p k h q f) (record { puts = type-lost e s a o (take n (drop p pool)) out (g.places (g.inside _ v)) v (rd (r + 1) (p + n)) t l (members_at rd table pool (k - 1)) out₂ }))
+        module _ {d : ℕ} (v : y ≡ Some d) {z : Option Written} {out₂ : List ℕ} (t : PutsType e d (rd (r + 1) (p + w.name)) z out₁ out₂) where
+          pub members-lost : z ≡ None → PutsMembers e s at (members_at rd table pool count row place) None out₀ out₂
+          members-lost l = known None out₂ (λ q. rw (members_as rd table pool r p (count - j) (omega arith) q f) (record { puts = type-lost e s a w.number (take w.name (drop p pool)) out (g.places (g.inside _ v)) v (rd (r + 1) (p + w.name)) t l (members_at rd table pool (count - j - 1)) out₂ }))
 
-          pub members-next : {w : Written} → z ≡ At w → length out₁ ≡ length out → length out₂ ≡ length out₁
-              → MembersLeft rd table pool e s count row place at out₀ (k - 1) w.row w.place w.at out₂
-          members-next l b c =
+          pub members-next : {c : Written} → z ≡ Some c → length out₁ ≡ length out → length out₂ ≡ length out₁
+              → MembersLeft rd table pool e s count row place at out₀ (j + 1) c out₂
+          members-next l b g₂ =
+              let k : count - (j + 1) ≡ count - j - 1 = omega arith in
               record {
-                long = c ∙ b ∙ i.long;
-                rest = λ x o' u. known x o' (λ q. rw (members_as rd table pool r p k h q f) (record { puts = type_put e s a o (take n (drop p pool)) out (g.places (g.inside _ v)) v (rd (r + 1) (p + n)) t l (members_at rd table pool (k - 1)) x o' u }));
+                long = g₂ ∙ b ∙ i.long;
+                rest = λ x o' u. known x o' (λ q. rw (members_as rd table pool r p (count - j) (omega arith) q f) (record { puts = type_put e s a w.number (take w.name (drop p pool)) out (g.places (g.inside _ v)) v (rd (r + 1) (p + w.name)) t l (members_at rd table pool (count - j - 1)) x o' (rw k at u) }));
               }

@@ -1,4 +1,5 @@
 -- The message of a type, by the entry of its row: one law for each way out of `put_type`.
+use Rattle.std.specs.Prelude.{Option, Some, None}
 use Prim.Native.Nat.{ℕ, zero, suc, ◌+◌, ◌-◌, ◌*◌, ◌/◌, ◌%◌, ◌<◌, ◌≤◌}
 use mathlib.Core.Path.{◌≡◌, refl, sym, ap, ◌∙◌}
 use mathlib.Core.Bool.{true}
@@ -17,26 +18,18 @@ use Rattle.format.proofs.Booleans.{and_both}
 use Rattle.format.proofs.Bytes.{all-bytes, bytes_take, bytes_drop, dimension_bytes-back, length-dimensions_from}
 use Rattle.format.proofs.Storable.{Facts, all_facts}
 use Rattle.format.proofs.TableSteps.{then-assoc}
-use Rattle.rows.specs.Entries.{entry_at, EntryInside, EntryIfKnown, from_entry}
+use Rattle.rows.specs.Entries.{entry_at, EntryInside, IfKnown, from_entry}
 use Rattle.rows.specs.declared.Entry.{Entry}
-use Rattle.rows.specs.declared.Entry.TheVariants.{Leaf, Compound, Enumeration, VariableLength, Array, Unknown}
+use Rattle.rows.specs.declared.Entry.TheVariants.{Leaf, Compound, Enumeration, VariableLength, Array}
 use Rattle.rows.proofs.Decode.{type_at_entry, array-inside}
 use Rattle.rows.proofs.Known.{claim_of-type}
 use Rattle.writer_parts.specs.Places.{Places, PlacesFrom, Stands}
 use Rattle.writer_parts.specs.Leaf.{PutsLeaf}
 use Rattle.writer_parts.specs.Enum.{PutsEnumOf, PutsEnum}
-use Rattle.writer_parts.specs.declared.Placed.{Placed}
-use Rattle.writer_parts.specs.declared.Placed.TheVariants.{Behind, Full}
-use Rattle.writer_parts.specs.declared.Put.{Put}
-use Rattle.writer_parts.specs.declared.Put.TheVariants.{At, Lost}
 use Rattle.writer_parts.specs.declared.Written.{Written}
 use Rattle.writer_parts.proofs.Placing.{stands-behind, lost-behind, row-known, placed, unplaced, where_fits}
 use Rattle.writer_parts.proofs.Leaves.{leaf-class, leaf-codes, leaf-message}
 use Rattle.writer_parts.proofs.Enums.{enum_count}
-use Rattle.table.specs.Survey.{survey_of}
-use Rattle.table.specs.declared.Survey.{Survey}
-use Rattle.table.specs.declared.Surveyed.{Surveyed}
-use Rattle.table.specs.declared.Surveyed.TheVariants.{Sound, Unsound}
 use Rattle.writer.specs.Writes.{PutsFound, PutsType, PutsMembers, size_in}
 use Rattle.writer.proofs.Compounds.{member-count, found-puts, found-members}
 
@@ -67,7 +60,7 @@ module _ (ds : List ℕ) (t : Datatype) where
   array-carried e h = (and_both (ltb 1 e) (carried e t) h).1
 
 -- what is ensured of an enumeration's members that are found
-enum_stands : {e at : ℕ} {table pool : List ℕ} {k r p : ℕ} {x : Put} {out out' : List ℕ} {ms : List EnumMember} {r' p' : ℕ} → PutsEnum e at table pool k r p x out out'
+enum_stands : {e at : ℕ} {table pool : List ℕ} {k r p : ℕ} {x : Option Written} {out out' : List ℕ} {ms : List EnumMember} {r' p' : ℕ} → PutsEnum e at table pool k r p x out out'
     → and_then (enum_names_at table pool k r p) (enum_values_at pool) ≡ found ms r' p' → Stands (enum_name_bytes e ms ++ enum_values ms) r' p' at x out out'
 unfolding PutsEnumOf
 enum_stands h q = rw q at h.puts
@@ -88,20 +81,20 @@ array_head_of e size k p pool = header 10 e 0 0 size ++ ((little_endian 1 k ++ z
 -- ---- by the entry of the row
 
 module _ (levels e at : ℕ) (table pool : List ℕ) (r p : ℕ) (out : List ℕ) where
-  pub type-shallow : levels ≡ 0 → PutsType e at (type_at levels table pool r p) Lost out out
+  pub type-shallow : levels ≡ 0 → PutsType e at (type_at levels table pool r p) None out out
   type-shallow h = rw h (record { puts = unfold PutsFound type_at in tt })
 
-  module _ (h : levels ≡ 0 → ⊥) {y : Entry} (known : EntryIfKnown (entry_at table pool r p) y) where
-    -- nothing is said where the row that is read again is unknown; elsewhere its entry is `y`
-    where_known : {x : Put} {out₁ : List ℕ} → (y ≡ entry_at table pool r p → PutsType e at (type_at levels table pool r p) x out out₁) → PutsType e at (type_at levels table pool r p) x out out₁
+  module _ (h : levels ≡ 0 → ⊥) {o : Option Entry} (known : IfKnown (entry_at table pool r p) o) where
+    -- nothing is said where the row that is read again is unknown; elsewhere its entry is `o`
+    where_known : {x : Option Written} {out₁ : List ℕ} → (o ≡ entry_at table pool r p → PutsType e at (type_at levels table pool r p) x out out₁) → PutsType e at (type_at levels table pool r p) x out out₁
     where_known {x = x} {out₁ = out₁} c = go levels h c
       where
-        go : (l : ℕ) → (l ≡ 0 → ⊥) → (y ≡ entry_at table pool r p → PutsType e at (type_at l table pool r p) x out out₁) → PutsType e at (type_at l table pool r p) x out out₁
+        go : (l : ℕ) → (l ≡ 0 → ⊥) → (o ≡ entry_at table pool r p → PutsType e at (type_at l table pool r p) x out out₁) → PutsType e at (type_at l table pool r p) x out out₁
         go zero n c = absurd (n refl)
         go (suc k) n c =
-            claim_of-type table pool r p (λ t. PutsType e at t x out out₁) (record { puts = unfold PutsFound in tt }) k y known (λ q. rw (type_at_entry k table pool r p, ← q) at (c q))
+            claim_of-type table pool r p (λ t. PutsType e at t x out out₁) (record { puts = unfold PutsFound in tt }) k o known (λ q. rw (type_at_entry k table pool r p, ← q) at (c q))
 
-    by_entry : y ≡ entry_at table pool r p → {z : Entry} → y ≡ z → type_at levels table pool r p ≡ from_entry (type_at (levels - 1) table pool) table pool r p z
+    by_entry : o ≡ entry_at table pool r p → {z : Option Entry} → o ≡ z → type_at levels table pool r p ≡ from_entry (type_at (levels - 1) table pool) table pool r p z
     by_entry q {z = z} i = go levels h
       where
         go : (l : ℕ) → (l ≡ 0 → ⊥) → type_at l table pool r p ≡ from_entry (type_at (l - 1) table pool) table pool r p z
@@ -110,130 +103,131 @@ module _ (levels e at : ℕ) (table pool : List ℕ) (r p : ℕ) (out : List ℕ
             let j : suc k - 1 ≡ k = omega arith in
             type_at_entry k table pool r p ∙ ap (from_entry (type_at k table pool) table pool r p) (sym q ∙ i) ∙ rw j
 
-    pub type_unknown : y ≡ Unknown → PutsType e at (type_at levels table pool r p) Lost out out
+    pub type_unknown : o ≡ None → PutsType e at (type_at levels table pool r p) None out out
     type_unknown i = where_known λ q. rw (by_entry q i) (record { puts = unfold PutsFound from_entry in tt })
 
-    pub type-leaf : {c n l x : ℕ} {z : Put} {out' : List ℕ} → y ≡ Leaf c n l x → (c ≤ 7 → PutsLeaf table pool r p c n l x at z out out') → PutsType e at (type_at levels table pool r p) z out out'
-    type-leaf {c = c} i k =
-        where_known λ q.
-        rw (by_entry q i)
-        (record { puts = unfold PutsFound from_entry in λ s d. rw (leaf-message table pool r p q i e s, ← add-one r) ((k (leaf-class table pool r p q i)).puts (leaf-codes table pool r p q i e s)) })
+    module _ {y : Entry} (says : o ≡ Some y) where
+      pub type-leaf : {c n l x : ℕ} {z : Option Written} {out' : List ℕ} → y ≡ Leaf c n l x → (c ≤ 7 → PutsLeaf table pool r p c n l x at z out out') → PutsType e at (type_at levels table pool r p) z out out'
+      type-leaf {c = c} i k =
+          where_known λ q.
+          rw (by_entry q (says ∙ ap Some i))
+          (record { puts = unfold PutsFound from_entry in λ s d. rw (leaf-message table pool r p q says i e s, ← add-one r) ((k (leaf-class table pool r p q says i)).puts (leaf-codes table pool r p q says i e s)) })
 
-    -- ---- a compound
+      -- ---- a compound
 
-    module _ {n k : ℕ} (i : y ≡ Compound n k) {w : Placed} {out₁ : List ℕ} (g : k < 65536 → Places (header 6 e (k % 256) (k / 256) n) at w out out₁) where
-      compound-is : (z : Found Members) → members_at (type_at (levels - 1) table pool) table pool k (r + 1) p ≡ z → (x : Put) (out₂ : List ℕ)
-          → ((ms : Members) (r' p' : ℕ) → z ≡ found ms r' p' → Places (header 6 e (k % 256) (k / 256) n) at w out out₁ → storable_members n ms ≡ true → carried_members e ms ≡ true
-          → Stands (header 6 e (k % 256) (k / 256) n ++ member_bytes e n ms) r' p' at x out out₂)
-          → PutsFound e at (and_then z (λ ms r' p'. found (compound n ms) r' p')) x out out₂
-      unfolding PutsFound and_then message carried
-      compound-is (found ms r' p') f x out₂ s =
-          let c : member_count_of ms ≡ k = member-count (type_at (levels - 1) table pool) table pool k (r + 1) p f in
-          λ u d.
-          let v = compound-storable e n ms u in
-          rw c (s ms r' p' refl (g (rw c at v.0)) v.1 d)
-      compound-is bad f x out₂ s = tt
+      module _ {n k : ℕ} (i : y ≡ Compound n k) {w : Option ℕ} {out₁ : List ℕ} (g : k < 65536 → Places (header 6 e (k % 256) (k / 256) n) at w out out₁) where
+        compound-is : (z : Found Members) → members_at (type_at (levels - 1) table pool) table pool k (r + 1) p ≡ z → (x : Option Written) (out₂ : List ℕ)
+            → ((ms : Members) (r' p' : ℕ) → z ≡ found ms r' p' → Places (header 6 e (k % 256) (k / 256) n) at w out out₁ → storable_members n ms ≡ true → carried_members e ms ≡ true
+            → Stands (header 6 e (k % 256) (k / 256) n ++ member_bytes e n ms) r' p' at x out out₂)
+            → PutsFound e at (and_then z (λ ms r' p'. found (compound n ms) r' p')) x out out₂
+        unfolding PutsFound and_then message carried
+        compound-is (found ms r' p') f x out₂ s =
+            let c : member_count_of ms ≡ k = member-count (type_at (levels - 1) table pool) table pool k (r + 1) p f in
+            λ u d.
+            let v = compound-storable e n ms u in
+            rw c (s ms r' p' refl (g (rw c at v.0)) v.1 d)
+        compound-is bad f x out₂ s = tt
 
-      as_compound : {x : Put} {out₂ : List ℕ} → PutsFound e at (and_then (members_at (type_at (levels - 1) table pool) table pool k (r + 1) p) (λ ms r' p'. found (compound n ms) r' p')) x out out₂
-          → PutsType e at (type_at levels table pool r p) x out out₂
-      as_compound f = where_known λ q. rw (by_entry q i) (unfold from_entry in rw (← add-one r) (record { puts = f }))
+        as_compound : {x : Option Written} {out₂ : List ℕ} → PutsFound e at (and_then (members_at (type_at (levels - 1) table pool) table pool k (r + 1) p) (λ ms r' p'. found (compound n ms) r' p')) x out out₂
+            → PutsType e at (type_at levels table pool r p) x out out₂
+        as_compound f = where_known λ q. rw (by_entry q (says ∙ ap Some i)) (unfold from_entry in rw (← add-one r) (record { puts = f }))
 
-      pub type-compound-full : w ≡ Full → PutsType e at (type_at levels table pool r p) Lost out out₁
-      type-compound-full f =
-          as_compound (compound-is _ refl Lost out₁ (λ ms r' p' o h s c. lost-behind (header 6 e (k % 256) (k / 256) n) (member_bytes e n ms) r' p' at out h f))
+        pub type-compound-full : w ≡ None → PutsType e at (type_at levels table pool r p) None out out₁
+        type-compound-full f =
+            as_compound (compound-is _ refl None out₁ (λ ms r' p' o h s c. lost-behind (header 6 e (k % 256) (k / 256) n) (member_bytes e n ms) r' p' at out h f))
 
-      pub type-compound : {a : ℕ} {x : Put} {out₂ : List ℕ} → w ≡ Behind a → PutsMembers e n a (members_at (type_at (levels - 1) table pool) table pool k (r + 1) p) x out₁ out₂
-          → PutsType e at (type_at levels table pool r p) x out out₂
-      type-compound {a = a} {x = x} {out₂ = out₂} f m =
-          as_compound
-          (compound-is _ refl x out₂ (λ ms r' p' o h s c.
-          let j : PutsMembers e n a (found ms r' p') x out₁ out₂ = rw o at m in
-          stands-behind (header 6 e (k % 256) (k / 256) n) (member_bytes e n ms) r' p' at out h f (found-members j s c)))
+        pub type-compound : {a : ℕ} {x : Option Written} {out₂ : List ℕ} → w ≡ Some a → PutsMembers e n a (members_at (type_at (levels - 1) table pool) table pool k (r + 1) p) x out₁ out₂
+            → PutsType e at (type_at levels table pool r p) x out out₂
+        type-compound {a = a} {x = x} {out₂ = out₂} f m =
+            as_compound
+            (compound-is _ refl x out₂ (λ ms r' p' o h s c.
+            let j : PutsMembers e n a (found ms r' p') x out₁ out₂ = rw o at m in
+            stands-behind (header 6 e (k % 256) (k / 256) n) (member_bytes e n ms) r' p' at out h f (found-members j s c)))
 
-    -- ---- a variable-length type
+      -- ---- a variable-length type
 
-    module _ {i a c : ℕ} (j : y ≡ VariableLength i a c) {w : Placed} {out₁ : List ℕ}
-        (g : storable_variable i a c ≡ true → Places (header 9 1 (variable_flags i a) (variable_charset i c) 16) at w out out₁) where
-      variable_is : (z : Found Datatype) (x : Put) (out₂ : List ℕ)
-          → ((t : Datatype) (r' p' : ℕ) → z ≡ found t r' p' → Places (header 9 1 (variable_flags i a) (variable_charset i c) 16) at w out out₁ → storable t ≡ true → carried e t ≡ true
-          → Stands (header 9 1 (variable_flags i a) (variable_charset i c) 16 ++ message e t) r' p' at x out out₂)
-          → PutsFound e at (and_then z (λ t r' p'. found (variable_length i a c t) r' p')) x out out₂
-      unfolding PutsFound and_then message carried
-      variable_is (found t r' p') x out₂ s =
-          λ u d.
-          let v = variable_storable_lem i a c t u in
-          s t r' p' refl (g v.0) v.1 d
-      variable_is bad x out₂ s = tt
+      module _ {i a c : ℕ} (j : y ≡ VariableLength i a c) {w : Option ℕ} {out₁ : List ℕ}
+          (g : storable_variable i a c ≡ true → Places (header 9 1 (variable_flags i a) (variable_charset i c) 16) at w out out₁) where
+        variable_is : (z : Found Datatype) (x : Option Written) (out₂ : List ℕ)
+            → ((t : Datatype) (r' p' : ℕ) → z ≡ found t r' p' → Places (header 9 1 (variable_flags i a) (variable_charset i c) 16) at w out out₁ → storable t ≡ true → carried e t ≡ true
+            → Stands (header 9 1 (variable_flags i a) (variable_charset i c) 16 ++ message e t) r' p' at x out out₂)
+            → PutsFound e at (and_then z (λ t r' p'. found (variable_length i a c t) r' p')) x out out₂
+        unfolding PutsFound and_then message carried
+        variable_is (found t r' p') x out₂ s =
+            λ u d.
+            let v = variable_storable_lem i a c t u in
+            s t r' p' refl (g v.0) v.1 d
+        variable_is bad x out₂ s = tt
 
-      as_variable : {x : Put} {out₂ : List ℕ} → PutsFound e at (and_then (type_at (levels - 1) table pool (r + 1) p) (λ t r' p'. found (variable_length i a c t) r' p')) x out out₂
-          → PutsType e at (type_at levels table pool r p) x out out₂
-      as_variable f = where_known λ q. rw (by_entry q j) (unfold from_entry in rw (← add-one r) (record { puts = f }))
+        as_variable : {x : Option Written} {out₂ : List ℕ} → PutsFound e at (and_then (type_at (levels - 1) table pool (r + 1) p) (λ t r' p'. found (variable_length i a c t) r' p')) x out out₂
+            → PutsType e at (type_at levels table pool r p) x out out₂
+        as_variable f = where_known λ q. rw (by_entry q (says ∙ ap Some j)) (unfold from_entry in rw (← add-one r) (record { puts = f }))
 
-      pub type_variable_full : w ≡ Full → PutsType e at (type_at levels table pool r p) Lost out out₁
-      type_variable_full f =
-          as_variable (variable_is _ Lost out₁ (λ t r' p' o h s d. lost-behind (header 9 1 (variable_flags i a) (variable_charset i c) 16) (message e t) r' p' at out h f))
+        pub type_variable_full : w ≡ None → PutsType e at (type_at levels table pool r p) None out out₁
+        type_variable_full f =
+            as_variable (variable_is _ None out₁ (λ t r' p' o h s d. lost-behind (header 9 1 (variable_flags i a) (variable_charset i c) 16) (message e t) r' p' at out h f))
 
-      pub type_variable : {b : ℕ} {x : Put} {out₂ : List ℕ} → w ≡ Behind b → PutsType e b (type_at (levels - 1) table pool (r + 1) p) x out₁ out₂
-          → PutsType e at (type_at levels table pool r p) x out out₂
-      type_variable {b = b} {x = x} {out₂ = out₂} f m =
-          as_variable
-          (variable_is _ x out₂ (λ t r' p' o h s d.
-          let n : PutsType e b (found t r' p') x out₁ out₂ = rw o at m in
-          stands-behind (header 9 1 (variable_flags i a) (variable_charset i c) 16) (message e t) r' p' at out h f (found-puts n s d)))
+        pub type_variable : {b : ℕ} {x : Option Written} {out₂ : List ℕ} → w ≡ Some b → PutsType e b (type_at (levels - 1) table pool (r + 1) p) x out₁ out₂
+            → PutsType e at (type_at levels table pool r p) x out out₂
+        type_variable {b = b} {x = x} {out₂ = out₂} f m =
+            as_variable
+            (variable_is _ x out₂ (λ t r' p' o h s d.
+            let n : PutsType e b (found t r' p') x out₁ out₂ = rw o at m in
+            stands-behind (header 9 1 (variable_flags i a) (variable_charset i c) 16) (message e t) r' p' at out h f (found-puts n s d)))
 
-    -- ---- an array
+      -- ---- an array
 
-    module _ {k : ℕ} (i : y ≡ Array k) (inside : EntryInside y (length table) (length pool) r p) (small : (b : ℕ) → get_or pool b 0 < 256)
-        {size : ℕ} (sized : size ≡ size_in (type_at levels table pool r p)) {w : Placed} {out₁ : List ℕ}
-        (g : k < 256 → PlacesFrom pool p (k * 4) (array_head_of e size k p pool) at w out out₁) where
-      array-is : (z : Found Datatype) → type_at levels table pool r p ≡ and_then z (λ t r' p'. found (array (dimensions_from k (take (k * 4) (drop p pool))) t) r' p') → (x : Put) (out₂ : List ℕ)
-          → ((t : Datatype) (r' p' : ℕ) → z ≡ found t r' p' → Places (array_head_of e size k p pool) at w out out₁ → storable t ≡ true → carried e t ≡ true → Stands ((array_head_of e size k p pool) ++ message e t) r' p' at x out out₂)
-          → PutsFound e at (and_then z (λ t r' p'. found (array (dimensions_from k (take (k * 4) (drop p pool))) t) r' p')) x out out₂
-      unfolding PutsFound and_then message
-      array-is (found t r' p') f x out₂ s =
-          let b = array-inside (length table) (length pool) r p inside i in
-          let ds = dimensions_from k (take (k * 4) (drop p pool)) in
-          let m : size ≡ type_size_of (array ds t) = sized ∙ ap size_in f ∙ (unfold size_in and_then in refl) in
-          let l : length ds ≡ k = length-dimensions_from k (take (k * 4) (drop p pool)) in
-          λ u d.
-          let v = array-storable ds t u in
-          rw (← m, array_body e k p pool small b.1, ← append_assoc) (s t r' p' refl ((g (rw l at v.0)).places (omega (arith, b.1))) v.1 (array-carried ds t e d))
-      array-is bad f x out₂ s = tt
+      module _ {k : ℕ} (i : y ≡ Array k) (inside : EntryInside o (length table) (length pool) r p) (small : (b : ℕ) → get_or pool b 0 < 256)
+          {size : ℕ} (sized : size ≡ size_in (type_at levels table pool r p)) {w : Option ℕ} {out₁ : List ℕ}
+          (g : k < 256 → PlacesFrom pool p (k * 4) (array_head_of e size k p pool) at w out out₁) where
+        array-is : (z : Found Datatype) → type_at levels table pool r p ≡ and_then z (λ t r' p'. found (array (dimensions_from k (take (k * 4) (drop p pool))) t) r' p') → (x : Option Written) (out₂ : List ℕ)
+            → ((t : Datatype) (r' p' : ℕ) → z ≡ found t r' p' → Places (array_head_of e size k p pool) at w out out₁ → storable t ≡ true → carried e t ≡ true → Stands ((array_head_of e size k p pool) ++ message e t) r' p' at x out out₂)
+            → PutsFound e at (and_then z (λ t r' p'. found (array (dimensions_from k (take (k * 4) (drop p pool))) t) r' p')) x out out₂
+        unfolding PutsFound and_then message
+        array-is (found t r' p') f x out₂ s =
+            let b = array-inside (length table) (length pool) r p inside says i in
+            let ds = dimensions_from k (take (k * 4) (drop p pool)) in
+            let m : size ≡ type_size_of (array ds t) = sized ∙ ap size_in f ∙ (unfold size_in and_then in refl) in
+            let l : length ds ≡ k = length-dimensions_from k (take (k * 4) (drop p pool)) in
+            λ u d.
+            let v = array-storable ds t u in
+            rw (← m, array_body e k p pool small b.1, ← append_assoc) (s t r' p' refl ((g (rw l at v.0)).places (omega (arith, b.1))) v.1 (array-carried ds t e d))
+        array-is bad f x out₂ s = tt
 
-      array-found : y ≡ entry_at table pool r p → type_at levels table pool r p ≡ and_then (type_at (levels - 1) table pool (r + 1) (p + k * 4)) (λ t r' p'. found (array (dimensions_from k (take (k * 4) (drop p pool))) t) r' p')
-      array-found q = by_entry q i ∙ (unfold from_entry in rw (← add-one r))
+        array-found : o ≡ entry_at table pool r p → type_at levels table pool r p ≡ and_then (type_at (levels - 1) table pool (r + 1) (p + k * 4)) (λ t r' p'. found (array (dimensions_from k (take (k * 4) (drop p pool))) t) r' p')
+        array-found q = by_entry q (says ∙ ap Some i) ∙ (unfold from_entry in rw (← add-one r))
 
-      as_array : {x : Put} {out₂ : List ℕ}
-          → ((type_at levels table pool r p ≡ and_then (type_at (levels - 1) table pool (r + 1) (p + k * 4)) (λ t r' p'. found (array (dimensions_from k (take (k * 4) (drop p pool))) t) r' p'))
-          → PutsFound e at (and_then (type_at (levels - 1) table pool (r + 1) (p + k * 4)) (λ t r' p'. found (array (dimensions_from k (take (k * 4) (drop p pool))) t) r' p')) x out out₂)
-          → PutsType e at (type_at levels table pool r p) x out out₂
-      as_array f = where_known λ q. rw (array-found q) (record { puts = f (array-found q) })
+        as_array : {x : Option Written} {out₂ : List ℕ}
+            → ((type_at levels table pool r p ≡ and_then (type_at (levels - 1) table pool (r + 1) (p + k * 4)) (λ t r' p'. found (array (dimensions_from k (take (k * 4) (drop p pool))) t) r' p'))
+            → PutsFound e at (and_then (type_at (levels - 1) table pool (r + 1) (p + k * 4)) (λ t r' p'. found (array (dimensions_from k (take (k * 4) (drop p pool))) t) r' p')) x out out₂)
+            → PutsType e at (type_at levels table pool r p) x out out₂
+        as_array f = where_known λ q. rw (array-found q) (record { puts = f (array-found q) })
 
-      pub type-array-full : w ≡ Full → PutsType e at (type_at levels table pool r p) Lost out out₁
-      type-array-full f = as_array (λ j. array-is _ j Lost out₁ (λ t r' p' o h s d. lost-behind (array_head_of e size k p pool) (message e t) r' p' at out h f))
+        pub type-array-full : w ≡ None → PutsType e at (type_at levels table pool r p) None out out₁
+        type-array-full f = as_array (λ j. array-is _ j None out₁ (λ t r' p' o h s d. lost-behind (array_head_of e size k p pool) (message e t) r' p' at out h f))
 
-      pub type-array : {b : ℕ} {x : Put} {out₂ : List ℕ} → w ≡ Behind b → PutsType e b (type_at (levels - 1) table pool (r + 1) (p + k * 4)) x out₁ out₂
-          → PutsType e at (type_at levels table pool r p) x out out₂
-      type-array {b = b} {x = x} {out₂ = out₂} f m =
-          as_array
-          (λ j. array-is _ j x out₂ (λ t r' p' o h s d.
-          let n : PutsType e b (found t r' p') x out₁ out₂ = rw o at m in
-          stands-behind (array_head_of e size k p pool) (message e t) r' p' at out h f (found-puts n s d)))
+        pub type-array : {b : ℕ} {x : Option Written} {out₂ : List ℕ} → w ≡ Some b → PutsType e b (type_at (levels - 1) table pool (r + 1) (p + k * 4)) x out₁ out₂
+            → PutsType e at (type_at levels table pool r p) x out out₂
+        type-array {b = b} {x = x} {out₂ = out₂} f m =
+            as_array
+            (λ j. array-is _ j x out₂ (λ t r' p' o h s d.
+            let n : PutsType e b (found t r' p') x out₁ out₂ = rw o at m in
+            stands-behind (array_head_of e size k p pool) (message e t) r' p' at out h f (found-puts n s d)))
 
-    pub type-enumeration : {n k : ℕ} {x : Put} {out₁ : List ℕ} → y ≡ Enumeration n k → PutsType e at (from_entry (type_at (levels - 1) table pool) table pool r p (Enumeration n k)) x out out₁
-        → PutsType e at (type_at levels table pool r p) x out out₁
-    type-enumeration i f = where_known λ q. rw (by_entry q i) f
+      pub type-enumeration : {n k : ℕ} {x : Option Written} {out₁ : List ℕ} → y ≡ Enumeration n k → PutsType e at (from_entry (type_at (levels - 1) table pool) table pool r p (Some (Enumeration n k))) x out out₁
+          → PutsType e at (type_at levels table pool r p) x out out₁
+      type-enumeration i f = where_known λ q. rw (by_entry q (says ∙ ap Some i)) f
 
 -- ---- an enumeration, with so many levels left below it
 
-module _ (levels e at : ℕ) (table pool : List ℕ) (r p : ℕ) (out : List ℕ) (n k : ℕ) {w : Placed} {out₁ : List ℕ} (g : k < 65536 → Places (header 8 e (k % 256) (k / 256) n) at w out out₁) where
+module _ (levels e at : ℕ) (table pool : List ℕ) (r p : ℕ) (out : List ℕ) (n k : ℕ) {w : Option ℕ} {out₁ : List ℕ} (g : k < 65536 → Places (header 8 e (k % 256) (k / 256) n) at w out out₁) where
   -- for all members that are found behind the base
-  abbrev Behinds : Put → List ℕ → (t : Datatype) (r₁ p₁ : ℕ) → Type 0
+  abbrev Behinds : Option Written → List ℕ → (t : Datatype) (r₁ p₁ : ℕ) → Type 0
   Behinds x out₂ t r₁ p₁ =
       (ms : List EnumMember) (r₂ p₂ : ℕ) → and_then (enum_names_at table pool k r₁ p₁) (enum_values_at pool) ≡ found ms r₂ p₂ → Places (header 8 e (k % 256) (k / 256) n) at w out out₁
       → storable t ≡ true → carried e t ≡ true → Stands (header 8 e (k % 256) (k / 256) n ++ (message e t ++ (enum_name_bytes e ms ++ enum_values ms))) r₂ p₂ at x out out₂
 
-  enumeration-behind : (t : Datatype) (r₁ p₁ : ℕ) (v : Found (List EnumMember)) → and_then (enum_names_at table pool k r₁ p₁) (enum_values_at pool) ≡ v → (x : Put) (out₂ : List ℕ) → Behinds x out₂ t r₁ p₁
+  enumeration-behind : (t : Datatype) (r₁ p₁ : ℕ) (v : Found (List EnumMember)) → and_then (enum_names_at table pool k r₁ p₁) (enum_values_at pool) ≡ v → (x : Option Written) (out₂ : List ℕ) → Behinds x out₂ t r₁ p₁
       → PutsFound e at (and_then v (λ ms r₂ p₂. found (enumeration n t ms) r₂ p₂)) x out out₂
   unfolding PutsFound and_then message carried
   enumeration-behind t r₁ p₁ (found ms r₂ p₂) f x out₂ s =
@@ -243,34 +237,34 @@ module _ (levels e at : ℕ) (table pool : List ℕ) (r p : ℕ) (out : List ℕ
       rw c (s ms r₂ p₂ f (g (rw c at v.0)) v.1 d)
   enumeration-behind t r₁ p₁ bad f x out₂ s = tt
 
-  enumeration-is : (z : Found Datatype) (x : Put) (out₂ : List ℕ) → ((t : Datatype) (r₁ p₁ : ℕ) → z ≡ found t r₁ p₁ → Behinds x out₂ t r₁ p₁)
+  enumeration-is : (z : Found Datatype) (x : Option Written) (out₂ : List ℕ) → ((t : Datatype) (r₁ p₁ : ℕ) → z ≡ found t r₁ p₁ → Behinds x out₂ t r₁ p₁)
       → PutsFound e at (and_then z (λ t r₁ p₁. and_then (enum_names_at table pool k r₁ p₁) (λ ns r₂ p₂. and_then (enum_values_at pool ns r₂ p₂) (λ ms r₃ p₃. found (enumeration n t ms) r₃ p₃)))) x out out₂
   unfolding and_then
   enumeration-is (found t r₁ p₁) x out₂ s =
       rw (then-assoc (enum_names_at table pool k r₁ p₁) (enum_values_at pool) (λ ms r₃ p₃. found (enumeration n t ms) r₃ p₃)) (enumeration-behind t r₁ p₁ _ refl x out₂ (s t r₁ p₁ refl))
   enumeration-is bad x out₂ s = unfold PutsFound in tt
 
-  as_enumeration : {x : Put} {out₂ : List ℕ}
+  as_enumeration : {x : Option Written} {out₂ : List ℕ}
       → PutsFound e at (and_then (type_at levels table pool (r + 1) p) (λ t r₁ p₁. and_then (enum_names_at table pool k r₁ p₁) (λ ns r₂ p₂. and_then (enum_values_at pool ns r₂ p₂) (λ ms r₃ p₃. found (enumeration n t ms) r₃ p₃)))) x out out₂
-      → PutsType e at (from_entry (type_at levels table pool) table pool r p (Enumeration n k)) x out out₂
+      → PutsType e at (from_entry (type_at levels table pool) table pool r p (Some (Enumeration n k))) x out out₂
   as_enumeration f = unfold from_entry in rw (← add-one r) (record { puts = f })
 
-  pub enumeration-full : w ≡ Full → PutsType e at (from_entry (type_at levels table pool) table pool r p (Enumeration n k)) Lost out out₁
+  pub enumeration-full : w ≡ None → PutsType e at (from_entry (type_at levels table pool) table pool r p (Some (Enumeration n k))) None out out₁
   enumeration-full f =
-      as_enumeration (enumeration-is _ Lost out₁ (λ t r₁ p₁ o ms r₂ p₂ q h s d. lost-behind (header 8 e (k % 256) (k / 256) n) (message e t ++ (enum_name_bytes e ms ++ enum_values ms)) r₂ p₂ at out h f))
+      as_enumeration (enumeration-is _ None out₁ (λ t r₁ p₁ o ms r₂ p₂ q h s d. lost-behind (header 8 e (k % 256) (k / 256) n) (message e t ++ (enum_name_bytes e ms ++ enum_values ms)) r₂ p₂ at out h f))
 
-  module _ {a : ℕ} (f : w ≡ Behind a) {z : Put} {out₂ : List ℕ} (m : PutsType e a (type_at levels table pool (r + 1) p) z out₁ out₂) where
-    pub enumeration-lost : {out₃ : List ℕ} → z ≡ Lost → PutsType e at (from_entry (type_at levels table pool) table pool r p (Enumeration n k)) Lost out out₃
+  module _ {a : ℕ} (f : w ≡ Some a) {z : Option Written} {out₂ : List ℕ} (m : PutsType e a (type_at levels table pool (r + 1) p) z out₁ out₂) where
+    pub enumeration-lost : {out₃ : List ℕ} → z ≡ None → PutsType e at (from_entry (type_at levels table pool) table pool r p (Some (Enumeration n k))) None out out₃
     enumeration-lost {out₃ = out₃} l =
         as_enumeration
-        (enumeration-is _ Lost out₃ (λ t r₁ p₁ o ms r₂ p₂ q h s d.
+        (enumeration-is _ None out₃ (λ t r₁ p₁ o ms r₂ p₂ q h s d.
         let b : PutsType e a (found t r₁ p₁) z out₁ out₂ = rw o at m in
-        let v : Places (message e t) a Full out₁ out₃ = unplaced (found-puts b s d) l in
+        let v : Places (message e t) a None out₁ out₃ = unplaced (found-puts b s d) l in
         stands-behind (header 8 e (k % 256) (k / 256) n) (message e t ++ (enum_name_bytes e ms ++ enum_values ms)) r₂ p₂ at out h f
         (lost-behind (message e t) (enum_name_bytes e ms ++ enum_values ms) r₂ p₂ a out₁ v refl)))
 
-    pub enumeration-put : {b : Written} {x : Put} {out₃ : List ℕ} → z ≡ At b → PutsEnum e b.at table pool k b.row b.place x out₂ out₃
-        → PutsType e at (from_entry (type_at levels table pool) table pool r p (Enumeration n k)) x out out₃
+    pub enumeration-put : {b : Written} {x : Option Written} {out₃ : List ℕ} → z ≡ Some b → PutsEnum e b.at table pool k b.row b.place x out₂ out₃
+        → PutsType e at (from_entry (type_at levels table pool) table pool r p (Some (Enumeration n k))) x out out₃
     enumeration-put {b = b} {x = x} {out₃ = out₃} l u =
         as_enumeration
         (enumeration-is _ x out₃ (λ t r₁ p₁ o ms r₂ p₂ q h s d.
@@ -281,35 +275,3 @@ module _ (levels e at : ℕ) (table pool : List ℕ) (r p : ℕ) (out : List ℕ
         let c : b ≡ record { row = r₁; place = p₁; at = a + length (message e t) } = row-known j l (omega (arith, length-append (message e t) (enum_name_bytes e ms ++ enum_values ms))) in
         let y' : PutsEnum e (a + length (message e t)) table pool k r₁ p₁ x out₂ out₃ = rw c at u in
         stands-behind (message e t) (enum_name_bytes e ms ++ enum_values ms) r₂ p₂ a out₁ (rw c at (placed j l)) refl (enum_stands y' q))))
-
--- ---- the size of the type at a row
-
-unsound_not : (t : Datatype) (r p : ℕ) → Unsound ≡ survey_of (found t r p) → ⊥
-unfolding survey_of
-unsound_not t r p h = let z : ◌≡◌ {A = ℕ} 0 1 = cc in omega arith
-
-sound-not : {s : Survey} → Sound s ≡ survey_of bad → ⊥
-unfolding survey_of
-sound-not h = let z : ◌≡◌ {A = ℕ} 0 1 = cc in omega arith
-
-sound-is : {s z : Survey} → Sound s ≡ Sound z → s ≡ z
-sound-is e = cc
-
-sound-size : (t : Datatype) (r p : ℕ) {s : Survey} → Sound s ≡ survey_of (found t r p) → s.size ≡ type_size_of t
-unfolding survey_of
-sound-size t r p h = ap (λ (s : Survey). s.size) (sound-is h)
-
-module _ (x : Found Datatype) {y : Surveyed} (q : y ≡ survey_of x) where
-  pub no_size : y ≡ Unsound → 0 ≡ size_in x
-  no_size e = go x (sym e ∙ q)
-    where
-      go : (x : Found Datatype) → Unsound ≡ survey_of x → 0 ≡ size_in x
-      go (found t r p) h = absurd (unsound_not t r p h)
-      go bad h = unfold size_in in refl
-
-  pub size-found : {s : Survey} → y ≡ Sound s → s.size ≡ size_in x
-  size-found {s = s} e = go x (sym e ∙ q)
-    where
-      go : (x : Found Datatype) → Sound s ≡ survey_of x → s.size ≡ size_in x
-      go (found t r p) h = sound-size t r p h ∙ (unfold size_in in refl)
-      go bad h = absurd (sound-not h)

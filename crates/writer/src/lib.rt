@@ -1,37 +1,27 @@
 // Writing the message of the type in a table: `serialize`, in editions 1 to 3.
 #![tactic(auto)]
 
-ghost use Rattle.std.specs.Prelude.{◌≡◌, ◌+◌, ◌*◌, ◌-◌, ◌≤◌, ◌<◌, length};
+ghost use Rattle.std.specs.Prelude.{Some, ◌≡◌, ◌+◌, ◌*◌, ◌-◌, ◌≤◌, ◌<◌, length};
 ghost use Rattle.format.specs.Table.{type_at, members_at};
 ghost use Rattle.rows.specs.Entries.{from_entry};
 ghost use Rattle.rows.specs.declared.Entry.TheVariants.{Enumeration};
 ghost use Rattle.writer.specs.Writes.{PutsType, PutsMembers, size_in, Writes};
 
-use measure::{Measured, measure_type};
+use measure::measure_type;
 use refusal::Refusal;
-use rows::{Entry, Member, known_entry_at, known_member_at};
-use table::{Checked, Surveyed, check, ends_at, survey_type};
+use rows::{Entry, known_entry_at, known_member_at};
+use table::{check, ends_at, survey_type};
 use writer_parts::{
-    Placed, Put, Written, put_array_head, put_enum_members, put_group_header, put_leaf,
-    put_member_head, put_variable_header,
+    Written, put_array_head, put_enum_members, put_group_header, put_leaf, put_member_head,
+    put_variable_header,
 };
 
-// The answer of `write`: the length of the message, or why it is refused.
-#[derive(Clone, Copy)]
-pub enum Writing {
-    Written(usize),
-    Refused(Refusal),
-}
-
 // The size of the type at a row; 0 where there is none.
+#[tactic(auto, unfolding(crate::specs::Writes::size_in, table::specs::Survey::survey_of))]
 fn size_at(table: &[u32], pool: &[u8], row: usize, place: usize, levels: usize) -> u32
     ensures { result ≡ size_in (type_at levels table.now pool.now row place) }
 {
-    let surveyed = survey_type(table, pool, row, place, levels);
-    match surveyed {
-        Surveyed::Unsound => 0,
-        Surveyed::Sound(s) => s.size,
-    }
+    survey_type(table, pool, row, place, levels).map_or(0, |s| s.size)
 }
 
 // The members of a compound of a size, into `out` at a place. Here and in `put_type` a row is not tested again: measuring tested it.
@@ -47,50 +37,36 @@ fn put_members(
     edition: u8,
     out: &mut [u8],
     at: usize,
-) -> Put
+) -> Option<Written>
     requires { edition ≤ 3 }
     ensures { PutsMembers edition size at (members_at (type_at levels table.now pool.now) table.now pool.now count row place) result out.old out.new }
 {
-    let mut r = row;
-    let mut p = place;
-    let mut a = at;
-    let mut left = count;
-    while left > 0 {
-        let member = known_member_at(table, pool, r, p);
-        match member {
-            Member::Unnamed => {
-                return Put::Lost;
-            }
-            Member::Named(offset, name) => {
-                let headed = put_member_head(pool, p, name, out, a, edition, size, offset);
-                match headed {
-                    Placed::Full => {
-                        return Put::Lost;
-                    }
-                    Placed::Behind(behind) => {
-                        let from = p + name as usize;
-                        let put = put_inner(table, pool, r + 1, from, levels, edition, out, behind);
-                        match put {
-                            Put::Lost => {
-                                return Put::Lost;
-                            }
-                            Put::At(w) => {
-                                r = w.row;
-                                p = w.place;
-                                a = w.at;
-                                left -= 1;
-                            }
-                        }
-                    }
-                }
-            }
-        }
+    let mut last = Written { row, place, at };
+    for _ in 0..count {
+        let member = known_member_at(table, pool, last.row, last.place)?;
+        let behind = put_member_head(
+            pool,
+            last.place,
+            member.name,
+            out,
+            last.at,
+            edition,
+            size,
+            member.number,
+        )?;
+        let from = last.place + member.name as usize;
+        last = put_inner(
+            table,
+            pool,
+            last.row + 1,
+            from,
+            levels,
+            edition,
+            out,
+            behind,
+        )?;
     }
-    Put::At(Written {
-        row: r,
-        place: p,
-        at: a,
-    })
+    Some(last)
 }
 
 // As `put_type`, of a member: a leaf is put here, and `put_type` reads any other row again.
@@ -104,14 +80,14 @@ fn put_inner(
     edition: u8,
     out: &mut [u8],
     at: usize,
-) -> Put
+) -> Option<Written>
     requires { edition ≤ 3 }
     ensures { PutsType edition at (type_at levels table.now pool.now row place) result out.old out.new }
 {
     if levels == 0 {
-        return Put::Lost;
+        return None;
     }
-    let entry = known_entry_at(table, pool, row, place);
+    let entry = known_entry_at(table, pool, row, place)?;
     match entry {
         Entry::Leaf(class, size, length, code) => put_leaf(
             table, pool, row, place, class, size, length, code, out, at,
@@ -120,7 +96,7 @@ fn put_inner(
     }
 }
 
-// The type at a row, its pool bytes at a place, with so many levels left, into `out` at a place. Lost where there is none, it does not fit
+// The type at a row, its pool bytes at a place, with so many levels left, into `out` at a place. None where there is none, it does not fit
 // or it cannot be stored.
 #[cycle(put)]
 fn put_type(
@@ -132,60 +108,46 @@ fn put_type(
     edition: u8,
     out: &mut [u8],
     at: usize,
-) -> Put
+) -> Option<Written>
     requires { edition ≤ 3 }
     ensures { PutsType edition at (type_at levels table.now pool.now row place) result out.old out.new }
 {
     if levels == 0 {
-        return Put::Lost;
+        return None;
     }
     let inner = levels - 1;
-    let entry = known_entry_at(table, pool, row, place);
+    let entry = known_entry_at(table, pool, row, place)?;
     match entry {
-        Entry::Unknown => Put::Lost,
         Entry::Leaf(class, size, length, code) => put_leaf(
             table, pool, row, place, class, size, length, code, out, at,
         ),
         Entry::Compound(size, count) => {
-            let headed = put_group_header(out, at, 6, edition, count, size);
-            match headed {
-                Placed::Full => Put::Lost,
-                Placed::Behind(a) => put_members(
-                    table,
-                    pool,
-                    row + 1,
-                    place,
-                    count,
-                    size,
-                    inner,
-                    edition,
-                    out,
-                    a,
-                ),
-            }
+            let behind = put_group_header(out, at, 6, edition, count, size)?;
+            put_members(
+                table,
+                pool,
+                row + 1,
+                place,
+                count,
+                size,
+                inner,
+                edition,
+                out,
+                behind,
+            )
         }
         Entry::Enumeration(size, count) => put_enumeration(
             table, pool, row, place, size, count, inner, edition, out, at,
         ),
         Entry::VariableLength(string, padding, charset) => {
-            let headed = put_variable_header(out, at, string, padding, charset);
-            match headed {
-                Placed::Full => Put::Lost,
-                Placed::Behind(a) => {
-                    put_type(table, pool, row + 1, place, inner, edition, out, a)
-                }
-            }
+            let behind = put_variable_header(out, at, string, padding, charset)?;
+            put_type(table, pool, row + 1, place, inner, edition, out, behind)
         }
         Entry::Array(rank) => {
             let size = size_at(table, pool, row, place, levels);
-            let headed = put_array_head(pool, place, rank, size, out, at, edition);
-            match headed {
-                Placed::Full => Put::Lost,
-                Placed::Behind(a) => {
-                    let from = place + (rank as usize) * 4;
-                    put_type(table, pool, row + 1, from, inner, edition, out, a)
-                }
-            }
+            let behind = put_array_head(pool, place, rank, size, out, at, edition)?;
+            let from = place + (rank as usize) * 4;
+            put_type(table, pool, row + 1, from, inner, edition, out, behind)
         }
     }
 }
@@ -203,70 +165,51 @@ fn put_enumeration(
     edition: u8,
     out: &mut [u8],
     at: usize,
-) -> Put
+) -> Option<Written>
     requires { (edition ≤ 3) × (row * 16 + 16 ≤ length table.now) }
-    ensures { PutsType edition at (from_entry (type_at levels table.now pool.now) table.now pool.now row place (Enumeration size count)) result out.old out.new }
+    ensures { PutsType edition at (from_entry (type_at levels table.now pool.now) table.now pool.now row place (Some (Enumeration size count))) result out.old out.new }
 {
-    let headed = put_group_header(out, at, 8, edition, count, size);
-    match headed {
-        Placed::Full => Put::Lost,
-        Placed::Behind(a) => {
-            let put = put_type(table, pool, row + 1, place, levels, edition, out, a);
-            match put {
-                Put::Lost => Put::Lost,
-                Put::At(base) => put_enum_members(
-                    table, pool, base.row, base.place, count, out, base.at, edition,
-                ),
-            }
-        }
-    }
+    let behind = put_group_header(out, at, 8, edition, count, size)?;
+    let base = put_type(table, pool, row + 1, place, levels, edition, out, behind)?;
+    put_enum_members(
+        table, pool, base.row, base.place, count, out, base.at, edition,
+    )
 }
 
 // Writes the message of the type that a table and pool set out, in an edition, to the start of `out`. Refused, in this order: BadTable,
 // NoSuchEdition, Unstorable, NotInEdition, NoRoom. Costs two passes over the rows, and one more for each array that holds a row; what is
 // behind the type in table and pool is looked at once.
-pub fn write(table: &[u32], pool: &[u8], edition: u32, out: &mut [u8]) -> Writing
+pub fn write(table: &[u32], pool: &[u8], edition: u32, out: &mut [u8]) -> Result<usize, Refusal>
     ensures { Writes table.now pool.now edition result out.old out.new }
 {
     match edition {
         1..=3 => write_edition(table, pool, edition as u8, out),
-        _ => {
-            let checked = check(table, pool);
-            match checked {
-                Checked::Bad => Writing::Refused(Refusal::BadTable),
-                Checked::Good(_) => Writing::Refused(Refusal::NoSuchEdition),
-            }
-        }
+        _ => match check(table, pool) {
+            None => Err(Refusal::BadTable),
+            Some(_) => Err(Refusal::NoSuchEdition),
+        },
     }
 }
 
 // The same, in an edition that exists. Measuring finds no type exactly where the check does.
-fn write_edition(table: &[u32], pool: &[u8], edition: u8, out: &mut [u8]) -> Writing
+fn write_edition(table: &[u32], pool: &[u8], edition: u8, out: &mut [u8]) -> Result<usize, Refusal>
     requires { (1 ≤ edition) × (edition ≤ 3) }
     ensures { Writes table.now pool.now edition result out.old out.new }
 {
-    let measured = measure_type(table, pool, 0, 0, 32, edition);
-    match measured {
-        Measured::Lost => Writing::Refused(Refusal::BadTable),
-        Measured::At(m) => {
-            if !ends_at(table, pool, m.row, m.place) {
-                return Writing::Refused(Refusal::BadTable);
-            }
-            if !m.storable {
-                return Writing::Refused(Refusal::Unstorable);
-            }
-            if !m.carried {
-                return Writing::Refused(Refusal::NotInEdition);
-            }
-            let length = m.length as usize;
-            if out.len() < length {
-                return Writing::Refused(Refusal::NoRoom(m.length));
-            }
-            let put = put_type(table, pool, 0, 0, 32, edition, out, 0);
-            match put {
-                Put::Lost => Writing::Refused(Refusal::BadTable),
-                Put::At(_) => Writing::Written(length),
-            }
-        }
+    let m = measure_type(table, pool, 0, 0, 32, edition).ok_or(Refusal::BadTable)?;
+    if !ends_at(table, pool, m.row, m.place) {
+        return Err(Refusal::BadTable);
     }
+    if !m.storable {
+        return Err(Refusal::Unstorable);
+    }
+    if !m.carried {
+        return Err(Refusal::NotInEdition);
+    }
+    let length = m.length as usize;
+    if out.len() < length {
+        return Err(Refusal::NoRoom(m.length));
+    }
+    put_type(table, pool, 0, 0, 32, edition, out, 0).ok_or(Refusal::BadTable)?;
+    Ok(length)
 }

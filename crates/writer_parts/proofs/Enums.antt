@@ -1,4 +1,6 @@
 -- The members of an enumeration: names one a turn, then all values in one piece, as they stand in the pool.
+use Rattle.std.specs.Prelude.{Option, Some, None}
+use Rattle.writer_parts.specs.declared.Written.{Written}
 use Prim.Native.Nat.{ℕ, zero, suc, ◌+◌, ◌-◌, ◌<◌, ◌≤◌, max}
 use mathlib.Core.Path.{◌≡◌, refl, sym, ap, ◌∙◌}
 use mathlib.Core.Bool.{Bool, true, false, cond}
@@ -14,18 +16,13 @@ use borrow.Author.Tests.{leb-true}
 use Rattle.format.specs.Datatype.{EnumMember, enum_values}
 use Rattle.format.specs.Message.{name_bytes, enum_name_bytes}
 use Rattle.format.specs.Table.{Found, found, bad, and_then, enum_names_at, enum_values_at, next_piece}
-use Rattle.rows.specs.Entries.{enum_member_at_of, MemberInside, MemberIfKnown, enum_member_name_length, from_enum_member}
+use Rattle.rows.specs.Entries.{enum_member_at_of, MemberInside, IfKnown, from_enum_member}
 use Rattle.rows.specs.declared.Member.{Member}
-use Rattle.rows.specs.declared.Member.TheVariants.{Named, Unnamed}
-use Rattle.rows.proofs.Decode.{enum_names_at-entry, enum_named_inside}
+use Rattle.rows.proofs.Decode.{enum_names_at-entry, named-inside}
 use Rattle.rows.proofs.Known.{claim_of-enum_names}
 use Rattle.rows.proofs.EnumNames.{names_as, names-none, values_long}
 use Rattle.writer_parts.specs.Enum.{PutsEnum, PutsEnumOf}
 use Rattle.writer_parts.specs.Places.{PlacesFrom, Inside, Stands}
-use Rattle.writer_parts.specs.declared.Placed.{Placed}
-use Rattle.writer_parts.specs.declared.Placed.TheVariants.{Behind, Full}
-use Rattle.writer_parts.specs.declared.Put.{Put}
-use Rattle.writer_parts.specs.declared.Put.TheVariants.{At, Lost}
 use Rattle.writer_parts.proofs.Placing.{stands, lost, stands-behind, lost-behind}
 
 -- the names in the message
@@ -34,7 +31,7 @@ names_of e [] = []
 names_of e (x ∷ ns) = name_bytes e x.0 ++ names_of e ns
 
 -- names, and behind them values, of which so many bytes belong to names before these
-unfoldable pub Rest : (edition : ℕ) (pool : List ℕ) (values at : ℕ) → Found (List (List ℕ × ℕ)) → Put → (out out' : List ℕ) → Type 0
+unfoldable pub Rest : (edition : ℕ) (pool : List ℕ) (values at : ℕ) → Found (List (List ℕ × ℕ)) → Option Written → (out out' : List ℕ) → Type 0
 Rest e pool v at (found ns r p) x out out' =
     Inside pool p (v + values_long ns) → Stands (names_of e ns ++ take (v + values_long ns) (drop p pool)) r (p + (v + values_long ns)) at x out out'
 Rest e pool v at bad x out out' = Unit {0}
@@ -82,7 +79,7 @@ module _ (e : ℕ) (pool : List ℕ) where
       record { row_is = refl; place_is = sym (add-zero p); inside = omega arith; names = refl; values = refl; many = refl }
   valued (x ∷ ns) r p = valued-cond x ns r p (leb (p + x.1) (length pool)) refl (valued ns r (p + x.1))
 
-  module _ (at : ℕ) (x : Put) (out out' : List ℕ) where
+  module _ (at : ℕ) (x : Option Written) (out out' : List ℕ) where
     from-values : (ns : List (List ℕ × ℕ)) (r p : ℕ) (y : Found (List EnumMember)) → ValuedAs e pool ns r p y → Rest e pool 0 at (found ns r p) x out out' → PutsEnumOf e at y x out out'
     unfolding PutsEnumOf ValuedAs Rest
     from-values ns r p (found ms r' p') v h =
@@ -98,14 +95,14 @@ module _ (e : ℕ) (pool : List ℕ) where
 -- ---- the loop
 
 -- a name whose row is read again: nothing is said where the row is unknown
-known-names : (e : ℕ) (table pool : List ℕ) (v a k r p : ℕ) (x : Put) (out out' : List ℕ) {m : Member} → 0 < k → MemberIfKnown (enum_member_at_of table pool r p) m
+known-names : (e : ℕ) (table pool : List ℕ) (v a k r p : ℕ) (x : Option Written) (out out' : List ℕ) {m : Option Member} → 0 < k → IfKnown (enum_member_at_of table pool r p) m
     → (m ≡ enum_member_at_of table pool r p → Rest e pool v a (enum_names_at table pool k r p) x out out') → Rest e pool v a (enum_names_at table pool k r p) x out out'
 known-names e table pool v a (suc k) r p x out out' {m = m} h i c =
     claim_of-enum_names table pool r p (λ y. Rest e pool v a y x out out') (unfold Rest in tt) k m i (λ q. rw (enum_names_at-entry table pool k r p, ← q) at (c q))
 known-names e table pool v a zero r p x out out' h i c = absurd (omega arith)
 
-module _ (e : ℕ) (pool : List ℕ) (v a p n w : ℕ) (out : List ℕ) {y : Placed} {out₁ : List ℕ} (h : PlacesFrom pool p n (name_bytes e (take n (drop p pool))) a y out out₁) where
-  rest-next : (z : Found (List (List ℕ × ℕ))) {b : ℕ} → y ≡ Behind b → (x : Put) (out' : List ℕ) → Rest e pool (v + w) b z x out₁ out'
+module _ (e : ℕ) (pool : List ℕ) (v a p n w : ℕ) (out : List ℕ) {y : Option ℕ} {out₁ : List ℕ} (h : PlacesFrom pool p n (name_bytes e (take n (drop p pool))) a y out out₁) where
+  rest-next : (z : Found (List (List ℕ × ℕ))) {b : ℕ} → y ≡ Some b → (x : Option Written) (out' : List ℕ) → Rest e pool (v + w) b z x out₁ out'
       → Rest e pool v a (and_then z (λ ns r' p'. found ((take n (drop p pool), w) ∷ ns) r' p')) x out out'
   unfolding Rest and_then names_of values_long
   rest-next (found ns r' p') f x out' k =
@@ -114,71 +111,83 @@ module _ (e : ℕ) (pool : List ℕ) (v a p n w : ℕ) (out : List ℕ) {y : Pla
       rw (q, append_assoc) (stands-behind (name_bytes e (take n (drop p pool))) (names_of e ns ++ take (v + w + values_long ns) (drop p' pool)) r' (p' + (v + w + values_long ns)) a out (h.places (h.inside _ f)) f (k (rw q at i)))
   rest-next bad f x out' k = tt
 
-  rest-full : (z : Found (List (List ℕ × ℕ))) → Inside pool p n → y ≡ Full → (out' : List ℕ) → Rest e pool v a (and_then z (λ ns r' p'. found ((take n (drop p pool), w) ∷ ns) r' p')) Lost out out'
+  rest-full : (z : Found (List (List ℕ × ℕ))) → Inside pool p n → y ≡ None → (out' : List ℕ) → Rest e pool v a (and_then z (λ ns r' p'. found ((take n (drop p pool), w) ∷ ns) r' p')) None out out'
   unfolding Rest and_then names_of
   rest-full (found ns r' p') i f out' = λ g. rw append_assoc (lost-behind (name_bytes e (take n (drop p pool))) _ r' _ a out (h.places i) f)
   rest-full bad i f out' = tt
 
-rest-past : (e : ℕ) (pool : List ℕ) (v a w : ℕ) (b : List ℕ) (z : Found (List (List ℕ × ℕ))) → length pool - v < w → (x : Put) (out out' : List ℕ)
+rest-past : (e : ℕ) (pool : List ℕ) (v a w : ℕ) (b : List ℕ) (z : Found (List (List ℕ × ℕ))) → length pool - v < w → (x : Option Written) (out out' : List ℕ)
     → Rest e pool v a (and_then z (λ ns r' p'. found ((b, w) ∷ ns) r' p')) x out out'
 unfolding Rest and_then values_long
 rest-past e pool v a w b (found ns r p) h x out out' = λ i. absurd (omega arith)
 rest-past e pool v a w b bad h x out out' = tt
 
--- the names from row r on are left to store, and the answer of the whole is that of these and the values
-pub record EnumLeft (e : ℕ) (table pool : List ℕ) (count row place at : ℕ) (out₀ : List ℕ) (k r p a values : ℕ) (out : List ℕ) : Type 0 where
+-- i names are stored, the others are those from row r on, and the answer of the whole is that of these and the values
+pub record EnumLeft (e : ℕ) (table pool : List ℕ) (count row place at : ℕ) (out₀ : List ℕ) (i r p a values : ℕ) (out : List ℕ) : Type 0 where
   pub long : length out ≡ length out₀
   pub some : values ≤ length pool
   pub near : p ≤ max (length pool) place
-  pub rest : (x : Put) (out' : List ℕ) → Rest e pool values a (enum_names_at table pool k r p) x out out' → PutsEnum e at table pool count row place x out₀ out'
+  pub rest : (x : Option Written) (out' : List ℕ) → Rest e pool values a (enum_names_at table pool (count - i) r p) x out out' → PutsEnum e at table pool count row place x out₀ out'
 
 module _ {e : ℕ} {table pool : List ℕ} {count row place at : ℕ} {out₀ : List ℕ} where
-  pub enum_begun : (v : ℕ) → v ≡ 0 → EnumLeft e table pool count row place at out₀ count row place at v out₀
-  enum_begun v z = rw z (record { long = refl; some = omega arith; near = omega arith; rest = λ x o h. record { puts = from-rest e pool at x out₀ o (enum_names_at table pool count row place) h } })
+  pub enum_begun : EnumLeft e table pool count row place at out₀ 0 row place at 0 out₀
+  enum_begun =
+      record {
+        long = refl;
+        some = omega arith;
+        near = omega arith;
+        rest = λ x o h.
+            let z : count - 0 ≡ count = omega arith in
+            record { puts = from-rest e pool at x out₀ o (enum_names_at table pool count row place) (rw z at h) };
+      }
 
-  module _ {k r p a v : ℕ} {out : List ℕ} (i : EnumLeft e table pool count row place at out₀ k r p a v out) where
+  module _ {j r p a v : ℕ} {out : List ℕ} (i : EnumLeft e table pool count row place at out₀ j r p a v out) where
+    abbrev k : ℕ
+    k = count - j
+
     -- the place behind the values that are stored does not wrap
-    pub values-fit : {s out₁ out₂ : List ℕ} {b c : ℕ} {x : Placed} → PlacesFrom pool p v s b x out₁ out₂ → x ≡ Behind c → length pool < 18446744073709551616 → place < 18446744073709551616 → Fits w64 (p + v)
+    pub values-fit : {s out₁ out₂ : List ℕ} {b c : ℕ} {x : Option ℕ} → PlacesFrom pool p v s b x out₁ out₂ → x ≡ Some c → length pool < 18446744073709551616 → place < 18446744073709551616 → Fits w64 (p + v)
     values-fit f g l m = record { fits = omega (arith, i.near, f.inside _ g) }
 
-    module _ (h : 0 < k) {m : Member} (j : MemberIfKnown (enum_member_at_of table pool r p) m) where
-      known : (x : Put) (out' : List ℕ) → (m ≡ enum_member_at_of table pool r p → Rest e pool v a (enum_names_at table pool k r p) x out out') → PutsEnum e at table pool count row place x out₀ out'
-      known x out' c = i.rest x out' (known-names e table pool v a k r p x out out' h j c)
+    module _ (more : j < count) {m : Option Member} (h : IfKnown (enum_member_at_of table pool r p) m) where
+      known : (x : Option Written) (out' : List ℕ) → (m ≡ enum_member_at_of table pool r p → Rest e pool v a (enum_names_at table pool k r p) x out out') → PutsEnum e at table pool count row place x out₀ out'
+      known x out' c = i.rest x out' (known-names e table pool v a k r p x out out' (omega arith) h c)
 
-      pub enum_unnamed : m ≡ Unnamed → PutsEnum e at table pool count row place Lost out₀ out
-      enum_unnamed f = known Lost out (λ q. rw (names-none table pool r p k h q f) (unfold Rest in tt))
+      pub enum_unnamed : m ≡ None → PutsEnum e at table pool count row place None out₀ out
+      enum_unnamed f = known None out (λ q. rw (names-none table pool r p k (omega arith) q f) (unfold Rest in tt))
 
-      module _ {n w : ℕ} (f : m ≡ Named n w) {y : Placed} {out₁ : List ℕ} (g : PlacesFrom pool p n (name_bytes e (take n (drop p pool))) a y out out₁) where
-        pub enum_full : MemberInside m (length table) (length pool) r p (enum_member_name_length m) → y ≡ Full → PutsEnum e at table pool count row place Lost out₀ out₁
+      module _ {u : Member} (f : m ≡ Some u) {y : Option ℕ} {out₁ : List ℕ} (g : PlacesFrom pool p u.name (name_bytes e (take u.name (drop p pool))) a y out out₁) where
+        pub enum_full : MemberInside m (length table) (length pool) r p → y ≡ None → PutsEnum e at table pool count row place None out₀ out₁
         enum_full d s =
-            let b = enum_named_inside (length table) (length pool) r p f d in
-            known Lost out₁ (λ q. rw (names_as table pool r p k h q f) (rest-full e pool v a p n w out g (enum_names_at table pool (k - 1) (r + 1) (p + n)) (omega (arith, b.1)) s out₁))
+            let b = named-inside (length table) (length pool) r p f d in
+            known None out₁ (λ q. rw (names_as table pool r p k (omega arith) q f) (rest-full e pool v a p u.name u.number out g (enum_names_at table pool (k - 1) (r + 1) (p + u.name)) (omega (arith, b.1)) s out₁))
 
-        pub enum_past : length pool - v < w → PutsEnum e at table pool count row place Lost out₀ out₁
-        enum_past s = known Lost out₁ (λ q. rw (names_as table pool r p k h q f) (rest-past e pool v a w (take n (drop p pool)) (enum_names_at table pool (k - 1) (r + 1) (p + n)) s Lost out out₁))
+        pub enum_past : length pool - v < u.number → PutsEnum e at table pool count row place None out₀ out₁
+        enum_past s = known None out₁ (λ q. rw (names_as table pool r p k (omega arith) q f) (rest-past e pool v a u.number (take u.name (drop p pool)) (enum_names_at table pool (k - 1) (r + 1) (p + u.name)) s None out out₁))
 
-        pub enum_next : {b : ℕ} → y ≡ Behind b → w ≤ length pool - v → length out₁ ≡ length out → EnumLeft e table pool count row place at out₀ (k - 1) (r + 1) (p + n) b (v + w) out₁
+        pub enum_next : {b : ℕ} → y ≡ Some b → u.number ≤ length pool - v → length out₁ ≡ length out → EnumLeft e table pool count row place at out₀ (j + 1) (r + 1) (p + u.name) b (v + u.number) out₁
         enum_next s l t =
+            let z : count - (j + 1) ≡ k - 1 = omega arith in
             record {
               long = t ∙ i.long;
-              some = let u = i.some in omega arith;
+              some = let k = i.some in omega arith;
               near = omega (arith, i.near, g.inside _ s);
-              rest = λ x o d. known x o (λ q. rw (names_as table pool r p k h q f) (rest-next e pool v a p n w out g (enum_names_at table pool (k - 1) (r + 1) (p + n)) s x o d));
+              rest = λ x o d. known x o (λ q. rw (names_as table pool r p k (omega arith) q f) (rest-next e pool v a p u.name u.number out g (enum_names_at table pool (k - 1) (r + 1) (p + u.name)) s x o (rw z at d)));
             }
 
     -- behind the last name
-    module _ (h : k ≤ 0) {y : Placed} {out₁ : List ℕ} (g : PlacesFrom pool p v (take v (drop p pool)) a y out out₁) where
-      ended : (x : Put) → (Inside pool p v → Stands (take v (drop p pool)) r (p + v) a x out out₁) → PutsEnum e at table pool count row place x out₀ out₁
+    module _ (h : count ≤ j) {y : Option ℕ} {out₁ : List ℕ} (g : PlacesFrom pool p v (take v (drop p pool)) a y out out₁) where
+      ended : (x : Option Written) → (Inside pool p v → Stands (take v (drop p pool)) r (p + v) a x out out₁) → PutsEnum e at table pool count row place x out₀ out₁
       unfolding Rest enum_names_at names_of values_long
       ended x s =
           let z : k ≡ 0 = omega arith in
           i.rest x out₁ (rw (z, add-zero v) s)
 
-      pub enum_cut : y ≡ Full → PutsEnum e at table pool count row place Lost out₀ out₁
-      enum_cut f = ended Lost (λ j. lost _ r (p + v) a (g.places j) f)
+      pub enum_cut : y ≡ None → PutsEnum e at table pool count row place None out₀ out₁
+      enum_cut f = ended None (λ q. lost _ r (p + v) a (g.places q) f)
 
-      pub enum_ended : {b : ℕ} → y ≡ Behind b → PutsEnum e at table pool count row place (At (record { row = r; place = p + v; at = b })) out₀ out₁
-      enum_ended f = ended _ (λ j. stands _ r (p + v) a (g.places j) f)
+      pub enum_ended : {b : ℕ} → y ≡ Some b → PutsEnum e at table pool count row place (Some (record { row = r; place = p + v; at = b })) out₀ out₁
+      enum_ended f = ended _ (λ q. stands _ r (p + v) a (g.places q) f)
 
 -- ---- as many members as the row says
 
@@ -192,10 +201,10 @@ module _ (table pool : List ℕ) where
   many_cons k a (found l r p) h = ap suc h
   many_cons k a bad h = tt
 
-  many-entry : (k r p : ℕ) (m : Member) → ((r p : ℕ) → Many k (enum_names_at table pool k r p)) → Many (suc k) (from_enum_member (enum_names_at table pool k) pool r p m)
+  many-entry : (k r p : ℕ) (m : Option Member) → ((r p : ℕ) → Many k (enum_names_at table pool k r p)) → Many (suc k) (from_enum_member (enum_names_at table pool k) pool r p m)
   unfolding from_enum_member
-  many-entry k r p (Named n v) h = many_cons k _ (enum_names_at table pool k (suc r) (p + n)) (h (suc r) (p + n))
-  many-entry k r p Unnamed h = unfold Many in tt
+  many-entry k r p (Some m) h = many_cons k _ (enum_names_at table pool k (suc r) (p + m.name)) (h (suc r) (p + m.name))
+  many-entry k r p None h = unfold Many in tt
 
   many-names : (k r p : ℕ) → Many k (enum_names_at table pool k r p)
   many-names zero r p = unfold Many enum_names_at in refl

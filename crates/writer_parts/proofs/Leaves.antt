@@ -1,6 +1,10 @@
 -- A leaf's message by the columns of its row: the flag bytes, the numbers behind the header, and that this is the message of its type.
+use Rattle.std.proofs.lemmas.Option.{none-some, same_Some}
+use Rattle.std.proofs.lemmas.Result.{Ok-from_Ok_iff}
+use Rattle.std.specs.Result.{OkIff, result_ok}
+use Rattle.std.specs.Prelude.{Option, Some, None, Result}
 use Prim.Native.Nat.{ℕ, zero, suc, ◌+◌, ◌-◌, ◌*◌, ◌%◌, ◌<◌, ◌≤◌}
-use mathlib.Core.Path.{◌≡◌, refl, sym, ◌∙◌}
+use mathlib.Core.Path.{◌≡◌, refl, sym, ap, ◌∙◌}
 use mathlib.Core.Bool.{Bool, true, false, ◌&&◌}
 use mathlib.Core.List.{List, [], ◌++◌, append-nil}
 use native.Mathlib.Omega.{arith}
@@ -16,16 +20,14 @@ use Rattle.format.specs.Message.{header, leaf_message, message, storable, carrie
 use Rattle.format.proofs.Booleans.{and_both}
 use Rattle.writer_parts.specs.Places.{Places, PlacesFrom, Inside}
 use Rattle.writer_parts.specs.Leaf.{leaf_codes, leaf_flags_of, leaf_bits_of, column_width_of, column_bytes, tag_bytes, leaf_rest, leaf_bytes, PutsLeaf}
-use Rattle.writer_parts.specs.declared.Placed.{Placed}
-use Rattle.writer_parts.specs.declared.Placed.TheVariants.{Behind, Full}
-use Rattle.writer_parts.specs.declared.Put.TheVariants.{At, Lost}
 use Rattle.writer_parts.proofs.Placing.{behind, full-behind, none-placed, stands, lost}
 use Rattle.format.specs.Table.{word_at, leaf_of, isFixedPoint, isFloatingPoint, isTime, is_string_of, isBitField, isOpaque, isReference, Kind, is_leaf, isCompound, isEnumeration, isVariableLength, isArray, isUnknown, kind_of}
 use Rattle.format.proofs.Facts.{StorableLeaf, Storable}
 use Rattle.format.proofs.Storable.{storable_fact}
-use Rattle.rows.specs.Entries.{pick, leaf_at, tag_inside, leaf_entry, entry_of, entry_at, leaf_kind_of, leaf_type}
+use Rattle.std.specs.Bool.{then_some}
+use Rattle.rows.specs.Entries.{leaf_at, tag_inside, leaf_entry, entry_of, entry_at, leaf_kind_of, leaf_type}
 use Rattle.rows.specs.declared.Entry.{Entry}
-use Rattle.rows.specs.declared.Entry.TheVariants.{Leaf, Compound, Enumeration, VariableLength, Array, Unknown}
+use Rattle.rows.specs.declared.Entry.TheVariants.{Leaf, Compound, Enumeration, VariableLength, Array}
 
 -- ---- the flag bytes
 
@@ -49,55 +51,53 @@ module _ (c x s l : ℕ) (h : leaf_codes c x s l ≡ true) where
     unfolding leaf_codes
     fixed-below = both_below (rw k at h)
 
-    pub fixed_order : 1 < x → 0 ≡ leaf_flags_of c x s l
+    pub fixed_order : 1 < x → None ≡ Some (leaf_flags_of c x s l)
     fixed_order g = let b = fixed-below in absurd (omega arith)
 
-    pub fixed_signed : 1 < s → 0 ≡ leaf_flags_of c x s l
+    pub fixed_signed : 1 < s → None ≡ Some (leaf_flags_of c x s l)
     fixed_signed g = let b = fixed-below in absurd (omega arith)
 
-    pub fixed_flag : {f : ℕ} → f ≡ fixed_flags_of x s → f ≡ leaf_flags_of c x s l
+    pub fixed_flag : {f : ℕ} → f ≡ fixed_flags_of x s → Some f ≡ Some (leaf_flags_of c x s l)
     unfolding leaf_flags_of
-    fixed_flag e = e ∙ rw k
+    fixed_flag e = ap Some (e ∙ rw k)
 
   module _ (k : c ≡ 1) where
-    pub float_order_lem : 2 < x → 0 ≡ leaf_flags_of c x s l
+    pub float_order_lem : 2 < x → None ≡ Some (leaf_flags_of c x s l)
     unfolding leaf_codes
     float_order_lem g = let b = ltb-true x 3 (rw k at h) in absurd (omega arith)
 
-    pub float_flag : {f : ℕ} → f ≡ float_flags_of x → f ≡ leaf_flags_of c x s l
+    pub float_flag : {f : ℕ} → f ≡ float_flags_of x → Some f ≡ Some (leaf_flags_of c x s l)
     unfolding leaf_flags_of
-    float_flag e = e ∙ rw k
+    float_flag e = ap Some (e ∙ rw k)
 
   module _ (k : c ≡ 3) where
     string-below : (x < 16) × (s < 16)
     unfolding leaf_codes
     string-below = both_below (rw k at h)
 
-    pub string_padding : 15 < x → 0 ≡ leaf_flags_of c x s l
+    pub string_padding : 15 < x → None ≡ Some (leaf_flags_of c x s l)
     string_padding g = let b = string-below in absurd (omega arith)
 
-    pub string-charset : 15 < s → 0 ≡ leaf_flags_of c x s l
+    pub string-charset : 15 < s → None ≡ Some (leaf_flags_of c x s l)
     string-charset g = let b = string-below in absurd (omega arith)
 
-    pub string_flag : {f : ℕ} → f ≡ nibbles x s → f ≡ leaf_flags_of c x s l
+    pub string_flag : {f : ℕ} → f ≡ nibbles x s → Some f ≡ Some (leaf_flags_of c x s l)
     unfolding leaf_flags_of
-    string_flag e = e ∙ rw k
+    string_flag e = ap Some (e ∙ rw k)
 
   module _ (k : c ≡ 5) where
-    pub tag-long : 255 < l → 0 ≡ leaf_flags_of c x s l
-    unfolding leaf_codes
-    tag-long g = let b = ltb-true l 256 (rw k at h) in absurd (omega arith)
-
-    pub tag_flag : l ≡ leaf_flags_of c x s l
-    unfolding leaf_flags_of
-    tag_flag = rw k
+    pub tag_flag : {E : Type 0} {o : Option ℕ} (r : Result ℕ E) → o ≡ result_ok r → OkIff r (l < 256) l → o ≡ Some (leaf_flags_of c x s l)
+    unfolding leaf_codes leaf_flags_of
+    tag_flag r e f = e ∙ ap result_ok (Ok-from_Ok_iff r (l < 256) l f (ltb-true l 256 (rw k at h))) ∙ rw k
 
   module _ (a : c ≡ 0 → ⊥) (b : c ≡ 1 → ⊥) (d : c ≡ 3 → ⊥) (e : c ≡ 5 → ⊥) where
-    pub code_great : 255 < x → 0 ≡ leaf_flags_of c x s l
-    code_great g = let q = other_class c x s l a b d e in let w = ltb-true x 256 (sym q.0 ∙ h) in absurd (omega arith)
+    pub code_flag : {E : Type 0} {o : Option ℕ} (r : Result ℕ E) → o ≡ result_ok r → OkIff r (x < 256) x → o ≡ Some (leaf_flags_of c x s l)
+    code_flag r g f =
+        let q = other_class c x s l a b d e in
+        g ∙ ap result_ok (Ok-from_Ok_iff r (x < 256) x f (ltb-true x 256 (sym q.0 ∙ h))) ∙ ap Some (sym q.1)
 
-    pub code_flag : x ≡ leaf_flags_of c x s l
-    code_flag = sym (other_class c x s l a b d e).1
+-- every way out of `leaf_flags`
+pub ruleset flag_laws = (fixed_order, fixed_signed, fixed_flag, float_order_lem, float_flag, string_padding, string-charset, string_flag)
 
 module _ (c n : ℕ) where
   pub no_bits : (c ≡ 1 → ⊥) → 0 ≡ leaf_bits_of c n
@@ -131,28 +131,28 @@ module _ (k : ℕ) where
 pub record ColumnsLeft (table : List ℕ) (r from to at : ℕ) (out₀ : List ℕ) (c a : ℕ) (out : List ℕ) : Type 0 where
   pub left : c ≤ to
   pub long : length out ≡ length out₀
-  pub rest : {x : Placed} {out' : List ℕ} → Places (column_bytes table r c (to - c)) a x out out' → Places (column_bytes table r from (to - from)) at x out₀ out'
+  pub rest : {x : Option ℕ} {out' : List ℕ} → Places (column_bytes table r c (to - c)) a x out out' → Places (column_bytes table r from (to - from)) at x out₀ out'
 
 module _ {table : List ℕ} {r from to at : ℕ} {out₀ : List ℕ} where
   pub columns-begun : from ≤ to → ColumnsLeft table r from to at out₀ from at out₀
   columns-begun h = record { left = h; long = refl; rest = λ p. p }
 
   module _ {c a : ℕ} {out : List ℕ} (i : ColumnsLeft table r from to at out₀ c a out) where
-    pub columns-ended : to ≤ c → Places (column_bytes table r from (to - from)) at (Behind a) out₀ out
+    pub columns-ended : to ≤ c → Places (column_bytes table r from (to - from)) at (Some a) out₀ out
     unfolding column_bytes
     columns-ended h = let e : to - c ≡ 0 = omega arith in i.rest (rw e none-placed)
 
-    module _ (h : c < to) {w : ℕ} {y : Placed} {out₁ : List ℕ} (e : w ≡ column_width_of c) (p : Places (little_endian w (get_or table (r * 16 + c) 0)) a y out out₁) where
+    module _ (h : c < to) {w : ℕ} {y : Option ℕ} {out₁ : List ℕ} (e : w ≡ column_width_of c) (p : Places (little_endian w (get_or table (r * 16 + c) 0)) a y out out₁) where
       more : column_bytes table r c (to - c) ≡ little_endian w (get_or table (r * 16 + c) 0) ++ column_bytes table r (c + 1) (to - (c + 1))
       unfolding column_bytes
       more =
           let q : to - c ≡ suc (to - (c + 1)) = omega arith in
           rw (q, add-one c, e)
 
-      pub columns-full : {out' : List ℕ} → y ≡ Full → Places (column_bytes table r from (to - from)) at Full out₀ out'
+      pub columns-full : {out' : List ℕ} → y ≡ None → Places (column_bytes table r from (to - from)) at None out₀ out'
       columns-full f = i.rest (rw more (full-behind _ _ a out p f))
 
-      pub columns-next : {b : ℕ} → y ≡ Behind b → length out₁ ≡ length out → ColumnsLeft table r from to at out₀ (c + 1) b out₁
+      pub columns-next : {b : ℕ} → y ≡ Some b → length out₁ ≡ length out → ColumnsLeft table r from to at out₀ (c + 1) b out₁
       columns-next f l = record { left = omega arith; long = l ∙ i.long; rest = λ q. i.rest (rw more (behind _ _ a out p f q)) }
 
 no_rest : (table pool : List ℕ) (r p l c : ℕ) → (c ≡ 0 → ⊥) → (c ≡ 1 → ⊥) → (c ≡ 2 → ⊥) → (c ≡ 4 → ⊥) → (c ≡ 5 → ⊥) → leaf_rest table pool r p c l ≡ []
@@ -166,7 +166,7 @@ no_rest table pool r p l (suc (suc (suc (suc (suc zero))))) a b d e f = absurd (
 no_rest table pool r p l (suc (suc (suc (suc (suc (suc c)))))) a b d e f = refl
 
 module _ (table pool : List ℕ) (r p c l at : ℕ) {out : List ℕ} where
-  module _ {x : Placed} {out' : List ℕ} where
+  module _ {x : Option ℕ} {out' : List ℕ} where
     pub rest-fixed : c ≡ 0 → Places (column_bytes table r 7 2) at x out out' → Places (leaf_rest table pool r p c l) at x out out'
     unfolding leaf_rest
     rest-fixed e h = rw e h
@@ -187,48 +187,52 @@ module _ (table pool : List ℕ) (r p c l at : ℕ) {out : List ℕ} where
     unfolding leaf_rest
     rest-tag e h i = rw e (h.places i)
 
-  pub rest-none : (c ≡ 0 → ⊥) → (c ≡ 1 → ⊥) → (c ≡ 2 → ⊥) → (c ≡ 4 → ⊥) → (c ≡ 5 → ⊥) → Places (leaf_rest table pool r p c l) at (Behind at) out out
+  pub rest-none : (c ≡ 0 → ⊥) → (c ≡ 1 → ⊥) → (c ≡ 2 → ⊥) → (c ≡ 4 → ⊥) → (c ≡ 5 → ⊥) → Places (leaf_rest table pool r p c l) at (Some at) out out
   rest-none a b d e f = rw (no_rest table pool r p l c a b d e f) none-placed
 
 -- ---- a leaf
 
-module _ (table pool : List ℕ) (r p c n l x at : ℕ) {out out₁ : List ℕ} {f g : ℕ} {y : Placed}
-    (h : leaf_codes c x (word_at table r 6) l ≡ true → f ≡ leaf_flags_of c x (word_at table r 6) l) (b : g ≡ leaf_bits_of c n) (k : Places (header c 1 f g n) at y out out₁) where
+module _ (table pool : List ℕ) (r p c n l x at : ℕ) {out : List ℕ} {o : Option ℕ} (h : leaf_codes c x (word_at table r 6) l ≡ true → o ≡ Some (leaf_flags_of c x (word_at table r 6) l)) where
+  pub leaf_flagless : o ≡ None → PutsLeaf table pool r p c n l x at None out out
+  leaf_flagless e = record { puts = λ q. absurd (none-some _ (sym e ∙ h q)) }
+
+module _ (table pool : List ℕ) (r p c n l x at : ℕ) {out out₁ : List ℕ} {o : Option ℕ} {f g : ℕ} {y : Option ℕ}
+    (h : leaf_codes c x (word_at table r 6) l ≡ true → o ≡ Some (leaf_flags_of c x (word_at table r 6) l)) (v : o ≡ Some f) (b : g ≡ leaf_bits_of c n) (k : Places (header c 1 f g n) at y out out₁) where
   headed : leaf_codes c x (word_at table r 6) l ≡ true → Places (header c 1 (leaf_flags_of c x (word_at table r 6) l) (leaf_bits_of c n) n) at y out out₁
-  headed q = rw (← h q, ← b) k
+  headed q = let w = same_Some _ _ (sym v ∙ h q) in rw (← w, ← b) k
 
-  pub leaf_headless : {out₂ : List ℕ} → y ≡ Full → PutsLeaf table pool r p c n l x at Lost out out₂
+  pub leaf_headless : {out₂ : List ℕ} → y ≡ None → PutsLeaf table pool r p c n l x at None out out₂
   unfolding leaf_bytes
-  leaf_headless e = record { puts = λ q. let w : Places (leaf_bytes table pool r p c n l x) at Full out out = full-behind _ (leaf_rest table pool r p c l) at out (headed q) e in lost _ (r + 1) (p + l) at w refl }
+  leaf_headless e = record { puts = λ q. let w : Places (leaf_bytes table pool r p c n l x) at None out out = full-behind _ (leaf_rest table pool r p c l) at out (headed q) e in lost _ (r + 1) (p + l) at w refl }
 
-  module _ {a : ℕ} (e : y ≡ Behind a) (i : Inside pool p l) {z : Placed} {out₂ : List ℕ} (m : Inside pool p l → Places (leaf_rest table pool r p c l) a z out₁ out₂) where
-    pub leaf_cut : z ≡ Full → PutsLeaf table pool r p c n l x at Lost out out₂
+  module _ {a : ℕ} (e : y ≡ Some a) (i : Inside pool p l) {z : Option ℕ} {out₂ : List ℕ} (m : Inside pool p l → Places (leaf_rest table pool r p c l) a z out₁ out₂) where
+    pub leaf_cut : z ≡ None → PutsLeaf table pool r p c n l x at None out out₂
     unfolding leaf_bytes
     leaf_cut o = record { puts = λ q. lost _ (r + 1) (p + l) at (behind _ _ at out (headed q) e (m i)) o }
 
-    pub leaf-put : {d : ℕ} → z ≡ Behind d → PutsLeaf table pool r p c n l x at (At (record { row = r + 1; place = p + l; at = d })) out out₂
+    pub leaf-put : {d : ℕ} → z ≡ Some d → PutsLeaf table pool r p c n l x at (Some (record { row = r + 1; place = p + l; at = d })) out out₂
     unfolding leaf_bytes
     leaf-put o = record { puts = λ q. stands _ (r + 1) (p + l) at (behind _ _ at out (headed q) e (m i)) o }
 
 -- ---- it is the message of the type that the row says
 
-unfoldable LeafSays : (table pool : List ℕ) (r p : ℕ) → Entry → Type 0
-LeafSays table pool r p (Leaf c n l x) =
+unfoldable LeafSays : (table pool : List ℕ) (r p : ℕ) → Option Entry → Type 0
+LeafSays table pool r p (Some (Leaf c n l x)) =
     (c ≤ 7)
     × ((e : ℕ) → storable (leaf_type table pool r p c) ≡ true
     → (leaf_codes c x (word_at table r 6) l ≡ true) × (message e (leaf_type table pool r p c) ≡ leaf_bytes table pool r p c n l x))
-LeafSays table pool r p (Compound n k) = Unit {0}
-LeafSays table pool r p (Enumeration n k) = Unit {0}
-LeafSays table pool r p (VariableLength i a k) = Unit {0}
-LeafSays table pool r p (Array k) = Unit {0}
-LeafSays table pool r p Unknown = Unit {0}
+LeafSays table pool r p (Some (Compound n k)) = Unit {0}
+LeafSays table pool r p (Some (Enumeration n k)) = Unit {0}
+LeafSays table pool r p (Some (VariableLength i a k)) = Unit {0}
+LeafSays table pool r p (Some (Array k)) = Unit {0}
+LeafSays table pool r p None = Unit {0}
 
 two-below : (x s m n : ℕ) → x < m → s < n → (ltb x m && ltb s n) ≡ true
 two-below x s m n h g = rw (lt-ltb x m h, lt-ltb s n g)
 
 module _ (table pool : List ℕ) (r p : ℕ) where
-  says-pick : (b : Bool) (e : Entry) → (b ≡ true → LeafSays table pool r p e) → LeafSays table pool r p (pick b e)
-  unfolding pick LeafSays
+  says-pick : (b : Bool) (e : Entry) → (b ≡ true → LeafSays table pool r p (Some e)) → LeafSays table pool r p (then_some b e)
+  unfolding LeafSays
   says-pick true e h = h refl
   says-pick false e h = tt
 
@@ -253,11 +257,11 @@ module _ (table pool : List ℕ) (r p : ℕ) where
   says-kind isArray = says-pick _ _ (λ b. tt)
   says-kind isUnknown = tt
 
-  module _ {y : Entry} {c n l x : ℕ} (q : y ≡ entry_at table pool r p) (i : y ≡ Leaf c n l x) where
-    leaf-says : LeafSays table pool r p (Leaf c n l x)
+  module _ {o : Option Entry} {y : Entry} {c n l x : ℕ} (q : o ≡ entry_at table pool r p) (s : o ≡ Some y) (i : y ≡ Leaf c n l x) where
+    leaf-says : LeafSays table pool r p (Some (Leaf c n l x))
     unfolding entry_at
     leaf-says =
-        let f : entry_at table pool r p ≡ Leaf c n l x = sym q ∙ i in
+        let f : entry_at table pool r p ≡ Some (Leaf c n l x) = sym q ∙ s ∙ ap Some i in
         rw f at (says-kind (kind_of (word_at table r 0)))
 
     pub leaf-class : c ≤ 7

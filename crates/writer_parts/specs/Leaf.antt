@@ -1,4 +1,6 @@
 -- The message of a leaf by its row: class, size, length of the tag, code and second code, and the columns of its numbers.
+use Rattle.std.specs.Prelude.{Option}
+use Rattle.writer_parts.specs.declared.Written.{Written}
 use Rattle.std.specs.Prelude.{ℕ, zero, suc, ◌+◌, ◌-◌, ◌*◌, ◌%◌, ◌≡◌, Bool, true, cond, ◌&&◌, List, [], ◌∷◌, ◌++◌, get_or, take, drop, eqb, ltb}
 use Rattle.format.specs.Bits.{fixed_flags_of, float_flags_of, nibbles}
 use Rattle.format.specs.Bytes.{little_endian, zeros, padding_to8}
@@ -6,7 +8,6 @@ use Rattle.format.specs.Columns.{second_code_column, offset_column, precision_co
 use Rattle.format.specs.Message.{header}
 use Rattle.format.specs.Table.{word_at}
 use Rattle.writer_parts.specs.Places.{Stands}
-use Rattle.writer_parts.specs.declared.Put.{Put}
 
 -- the codes that the flag byte can hold
 unfoldable pub leaf_codes : (class code second length : ℕ) → Bool
@@ -60,5 +61,5 @@ unfoldable pub leaf_bytes : (table pool : List ℕ) (row place class size length
 leaf_bytes table pool r p c n l x = header c 1 (leaf_flags_of c x (word_at table r second_code_column) l) (leaf_bits_of c n) n ++ leaf_rest table pool r p c l
 
 -- the leaf's bytes, where its codes can be stored
-pub record PutsLeaf (table pool : List ℕ) (r p c n l x at : ℕ) (y : Put) (out out' : List ℕ) : Type 0 where
+pub record PutsLeaf (table pool : List ℕ) (r p c n l x at : ℕ) (y : Option Written) (out out' : List ℕ) : Type 0 where
   pub puts : leaf_codes c x (word_at table r second_code_column) l ≡ true → Stands (leaf_bytes table pool r p c n l x) (r + 1) (p + l) at y out out'

@@ -1,5 +1,9 @@
-use Rattle.abi.proofs.Answers.{told}
+use Rattle.std.specs.Prelude.{List, ℕ, get_or}
+use Rattle.std.proofs.Common.{ap, ◌∙◌}
+use Rattle.abi.proofs.Answers.{tells}
 use Rattle.abi.proofs.datatype_compare.Goals as goal
 
 pub returns : goal.returns
-returns c = let both = told c.of_comparison-answer.ensures c.same.ensures.number c.same.ensures.values in record { number = both.0; first = both.1.0; second = both.1.1 }
+returns c =
+    let e = c.comparison.ensures in
+    record { told = tells c.same.ensures (c.tell.ensures.number ∙ e.number) (c.tell.ensures.first ∙ ap (λ (l : List ℕ). get_or l 0 0) e.values) (c.tell.ensures.second ∙ ap (λ (l : List ℕ). get_or l 1 0) e.values) }

@@ -1,5 +1,7 @@
-use Rattle.abi.proofs.Answers.{told_with}
+use Rattle.slots.specs.Slots.{slots_values}
+use Rattle.abi.proofs.Answers.{tells}
 use Rattle.abi.proofs.datatype_slots.Goals as goal
 
-pub returns : goal.returns
-returns c = let both = told_with c.of_slots-answer.ensures c.embedded_reference_slots.ensures.number c.embedded_reference_slots.ensures.values c.embedded_reference_slots.ensures.out-is in record { number = both.0; first = both.1.0; second = both.1.1.0; out = both.1.1.1 }
+pub returns-clause-told : goal.returns-clause-told
+unfolding slots_values
+returns-clause-told c = tells c.embedded_reference_slots.ensures.answers c.tell.ensures.number c.tell.ensures.first c.tell.ensures.second

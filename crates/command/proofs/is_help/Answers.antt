@@ -1,5 +1,6 @@
+use Rattle.command.specs.Starts.{help_word}
 use Rattle.command.proofs.Starts.{same-is}
 use Rattle.command.proofs.is_help.Goals as goal
 
 pub returns : goal.returns
-returns c = same-is _ _ _ c.same.ensures
+returns c = let s = same-is c.args.word.now help_word in cc

@@ -1,7 +1,8 @@
 use borrow.Author.Rules.{rules}
-use Rattle.rows.proofs.Known.{says-leaf-next, says-compound-next, says-array-row, names-next}
-use Rattle.compare.proofs.Types.{type_unknown, type-variable_length, type-leaf, type-enumeration, type-array, type-compound, array-deep, array-lost, array-of-field, array-entries, standing-entered, says-entered, member-leaf, member-enumeration, member-entered}
-use Rattle.compare.proofs.Inside.{leads-same, members_end, members-deep, members_unnamed, members-past, members-lost, members-apart, members-next, entries_end, entries-start, entries-past, entries_stop, entries_next}
+use Rattle.std.proofs.lemmas.Result.{err_from_is_err_and}
+use Rattle.rows.proofs.Known.{says-row, says-next, names-next}
+use Rattle.compare.proofs.Types.{type-variable_length, type-leaf, type-enumeration, type-array, type-compound, array-deep, array-lost, array-unknown, array-of-field, array-entries, standing-entered, says-entered, member-leaf, member-enumeration, member_unknown}
+use Rattle.compare.proofs.Inside.{leads-same, members_end, members-deep, members_unnamed, members-past, members-stop, members-next, entries_end, entries-start, entries-past, entries_stop, entries_next}
 use Rattle.compare.proofs.+agree.Goals as goal
 
 pub agree_array-returns-then-depth-ge32 : goal.agree_array-returns-then-depth-ge32
@@ -13,29 +14,32 @@ agree_array-returns-then-is_field t c = search array-of-field
 pub agree_array-agree_entries-requires : goal.agree_array-agree_entries-requires
 agree_array-agree_entries-requires t c = search (standing-entered, says-entered, rules)
 
-pub agree_array-returns-in-Lost : goal.agree_array-returns-in-Lost
-agree_array-returns-in-Lost t c = search array-lost
+pub agree_array-returns-in_default : goal.agree_array-returns-in_default
+agree_array-returns-in_default t c = search array-lost
 
-pub agree_array-returns-else-is_field : goal.agree_array-returns-else-is_field
-agree_array-returns-else-is_field t c = search array-entries
+pub agree_array-returns-in_default-row_entry : goal.agree_array-returns-in_default-row_entry
+agree_array-returns-in_default-row_entry t c = search array-unknown
 
-pub agree_entries-loop-done-init : goal.agree_entries-loop-done-init
-agree_entries-loop-done-init t c = search entries-start
+pub agree_array-returns : goal.agree_array-returns
+agree_array-returns t c = search array-entries
+
+pub agree_entries-loop-init : goal.agree_entries-loop-init
+agree_entries-loop-init t c = search entries-start
 
 pub agree_entries-returns-then-a-start : goal.agree_entries-returns-then-a-start
 agree_entries-returns-then-a-start t c = search entries-past
 
-pub agree_entries-returns-in_default : goal.agree_entries-returns-in_default
-agree_entries-returns-in_default t c = search (entries_stop, c.in_default.not-Together)
+pub agree_entries-returns-in_err-next : goal.agree_entries-returns-in_err-next
+agree_entries-returns-in_err-next t c = let p = err_from_is_err_and c.from_residual.result c.from_residual.ensures.1 in rw (p.1, p.2) (search (entries_stop, c.in_err-next.was))
 
-pub agree_entries-loop-done-preserved : goal.agree_entries-loop-done-preserved
-agree_entries-loop-done-preserved t c = search entries_next
+pub agree_entries-loop-preserved : goal.agree_entries-loop-preserved
+agree_entries-loop-preserved t c = search (entries_next, c.in_ok-next.was)
 
 pub agree_entries-returns : goal.agree_entries-returns
 agree_entries-returns t c = search entries_end
 
 pub agree_member-overflow_add-row : goal.agree_member-overflow_add-row
-agree_member-overflow_add-row t c = search (says-leaf-next, rules)
+agree_member-overflow_add-row t c = search (says-next, rules)
 
 pub agree_member-agree_type-requires : goal.agree_member-agree_type-requires
 agree_member-agree_type-requires t c = search (standing-entered, says-entered, rules)
@@ -47,10 +51,10 @@ pub agree_member-returns-in-Enumeration : goal.agree_member-returns-in-Enumerati
 agree_member-returns-in-Enumeration t c = search member-enumeration
 
 pub agree_member-returns-in_default : goal.agree_member-returns-in_default
-agree_member-returns-in_default t c = search member-entered
+agree_member-returns-in_default t c = search member_unknown
 
-pub agree_members-loop-left-init : goal.agree_members-loop-left-init
-agree_members-loop-left-init t c = leads-same _ _ _ _ _ _ _ _
+pub agree_members-loop-init : goal.agree_members-loop-init
+agree_members-loop-init t c = search leads-same
 
 pub agree_members-returns-then-depth-ge32 : goal.agree_members-returns-then-depth-ge32
 agree_members-returns-then-depth-ge32 t c = search members-deep
@@ -64,29 +68,23 @@ agree_members-returns-then-a-at t c = search members-past
 pub agree_members-overflow_add-r : goal.agree_members-overflow_add-r
 agree_members-overflow_add-r t c = search (names-next, rules)
 
-pub agree_members-returns-in-Lost : goal.agree_members-returns-in-Lost
-agree_members-returns-in-Lost t c = search members-lost
+pub agree_members-returns-in_err-r : goal.agree_members-returns-in_err-r
+agree_members-returns-in_err-r t c = let p = err_from_is_err_and c.from_residual.result c.from_residual.ensures.1 in rw (p.1, p.2) (search (members-stop, c.in_err-r.was))
 
-pub agree_members-returns-in-Apart : goal.agree_members-returns-in-Apart
-agree_members-returns-in-Apart t c = search members-apart
-
-pub agree_members-loop-left-preserved : goal.agree_members-loop-left-preserved
-agree_members-loop-left-preserved t c = search members-next
+pub agree_members-loop-preserved : goal.agree_members-loop-preserved
+agree_members-loop-preserved t c = search (members-next, c.in_ok-r.was)
 
 pub agree_members-returns : goal.agree_members-returns
 agree_members-returns t c = search members_end
 
 pub agree_type-overflow_add-row : goal.agree_type-overflow_add-row
-agree_type-overflow_add-row t c = search (says-leaf-next, rules)
+agree_type-overflow_add-row t c = search (says-next, rules)
 
 pub agree_type-overflow_add-row-in-Compound : goal.agree_type-overflow_add-row-in-Compound
-agree_type-overflow_add-row-in-Compound t c = search (says-compound-next, rules)
+agree_type-overflow_add-row-in-Compound t c = search (says-next, rules)
 
 pub agree_type-agree_array-requires : goal.agree_type-agree_array-requires
-agree_type-agree_array-requires t c = search (says-array-row, rules)
-
-pub agree_type-returns-in-Unknown : goal.agree_type-returns-in-Unknown
-agree_type-returns-in-Unknown t c = search type_unknown
+agree_type-agree_array-requires t c = search (says-row, rules)
 
 pub agree_type-returns-in-VariableLength : goal.agree_type-returns-in-VariableLength
 agree_type-returns-in-VariableLength t c = search type-variable_length

@@ -18,14 +18,8 @@ decreases-agree_members l = (33 - l.path.depth) * 4
 abbrev pub decreases-agree_type : goal.decreases-agree_type
 decreases-agree_type l = (33 - l.path.depth) * 4 + 1
 
-abbrev pub invariant-agree_entries-loop-done : goal.invariant-agree_entries-loop-done
-invariant-agree_entries-loop-done l = Going (33 - l.path.depth) l.table l.pool (top_of l.path) l.stride l.count l.done l.start l.next l.a l.b l.at
+abbrev pub invariant-agree_entries-loop : goal.invariant-agree_entries-loop
+invariant-agree_entries-loop l = Going (33 - l.path.depth) l.table l.pool (top_of l.path) l.stride l.count l.counter l.start l.next l.a l.b l.at
 
-abbrev pub decreases-agree_entries-loop-done : goal.decreases-agree_entries-loop-done
-decreases-agree_entries-loop-done l = l.count - l.done
-
-abbrev pub invariant-agree_members-loop-left : goal.invariant-agree_members-loop-left
-invariant-agree_members-loop-left l = Leads (32 - l.path.depth) l.table l.pool l.left l.r l.count l.row l.a l.b l.at
-
-abbrev pub decreases-agree_members-loop-left : goal.decreases-agree_members-loop-left
-decreases-agree_members-loop-left l = l.left
+abbrev pub invariant-agree_members-loop : goal.invariant-agree_members-loop
+invariant-agree_members-loop l = Leads (32 - l.path.depth) l.table l.pool l.counter l.r l.members l.row l.a l.b l.at

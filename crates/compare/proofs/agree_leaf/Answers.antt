@@ -1,5 +1,6 @@
 use Rattle.compare.proofs.Ranges.{field_past, leaf-equal, leaf-ended, leaf-not-ended, leaf_apart}
 use Rattle.compare.proofs.agree_leaf.Goals as goal
+use Rattle.compare.proofs.agree_leaf.Goals.{else-nul_terminated-via-then-nul_terminated+else-has_nul, else-nul_terminated-via-else-nul_terminated}
 
 pub returns-then-a-at : goal.returns-then-a-at
 returns-then-a-at c = search field_past
@@ -10,8 +11,9 @@ returns-then-equal-n c = search leaf-equal
 pub returns-then-has_nul : goal.returns-then-has_nul
 returns-then-has_nul c = search leaf-ended
 
-pub returns-else-has_nul : goal.returns-else-has_nul
-returns-else-has_nul c = search leaf-not-ended
-
-pub returns-else-nul_terminated : goal.returns-else-nul_terminated
-returns-else-nul_terminated c = search leaf_apart
+pub returns : goal.returns
+returns c =
+    elim c.else-nul_terminated.branch [
+      | else-nul_terminated-via-then-nul_terminated+else-has_nul w ↦ search leaf-not-ended
+      | else-nul_terminated-via-else-nul_terminated w ↦ search leaf_apart
+    ]

@@ -1,20 +1,9 @@
-use Rattle.compare.proofs.Fields.{leaf-is, enumeration-is, compound-is-not, variable_length-is-not, array-is-not, unknown_is-not}
+use mathlib.Core.Logic.{⊎_elim}
+use Rattle.compare.proofs.Fields.{leaf-is, enumeration-is, no_field}
 use Rattle.compare.proofs.is_field.Goals as goal
 
 pub returns-in-Leaf : goal.returns-in-Leaf
-returns-in-Leaf c = search leaf-is
+returns-in-Leaf c = ⊎_elim (λ w. leaf-is w.4) (λ w. enumeration-is w.2) c.in-Leaf.is
 
-pub returns-in-Enumeration : goal.returns-in-Enumeration
-returns-in-Enumeration c = search enumeration-is
-
-pub returns-in-Compound : goal.returns-in-Compound
-returns-in-Compound c = search compound-is-not
-
-pub returns-in-VariableLength : goal.returns-in-VariableLength
-returns-in-VariableLength c = search variable_length-is-not
-
-pub returns-in-Array : goal.returns-in-Array
-returns-in-Array c = search array-is-not
-
-pub returns-in-Unknown : goal.returns-in-Unknown
-returns-in-Unknown c = search unknown_is-not
+pub returns-in_default : goal.returns-in_default
+returns-in_default c = no_field _ c.in_default.not-Leaf c.in_default.not-Enumeration

@@ -1,18 +1,17 @@
-use Rattle.compare.proofs.Comparing.{same_length, same-length_b, same-admitted, same-same, same_differs}
 use borrow.Author.Rules.{rules}
+use Rattle.compare.proofs.Comparing.{wrong_length, wrong-length_b, same-admitted, same-compared}
 use Rattle.compare.proofs.same_sized.Goals as goal
+use Rattle.compare.proofs.same_sized.Goals.{then-a-size-via-then-a-size, then-a-size-via-else-a-size+then-b-size}
 
 pub returns-then-a-size : goal.returns-then-a-size
-returns-then-a-size c = search same_length
-
-pub returns-then-b-size : goal.returns-then-b-size
-returns-then-b-size c = search same-length_b
+returns-then-a-size c =
+    elim c.then-a-size.branch [
+      | then-a-size-via-then-a-size w ↦ search wrong_length
+      | then-a-size-via-else-a-size+then-b-size w ↦ search wrong-length_b
+    ]
 
 pub same_records-requires : goal.same_records-requires
 same_records-requires c = search (same-admitted, rules)
 
-pub returns-then-same_records : goal.returns-then-same_records
-returns-then-same_records c = search same-same
-
 pub returns : goal.returns
-returns c = search same_differs
+returns c = search same-compared

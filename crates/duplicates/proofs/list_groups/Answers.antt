@@ -11,7 +11,7 @@ put_numbers-requires c = record { comparable = search rules; n_value = search ru
 pub list_sizes-requires : goal.list_sizes-requires
 list_sizes-requires c = let e = c.put_numbers.ensures in
     let p = c.requires in
-    record { n_in_bounds = search rules; known = stored-known _ c.args.n _ _ e p.n_value.0 p.n_value.1 c.args.buckets _ p.known; n_in_bounds_2 = stored-room _ c.args.n _ _ e p.n_value.0 p.n_value.1 c.args.d _ p.d_value (search rules) }
+    record { n_in_bounds = search rules; known = stored-known _ c.args.n _ _ e p.n_value.0 p.n_value.1 c.args.found.buckets _ p.firsts.known; n_in_bounds_2 = stored-room _ c.args.n _ _ e p.n_value.0 p.n_value.1 c.args.found.distinct _ p.firsts.distinct (search rules) }
 
 pub returns : goal.returns
 returns c = search plain-found

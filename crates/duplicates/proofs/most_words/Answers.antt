@@ -1,11 +1,8 @@
-use Rattle.duplicates.proofs.WordLaws.{words-many, words_over, words-all}
+use native.Mathlib.Omega.{arith}
+use Rattle.format.specs.Outcome.{needed}
+use Rattle.duplicates.specs.WordCount.{most_words_of}
 use Rattle.duplicates.proofs.most_words.Goals as goal
 
-pub returns-then-runs-ge9223372036854775808 : goal.returns-then-runs-ge9223372036854775808
-returns-then-runs-ge9223372036854775808 c = search words-many
-
-pub returns-then-records-runs : goal.returns-then-records-runs
-returns-then-records-runs c = search words_over
-
 pub returns : goal.returns
-returns c = search words-all
+unfolding most_words_of needed
+returns c = omega arith

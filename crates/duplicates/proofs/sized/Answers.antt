@@ -1,5 +1,7 @@
+use Prim.Native.Nat.{◌/◌}
+use lib.ListN.{length}
 use Rattle.firsts.proofs.KeyLaws.{admits-some}
-use Rattle.duplicates.proofs.Calls.{sized-length, sized-room, none_comparable, none-count, none-listed}
+use Rattle.duplicates.proofs.Calls.{sized-length, sized-room, keys_comparable, keys-count, sized-listed}
 use borrow.Author.Rules.{rules}
 use Rattle.duplicates.proofs.sized.Goals as goal
 
@@ -16,7 +18,7 @@ pub returns-then-numbers-n : goal.returns-then-numbers-n
 returns-then-numbers-n c = search (sized-room, rules)
 
 pub grouped-requires : goal.grouped-requires
-grouped-requires c = record { comparable = search none_comparable; n_value = (search none-count, search rules) }
+grouped-requires c = record { comparable = search (keys_comparable, rules); n_value = (search (keys-count, rules), search rules) }
 
 pub returns : goal.returns
-returns c = search (none-listed, rules)
+returns c = sized-listed _ _ _ c.requires c.no_bytes.ensures _ _ (search rules) (length c.args.block.now / c.args.size) (search rules) (search rules) (search rules) _ _ _ c.grouped.ensures

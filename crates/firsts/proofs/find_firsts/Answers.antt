@@ -2,11 +2,11 @@ use Rattle.firsts.proofs.Compiling.{compiled, compiled-firsts, plain-firsts}
 use borrow.Author.Rules.{rules}
 use Rattle.firsts.proofs.find_firsts.Goals as goal
 
-pub returns-then-buckets-eq0 : goal.returns-then-buckets-eq0
-returns-then-buckets-eq0 c = search plain-firsts
+pub count_all-distinct-requires : goal.count_all-distinct-requires
+count_all-distinct-requires c = search (compiled, rules)
 
-pub count_all-d-requires : goal.count_all-d-requires
-count_all-d-requires c = search (compiled, rules)
+pub returns-in-None : goal.returns-in-None
+returns-in-None c = search plain-firsts
 
-pub returns : goal.returns
-returns c = search compiled-firsts
+pub returns-in-Some : goal.returns-in-Some
+returns-in-Some c = search compiled-firsts

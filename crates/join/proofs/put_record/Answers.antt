@@ -3,8 +3,8 @@ use Rattle.join.proofs.Copying.{put-from, put_to, put-fits, put-here, put-not}
 use borrow.Author.Rules.{rules}
 use Rattle.join.proofs.put_record.Goals as goal
 
-pub record_of-x-requires : goal.record_of-x-requires
-record_of-x-requires c = (search rules, search number-inside)
+pub get-x-requires : goal.get-x-requires
+get-x-requires c = (search rules, search number-inside)
 
 pub overflow_add-next : goal.overflow_add-next
 overflow_add-next c = search put-fits

@@ -1,11 +1,9 @@
-use mathlib.Core.Path.{refl}
-use native.Mathlib.Omega.{arith}
 use Rattle.join.proofs.Copying.{copied_none, copied_next, copied_more, copied_room, copied_all}
 use borrow.Author.Rules.{rules}
 use Rattle.join.proofs.put_records.Goals as goal
 
 pub loop-k-init : goal.loop-k-init
-loop-k-init c = ((omega arith, refl), copied_none _ _ _ _)
+loop-k-init c = copied_none _ _ _ _
 
 pub put_record-to-requires : goal.put_record-to-requires
 put_record-to-requires c = record { comparable = search rules; n_value = search rules; known = search rules; k_in_bounds = search (copied_room, rules) }
@@ -13,10 +11,7 @@ put_record-to-requires c = record { comparable = search rules; n_value = search 
 pub loop-k-preserved : goal.loop-k-preserved
 loop-k-preserved c = let l = c.loop-k in
     let p = c.put_record-to.ensures in
-    ((omega arith, search rules), (copied_next _ _ _ l.k l.to _ _ _ p l.invariant.1.0, copied_more _ _ _ l.k l.to _ _ _ p l.invariant.1.0 _ l.invariant.1.1))
-
-pub shape_of-out : goal.shape_of-out
-shape_of-out c = c.loop-k.invariant.0.1
+    (copied_next _ _ _ l.k l.to _ _ _ p l.invariant.0, copied_more _ _ _ l.k l.to _ _ _ p l.invariant.0 _ l.invariant.1)
 
 pub returns : goal.returns
-returns c = search copied_all
+returns c = search (copied_all, rules)

@@ -28,4 +28,4 @@ pub joined-requires : goal.joined-requires
 joined-requires c = record { comparable = search both_comparable; n_value = search both_count }
 
 pub returns : goal.returns
-returns c = search both_answered
+returns c = both_answered _ _ (record { a = c.args.a; b = c.args.b; size = c.args.size }) c.requires (search rules) (search rules) _ _ _ c.joined.ensures

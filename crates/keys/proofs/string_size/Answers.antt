@@ -1,4 +1,5 @@
 use Rattle.keys.proofs.Strings.{string-begun, string-whole, string-nul, string-more}
+use borrow.Author.Rules.{rules}
 use Rattle.keys.proofs.string_size.Goals as goal
 
 pub loop-i-init : goal.loop-i-init
@@ -11,4 +12,4 @@ pub loop-i-preserved : goal.loop-i-preserved
 loop-i-preserved c = search string-more
 
 pub returns : goal.returns
-returns c = search string-whole
+returns c = search (string-whole, rules)

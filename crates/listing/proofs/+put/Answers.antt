@@ -1,17 +1,19 @@
+use Prim.Native.Nat.{◌-◌}
+use mathlib.Core.Path.{◌≡◌}
 use Rattle.listing.proofs.Pieces.{name_in}
 use native.Mathlib.Omega.{arith}
 use Rattle.listing.specs.Puts.{NameInside}
 use Rattle.rows.proofs.Decode.{named-inside, named-behind, named-next}
 use Rattle.listing.proofs.Shapes.{members-row, base-row}
-use Rattle.listing.proofs.Lines.{members-begun, members-ended, members_unnamed, members-next, type-shallow, type-plain, type-members, type-base}
+use Rattle.listing.proofs.Lines.{members-begun, members-ended, members_unnamed, members_unsurveyed, members-next, type-shallow, type-plain, type-members, type-base}
 use borrow.Author.Rules.{rules}
 use Rattle.listing.proofs.+put.Goals as goal
 
-pub put_members-loop-left-init : goal.put_members-loop-left-init
-put_members-loop-left-init t c = search members-begun
+pub put_members-loop-init : goal.put_members-loop-init
+put_members-loop-init t c = let e : c.args.count - 0 ≡ c.args.count = omega arith in rw e members-begun
 
-pub put_members-returns-in-Unnamed : goal.put_members-returns-in-Unnamed
-put_members-returns-in-Unnamed t c = search members_unnamed
+pub put_members-returns-in_default : goal.put_members-returns-in_default
+put_members-returns-in_default t c = members_unnamed c.loop.invariant (omega arith) c.member_at.ensures.is c.in_default.is
 
 pub put_members-overflow_add-from : goal.put_members-overflow_add-from
 put_members-overflow_add-from t c = search (named-next, named-behind, rules)
@@ -20,16 +22,13 @@ pub put_members-overflow_add-r : goal.put_members-overflow_add-r
 put_members-overflow_add-r t c = search (named-next, named-behind, rules)
 
 pub put_members-put_type-a-requires : goal.put_members-put_type-a-requires
-put_members-put_type-a-requires t c = (search rules, (search rules, name_in _ _ _ (named-inside _ _ _ _ c.in-Named.is c.member_at-member.ensures.inside).1))
+put_members-put_type-a-requires t c = (search rules, (search rules, name_in _ _ _ (named-inside _ _ _ _ c.in-Some.is c.member_at.ensures.inside).1))
 
-pub put_members-overflow_add-r-in-Named : goal.put_members-overflow_add-r-in-Named
-put_members-overflow_add-r-in-Named t c = search (named-next, named-behind, rules)
-
-pub put_members-loop-left-preserved : goal.put_members-loop-left-preserved
-put_members-loop-left-preserved t c = search members-next
+pub put_members-loop-preserved : goal.put_members-loop-preserved
+put_members-loop-preserved t c = members-next c.loop.invariant (omega arith) c.member_at.ensures.is c.in-Some.is c.survey_type.ensures c.in-Some-survey_type.is (search rules) c.put_type-a.ensures (omega arith)
 
 pub put_members-returns : goal.put_members-returns
-put_members-returns t c = search members-ended
+put_members-returns t c = members-ended c.loop.invariant (omega arith)
 
 pub put_type-returns-then-levels-eq0 : goal.put_type-returns-then-levels-eq0
 put_type-returns-then-levels-eq0 t c = search type-shallow
@@ -52,3 +51,10 @@ put_type-returns-in-Members t c = search type-members
 
 pub put_type-returns-in-Base : goal.put_type-returns-in-Base
 put_type-returns-in-Base t c = search type-base
+
+pub put_members-overflow_add-r-in-loop : goal.put_members-overflow_add-r-in-loop
+put_members-overflow_add-r-in-loop t c = search (named-next, named-behind, rules)
+
+pub put_members-returns-in_default-survey_type : goal.put_members-returns-in_default-survey_type
+put_members-returns-in_default-survey_type t c =
+    members_unsurveyed c.loop.invariant (omega arith) c.member_at.ensures.is c.in-Some.is c.survey_type.ensures c.in_default-survey_type.is

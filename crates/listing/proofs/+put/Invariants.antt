@@ -9,8 +9,5 @@ decreases-put_members l = l.levels * 2 + 1
 abbrev pub decreases-put_type : goal.decreases-put_type
 decreases-put_type l = l.levels * 2
 
-abbrev pub invariant-put_members-loop-left : goal.invariant-put_members-loop-left
-invariant-put_members-loop-left l = MembersLeft (type_at l.levels l.table l.pool) l.table l.pool (33 - l.levels) l.count l.row l.place l.at l.initial.out l.left l.r l.p l.a l.out
-
-abbrev pub decreases-put_members-loop-left : goal.decreases-put_members-loop-left
-decreases-put_members-loop-left l = l.left
+abbrev pub invariant-put_members-loop : goal.invariant-put_members-loop
+invariant-put_members-loop l = MembersLeft (type_at l.levels l.table l.pool) l.table l.pool (33 - l.levels) l.count l.row l.place l.at l.initial.out (l.count - l.counter) l.r l.p l.a l.out

@@ -1,8 +1,8 @@
 use Rattle.listing.proofs.Shapes.{class_unknown, class-leaf, class-compound, class-enumeration, class_variable, class-array}
 use Rattle.listing.proofs.class_at.Goals as goal
 
-pub returns-in-Unknown : goal.returns-in-Unknown
-returns-in-Unknown c = search class_unknown
+pub returns-in_default : goal.returns-in_default
+returns-in_default c = search class_unknown
 
 pub returns-in-Leaf : goal.returns-in-Leaf
 returns-in-Leaf c = search class-leaf

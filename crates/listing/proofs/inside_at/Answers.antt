@@ -1,13 +1,13 @@
-use Rattle.rows.proofs.Decode.{array_behind, array-next}
+use Rattle.rows.proofs.Decode.{array_behind}
 use Rattle.listing.proofs.Shapes.{inside_unknown, inside-leaf, inside-compound, inside-enumeration, inside_variable, inside-array}
 use borrow.Author.Rules.{rules}
 use Rattle.listing.proofs.inside_at.Goals as goal
 
 pub overflow_add-result : goal.overflow_add-result
-overflow_add-result c = search (array-next, array_behind, rules)
+overflow_add-result c = search (array_behind, rules)
 
-pub returns-in-Unknown : goal.returns-in-Unknown
-returns-in-Unknown c = search inside_unknown
+pub returns-in_default : goal.returns-in_default
+returns-in_default c = search inside_unknown
 
 pub returns-in-Leaf : goal.returns-in-Leaf
 returns-in-Leaf c = search inside-leaf

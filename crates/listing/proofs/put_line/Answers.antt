@@ -1,5 +1,10 @@
-use Rattle.listing.proofs.Lines.{line-put}
+use Rattle.listing.proofs.Lines.{line-none, line-some}
 use Rattle.listing.proofs.put_line.Goals as goal
+use Rattle.listing.proofs.put_line.Goals.{in-None, in-Some}
 
 pub returns : goal.returns
-returns c = search line-put
+returns c =
+    elim c.match-survey_type.branch [
+      | in-None w ↦ line-none _ _ _ _ _ _ _ _ _ c.survey_type.ensures _ w.in-None.is c.class_at-class.ensures c.put_numbers-behind.ensures c.put_name.ensures
+      | in-Some w ↦ line-some _ _ _ _ _ _ _ _ _ c.survey_type.ensures w.in-Some.is w.size-is c.class_at-class.ensures c.put_numbers-behind.ensures c.put_name.ensures
+    ]

@@ -1,47 +1,51 @@
+use native.Mathlib.Nat.{sub-zero}
 use native.Mathlib.Omega.{arith}
 use borrow.Author.Rules.{rules}
-use Rattle.rows.proofs.Decode.{leaf-inside, enumeration-row, array-piece, array_behind, array-next, compound-next, named-behind, named-next, named-piece, variable_length-next}
+use Rattle.rows.proofs.Decode.{leaf-inside, row-inside, row-next, array-piece, array_behind, named-behind, named-next, named-piece}
 use Rattle.measure.proofs.Measures.{type-none, type_unknown, type-leaf, type-compound-lost, type-compound, type-enumeration, enumeration_unbased, enumeration_unlisted, enumeration-listed, type-variable_length-lost, type-variable_length, type-array-lost, type-array, members-start, members_unnamed, members-lost, members-next, member-short, members_end}
 use Rattle.measure.proofs.+measure.Goals as goal
 
-pub measure_enumeration-returns-in-Lost : goal.measure_enumeration-returns-in-Lost
-measure_enumeration-returns-in-Lost t c = search enumeration_unbased
+pub measure_enumeration-returns-in_err-base : goal.measure_enumeration-returns-in_err-base
+measure_enumeration-returns-in_err-base t c = rw c.from_residual.ensures (search (enumeration_unbased, c.in_err-base.was))
 
-pub measure_enumeration-returns-in-Lost-listed : goal.measure_enumeration-returns-in-Lost-listed
-measure_enumeration-returns-in-Lost-listed t c = search enumeration_unlisted
+pub measure_enumeration-returns-in_err-members : goal.measure_enumeration-returns-in_err-members
+measure_enumeration-returns-in_err-members t c = rw c.from_residual-in_err-members.ensures (search (enumeration_unlisted, c.in_ok-base.was, c.in_err-members.was))
 
-pub measure_enumeration-returns-in-At-listed : goal.measure_enumeration-returns-in-At-listed
-measure_enumeration-returns-in-At-listed t c = search enumeration-listed
+pub measure_enumeration-returns : goal.measure_enumeration-returns
+measure_enumeration-returns t c = search (enumeration-listed, c.in_ok-base.was, c.in_ok-members.was)
 
 pub measure_inner-returns-then-levels-eq0 : goal.measure_inner-returns-then-levels-eq0
 measure_inner-returns-then-levels-eq0 t c = search type-none
 
 pub measure_inner-leaf_measure-requires : goal.measure_inner-leaf_measure-requires
-measure_inner-leaf_measure-requires t c = let i = leaf-inside _ _ _ _ c.entry_at-entry.ensures.inside c.in-Leaf.is in (i.0, omega arith)
+measure_inner-leaf_measure-requires t c = let i = leaf-inside _ _ _ _ c.entry_at.ensures.inside c.in_ok-entry.was c.in-Leaf.is in (i.0, omega arith)
+
+pub measure_inner-returns-in_err-entry : goal.measure_inner-returns-in_err-entry
+measure_inner-returns-in_err-entry t c = rw c.from_residual.ensures (search (type_unknown, c.in_err-entry.was))
 
 pub measure_inner-returns-in-Leaf : goal.measure_inner-returns-in-Leaf
-measure_inner-returns-in-Leaf t c = search type-leaf
+measure_inner-returns-in-Leaf t c = search (type-leaf, c.in_ok-entry.was)
 
-pub measure_members-loop-left-init : goal.measure_members-loop-left-init
-measure_members-loop-left-init t c = (omega arith, members-start _ _ _ _ _)
+pub measure_members-loop-init : goal.measure_members-loop-init
+measure_members-loop-init t c = (omega arith, rw sub-zero (members-start _ _ _ _ _))
 
-pub measure_members-returns-in-Unnamed : goal.measure_members-returns-in-Unnamed
-measure_members-returns-in-Unnamed t c = search members_unnamed
+pub measure_members-returns-in_err-member : goal.measure_members-returns-in_err-member
+measure_members-returns-in_err-member t c = rw c.from_residual.ensures (search (members_unnamed, c.in_err-member.was))
 
-pub measure_members-overflow_add-r : goal.measure_members-overflow_add-r
-measure_members-overflow_add-r t c = search (named-next, rules)
+pub measure_members-overflow_add-sum : goal.measure_members-overflow_add-sum
+measure_members-overflow_add-sum t c = search (named-next, c.in_ok-member.was, rules)
 
-pub measure_members-overflow_add-p : goal.measure_members-overflow_add-p
-measure_members-overflow_add-p t c = search (named-behind, rules)
+pub measure_members-overflow_add-from : goal.measure_members-overflow_add-from
+measure_members-overflow_add-from t c = search (named-behind, c.in_ok-member.was, rules)
 
-pub measure_members-returns-in-Lost : goal.measure_members-returns-in-Lost
-measure_members-returns-in-Lost t c = search members-lost
+pub measure_members-returns-in_err-inner : goal.measure_members-returns-in_err-inner
+measure_members-returns-in_err-inner t c = rw c.from_residual-in_err-inner.ensures (search (members-lost, c.in_ok-member.was, c.in_err-inner.was))
 
 pub measure_members-with_named_member-sum-requires : goal.measure_members-with_named_member-sum-requires
-measure_members-with_named_member-sum-requires t c = search named-piece
+measure_members-with_named_member-sum-requires t c = search (named-piece, c.in_ok-member.was)
 
-pub measure_members-loop-left-preserved : goal.measure_members-loop-left-preserved
-measure_members-loop-left-preserved t c = search (member-short, members-next, named-piece)
+pub measure_members-loop-preserved : goal.measure_members-loop-preserved
+measure_members-loop-preserved t c = search (member-short, members-next, named-piece, c.in_ok-member.was, c.in_ok-inner.was)
 
 pub measure_members-returns : goal.measure_members-returns
 measure_members-returns t c = search members_end
@@ -50,52 +54,52 @@ pub measure_type-returns-then-levels-eq0 : goal.measure_type-returns-then-levels
 measure_type-returns-then-levels-eq0 t c = search type-none
 
 pub measure_type-leaf_measure-requires : goal.measure_type-leaf_measure-requires
-measure_type-leaf_measure-requires t c = let i = leaf-inside _ _ _ _ c.entry_at-entry.ensures.inside c.in-Leaf.is in (i.0, omega arith)
+measure_type-leaf_measure-requires t c = let i = leaf-inside _ _ _ _ c.entry_at.ensures.inside c.in_ok-entry.was c.in-Leaf.is in (i.0, omega arith)
 
 pub measure_type-overflow_add-row : goal.measure_type-overflow_add-row
-measure_type-overflow_add-row t c = search (compound-next, rules)
+measure_type-overflow_add-row t c = search (row-next, c.in_ok-entry.was, rules)
 
 pub measure_type-measure_enumeration-requires : goal.measure_type-measure_enumeration-requires
-measure_type-measure_enumeration-requires t c = search (enumeration-row, rules)
+measure_type-measure_enumeration-requires t c = search (row-inside, c.in_ok-entry.was, rules)
 
 pub measure_type-overflow_add-row-in-VariableLength : goal.measure_type-overflow_add-row-in-VariableLength
-measure_type-overflow_add-row-in-VariableLength t c = search (variable_length-next, rules)
+measure_type-overflow_add-row-in-VariableLength t c = search (row-next, c.in_ok-entry.was, rules)
 
 pub measure_type-overflow_add-row-in-Array : goal.measure_type-overflow_add-row-in-Array
-measure_type-overflow_add-row-in-Array t c = search (array-next, rules)
+measure_type-overflow_add-row-in-Array t c = search (row-next, c.in_ok-entry.was, rules)
 
 pub measure_type-overflow_mul-rank : goal.measure_type-overflow_mul-rank
-measure_type-overflow_mul-rank t c = search (array_behind, rules)
+measure_type-overflow_mul-rank t c = search (array_behind, c.in_ok-entry.was, rules)
 
 pub measure_type-overflow_add-place : goal.measure_type-overflow_add-place
-measure_type-overflow_add-place t c = search (array_behind, rules)
+measure_type-overflow_add-place t c = search (array_behind, c.in_ok-entry.was, rules)
 
 pub measure_type-array_measure-requires : goal.measure_type-array_measure-requires
-measure_type-array_measure-requires t c = search array-piece
+measure_type-array_measure-requires t c = search (array-piece, c.in_ok-entry.was)
 
-pub measure_type-returns-in-Unknown : goal.measure_type-returns-in-Unknown
-measure_type-returns-in-Unknown t c = search type_unknown
+pub measure_type-returns-in_err-entry : goal.measure_type-returns-in_err-entry
+measure_type-returns-in_err-entry t c = rw c.from_residual.ensures (search (type_unknown, c.in_err-entry.was))
 
 pub measure_type-returns-in-Leaf : goal.measure_type-returns-in-Leaf
-measure_type-returns-in-Leaf t c = search type-leaf
+measure_type-returns-in-Leaf t c = search (type-leaf, c.in_ok-entry.was)
 
-pub measure_type-returns-in-Lost : goal.measure_type-returns-in-Lost
-measure_type-returns-in-Lost t c = search type-compound-lost
+pub measure_type-returns-in_err-members-in-Compound : goal.measure_type-returns-in_err-members-in-Compound
+measure_type-returns-in_err-members-in-Compound t c = rw c.from_residual-in_err-members-in-Compound.ensures (search (type-compound-lost, c.in_ok-entry.was, c.in_err-members-in-Compound.was))
 
-pub measure_type-returns-in-At : goal.measure_type-returns-in-At
-measure_type-returns-in-At t c = search type-compound
+pub measure_type-returns-in_ok-members-in-Compound : goal.measure_type-returns-in_ok-members-in-Compound
+measure_type-returns-in_ok-members-in-Compound t c = search (type-compound, c.in_ok-entry.was, c.in_ok-members-in-Compound.was)
 
 pub measure_type-returns-in-Enumeration : goal.measure_type-returns-in-Enumeration
-measure_type-returns-in-Enumeration t c = search type-enumeration
+measure_type-returns-in-Enumeration t c = search (type-enumeration, c.in_ok-entry.was)
 
-pub measure_type-returns-in-Lost-got : goal.measure_type-returns-in-Lost-got
-measure_type-returns-in-Lost-got t c = search type-variable_length-lost
+pub measure_type-returns-in_err-base-in-VariableLength : goal.measure_type-returns-in_err-base-in-VariableLength
+measure_type-returns-in_err-base-in-VariableLength t c = rw c.from_residual-in_err-base-in-VariableLength.ensures (search (type-variable_length-lost, c.in_ok-entry.was, c.in_err-base-in-VariableLength.was))
 
-pub measure_type-returns-in-At-got : goal.measure_type-returns-in-At-got
-measure_type-returns-in-At-got t c = search type-variable_length
+pub measure_type-returns-in_ok-base-in-VariableLength : goal.measure_type-returns-in_ok-base-in-VariableLength
+measure_type-returns-in_ok-base-in-VariableLength t c = search (type-variable_length, c.in_ok-entry.was, c.in_ok-base-in-VariableLength.was)
 
-pub measure_type-returns-in-Lost-got-2 : goal.measure_type-returns-in-Lost-got-2
-measure_type-returns-in-Lost-got-2 t c = search type-array-lost
+pub measure_type-returns-in_err-base-in-Array : goal.measure_type-returns-in_err-base-in-Array
+measure_type-returns-in_err-base-in-Array t c = rw c.from_residual-in_err-base-in-Array.ensures (search (type-array-lost, c.in_ok-entry.was, c.in_err-base-in-Array.was))
 
-pub measure_type-returns-in-At-got-2 : goal.measure_type-returns-in-At-got-2
-measure_type-returns-in-At-got-2 t c = search type-array
+pub measure_type-returns-in_ok-base-in-Array : goal.measure_type-returns-in_ok-base-in-Array
+measure_type-returns-in_ok-base-in-Array t c = search (type-array, c.in_ok-entry.was, c.in_ok-base-in-Array.was)

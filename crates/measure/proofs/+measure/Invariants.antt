@@ -1,4 +1,4 @@
-use Prim.Native.Nat.{◌+◌, ◌*◌, ◌≤◌}
+use Prim.Native.Nat.{◌+◌, ◌-◌, ◌*◌, ◌≤◌}
 use mathlib.Core.Path.{◌≡◌}
 use Rattle.format.specs.Table.{type_at, members_at}
 use Rattle.measure.specs.Measure.{measure_in}
@@ -17,8 +17,5 @@ decreases-measure_members l = l.levels * 3 + 2
 abbrev pub decreases-measure_type : goal.decreases-measure_type
 decreases-measure_type l = l.levels * 3
 
-abbrev pub invariant-measure_members-loop-left : goal.invariant-measure_members-loop-left
-invariant-measure_members-loop-left l = (l.sum.length ≤ 4294967296) × (measure_in l.edition l.size (members_at (type_at l.levels l.table l.pool) l.table l.pool l.count l.row l.place) ≡ gathered l.edition l.sum (members_at (type_at l.levels l.table l.pool) l.table l.pool l.left l.sum.row l.sum.place))
-
-abbrev pub decreases-measure_members-loop-left : goal.decreases-measure_members-loop-left
-decreases-measure_members-loop-left l = l.left
+abbrev pub invariant-measure_members-loop : goal.invariant-measure_members-loop
+invariant-measure_members-loop l = (l.sum.length ≤ 4294967296) × (measure_in l.edition l.size (members_at (type_at l.levels l.table l.pool) l.table l.pool l.count l.row l.place) ≡ gathered l.edition l.sum (members_at (type_at l.levels l.table l.pool) l.table l.pool (l.count - l.counter) l.sum.row l.sum.place))

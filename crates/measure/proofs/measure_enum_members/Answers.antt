@@ -1,33 +1,34 @@
+use native.Mathlib.Nat.{sub-zero}
 use mathlib.Core.Path.{refl}
 use native.Mathlib.Omega.{arith}
 use borrow.Author.Rules.{rules}
-use Rattle.rows.proofs.Decode.{enum_named_behind, enum_named_next, enum_named_piece}
+use Rattle.rows.proofs.Decode.{named-behind, named-next, named-piece}
 use Rattle.measure.proofs.Listed.{listed-none, listed_start, listed_unnamed, listed-past-pool, listed_next, listed-behind, listed-lost, listed-ended}
 use Rattle.measure.proofs.measure_enum_members.Goals as goal
 
 pub returns-then-count-eq0 : goal.returns-then-count-eq0
 returns-then-count-eq0 c = search listed-none
 
-pub loop-left-init : goal.loop-left-init
-loop-left-init c = (omega arith, listed_start _ _ _ _ _ _ _ refl (omega arith))
+pub loop-init : goal.loop-init
+loop-init c = (omega arith, rw sub-zero (listed_start _ _ _ _ _ _ _ refl (omega arith)))
 
-pub returns-in-Unnamed : goal.returns-in-Unnamed
-returns-in-Unnamed c = search listed_unnamed
+pub returns-in_err-member : goal.returns-in_err-member
+returns-in_err-member c = rw c.from_residual.ensures (search (listed_unnamed, c.in_err-member.was))
 
 pub returns-then-pool-values : goal.returns-then-pool-values
-returns-then-pool-values c = search listed-past-pool
+returns-then-pool-values c = search (listed-past-pool, c.in_ok-member.was)
 
 pub with_enum_name-names-requires : goal.with_enum_name-names-requires
-with_enum_name-names-requires c = search enum_named_piece
+with_enum_name-names-requires c = search (named-piece, c.in_ok-member.was)
 
 pub overflow_add-r : goal.overflow_add-r
-overflow_add-r c = search (enum_named_next, rules)
+overflow_add-r c = search (named-next, c.in_ok-member.was, rules)
 
 pub overflow_add-p : goal.overflow_add-p
-overflow_add-p c = search (enum_named_behind, rules)
+overflow_add-p c = search (named-behind, c.in_ok-member.was, rules)
 
-pub loop-left-preserved : goal.loop-left-preserved
-loop-left-preserved c = search (listed_next, enum_named_piece, arith)
+pub loop-preserved : goal.loop-preserved
+loop-preserved c = search (listed_next, named-piece, c.in_ok-member.was, arith)
 
 pub returns-then-pool-p : goal.returns-then-pool-p
 returns-then-pool-p c = search listed-behind

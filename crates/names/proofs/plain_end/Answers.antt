@@ -1,4 +1,4 @@
-use mathlib.Core.Path.{sym, ◌∙◌}
+use mathlib.Core.Path.{◌≡◌, sym, ◌∙◌}
 use native.Mathlib.Omega.{arith}
 use Rattle.names.proofs.Validity.{valid-start, valid-plain}
 use Rattle.names.proofs.plain_end.Goals as goal
@@ -16,4 +16,6 @@ pub loop-i-preserved : goal.loop-i-preserved
 loop-i-preserved c = ((omega arith, omega arith), search valid-plain)
 
 pub returns : goal.returns
-returns c = record { inside = omega arith; rest = c.loop-i.invariant.1 ∙ sym (valid-start _) }
+returns c =
+    let e : c.loop-i.i ≡ c.args.to = omega arith in
+    record { inside = omega arith; rest = rw e at (c.loop-i.invariant.1 ∙ sym (valid-start _)) }

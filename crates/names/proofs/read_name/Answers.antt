@@ -8,8 +8,8 @@ loop-i-init c = search begun
 pub returns-then-room-end : goal.returns-then-room-end
 returns-then-room-end c = search ends-full
 
-pub overflow_sub-m : goal.overflow_sub-m
-overflow_sub-m c = search ends-behind
+pub overflow_sub-result-then-b-eq0 : goal.overflow_sub-result-then-b-eq0
+overflow_sub-result-then-b-eq0 c = search ends-behind
 
 pub returns-then-b-eq0 : goal.returns-then-b-eq0
 returns-then-b-eq0 c = search ends-whole

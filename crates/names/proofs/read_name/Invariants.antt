@@ -1,10 +1,5 @@
-use Prim.Native.Nat.{◌-◌}
-use lib.ListN.{length}
 use Rattle.names.proofs.Passing.{Passing}
 use Rattle.names.proofs.read_name.Given as goal
 
 abbrev pub invariant-loop-i : goal.invariant-loop-i
 invariant-loop-i l = Passing l.msg l.at l.initial.pool l.pool l.place l.room l.i l.pos l.st
-
-abbrev pub decreases-loop-i : goal.decreases-loop-i
-decreases-loop-i l = length l.msg - l.i

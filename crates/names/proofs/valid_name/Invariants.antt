@@ -1,4 +1,4 @@
-use Prim.Native.Nat.{◌-◌, ◌≤◌}
+use Prim.Native.Nat.{◌≤◌}
 use mathlib.Core.Path.{◌≡◌}
 use mathlib.Core.Bool.{◌&&◌}
 use lib.ListN.{length}
@@ -9,6 +9,3 @@ use Rattle.names.proofs.valid_name.Given as goal
 
 abbrev pub invariant-loop-i : goal.invariant-loop-i
 invariant-loop-i l = ((l.i ≤ l.to) × (l.to ≤ length l.pool)) × ((no_nul (part l.pool l.from l.to) && well_formed (part l.pool l.from l.to)) ≡ valid_from l.more l.low l.high (part l.pool l.i l.to))
-
-abbrev pub decreases-loop-i : goal.decreases-loop-i
-decreases-loop-i l = l.to - l.i

@@ -1,51 +1,48 @@
 use native.Mathlib.Omega.{arith}
 use borrow.Author.Rules.{rules}
 use mathlib.Core.Path.{refl}
-use Rattle.reading.proofs.Members.{members-begun, members-ended, members-stopped, entered-ready, entered-within, members-refused, members-turned, entered-behind, entered-next, progress_table, progress_pool, table-entered, pool-entered, table-turned, pool-turned}
-use Rattle.reading.proofs.Contracts.{ready_any_version}
-use Rattle.reading.proofs.Types.{type-ends, type-shuts, leaf-free, leaf-long, leaf-kind, type-leaf, compound-free, compound-long, compound-ready, compound-refuses, compound-filled, compound-ends, based-free, based-within, based-ready, based-refuses, based_opened, based_read, based-ends}
+use Rattle.reading.proofs.Members.{members-begun, members-ended, members-stopped, entered-ready, entered-within, members-refused, members-turned, entered-behind, progress_table, progress_pool, table-entered, pool-entered, table-turned, pool-turned}
+use Rattle.reading.proofs.Contracts.{ready_any_version, passed_on}
+use Rattle.reading.proofs.Types.{type-ends, type-headless, type-shuts, leaf-free, leaf-long, leaf-kind, type-leaf, compound-free, compound-long, compound-ready, compound-refuses, compound-filled, compound-ends, based-free, based-within, based-ready, based-refuses, based_opened, based_read, based-ends}
 use Rattle.reader.proofs.+read.Goals as goal
 
 pub read_members-loop-i-init : goal.read_members-loop-i-init
 read_members-loop-i-init t c = search members-begun
 
-pub read_members-shape_of-table-in-Refused : goal.read_members-shape_of-table-in-Refused
-read_members-shape_of-table-in-Refused t c = search table-entered
+pub read_members-shape_of-table-in_err-next : goal.read_members-shape_of-table-in_err-next
+read_members-shape_of-table-in_err-next t c = search table-entered
 
-pub read_members-shape_of-pool-in-Refused : goal.read_members-shape_of-pool-in-Refused
-read_members-shape_of-pool-in-Refused t c = search pool-entered
+pub read_members-shape_of-pool-in_err-next : goal.read_members-shape_of-pool-in_err-next
+read_members-shape_of-pool-in_err-next t c = search pool-entered
 
-pub read_members-returns-in-Refused : goal.read_members-returns-in-Refused
-read_members-returns-in-Refused t c = search members-stopped
+pub read_members-returns-in_err-next : goal.read_members-returns-in_err-next
+read_members-returns-in_err-next t c = rw (passed_on c.from_residual.result c.from_residual.ensures) (search (members-stopped, c.in_err-next.was))
 
-pub read_members-slice_bounds-read_type-count : goal.read_members-slice_bounds-read_type-count
-read_members-slice_bounds-read_type-count t c = search (rules, entered-within)
+pub read_members-slice_bounds-part-count : goal.read_members-slice_bounds-part-count
+read_members-slice_bounds-part-count t c = search (rules, entered-within, c.in_ok-next.was)
 
-pub read_members-slice_bounds-read_type-start : goal.read_members-slice_bounds-read_type-start
-read_members-slice_bounds-read_type-start t c = search (rules, entered-within)
+pub read_members-slice_bounds-part-start : goal.read_members-slice_bounds-part-start
+read_members-slice_bounds-part-start t c = search (rules, entered-within, c.in_ok-next.was)
 
-pub read_members-read_type-got-requires : goal.read_members-read_type-got-requires
-read_members-read_type-got-requires t c = (search rules, ready_any_version _ (entered-ready c.enter_member-entered.ensures c.in-Done.is) refl refl)
+pub read_members-read_type-requires : goal.read_members-read_type-requires
+read_members-read_type-requires t c = (search rules, ready_any_version _ (entered-ready c.enter_member.ensures c.in_ok-next.was) refl refl)
 
-pub read_members-shape_of-table-in-Refused-got : goal.read_members-shape_of-table-in-Refused-got
-read_members-shape_of-table-in-Refused-got t c = search table-turned
+pub read_members-shape_of-table-in_err-inner : goal.read_members-shape_of-table-in_err-inner
+read_members-shape_of-table-in_err-inner t c = search table-turned
 
-pub read_members-shape_of-pool-in-Refused-got : goal.read_members-shape_of-pool-in-Refused-got
-read_members-shape_of-pool-in-Refused-got t c = search pool-turned
+pub read_members-shape_of-pool-in_err-inner : goal.read_members-shape_of-pool-in_err-inner
+read_members-shape_of-pool-in_err-inner t c = search pool-turned
 
-pub read_members-returns-in-Refused-got : goal.read_members-returns-in-Refused-got
-read_members-returns-in-Refused-got t c = search members-refused
+pub read_members-returns-in_err-inner : goal.read_members-returns-in_err-inner
+read_members-returns-in_err-inner t c = rw (passed_on c.from_residual-in_err-inner.result c.from_residual-in_err-inner.ensures) (search (members-refused, c.in_ok-next.was, c.in_err-inner.was))
 
 pub read_members-overflow_add-at : goal.read_members-overflow_add-at
 read_members-overflow_add-at t c =
-    let behind = entered-behind c.loop-i.invariant c.enter_member-entered.ensures c.in-Done.is c.read_type-got.ensures c.in-Done-got.is in
+    let behind = entered-behind c.loop-i.invariant c.enter_member.ensures c.in_ok-next.was c.read_type.ensures c.in_ok-inner.was in
     record { fits = omega (arith, behind.fits) }
 
-pub read_members-overflow_add-i : goal.read_members-overflow_add-i
-read_members-overflow_add-i t c = search entered-next
-
 pub read_members-loop-i-preserved : goal.read_members-loop-i-preserved
-read_members-loop-i-preserved t c = search members-turned
+read_members-loop-i-preserved t c = search (members-turned, c.in_ok-next.was, c.in_ok-inner.was)
 
 pub read_members-shape_of-table : goal.read_members-shape_of-table
 read_members-shape_of-table t c = search progress_table
@@ -60,46 +57,49 @@ pub read_type-returns-then-levels-eq0 : goal.read_type-returns-then-levels-eq0
 read_type-returns-then-levels-eq0 t c = search type-ends
 
 pub read_type-read_leaf-requires : goal.read_type-read_leaf-requires
-read_type-read_leaf-requires t c = search (leaf-free, leaf-long, leaf-kind)
+read_type-read_leaf-requires t c = search (leaf-free, leaf-long, leaf-kind, c.in_ok-opened.ensures)
 
 pub read_type-overflow_add-used : goal.read_type-overflow_add-used
-read_type-overflow_add-used t c = search (rules, compound-free)
+read_type-overflow_add-used t c = search (rules, compound-free, c.in_ok-opened.ensures)
 
-pub read_type-read_members-got-requires : goal.read_type-read_members-got-requires
-read_type-read_members-got-requires t c = (search rules, ((search compound-ready, search compound-long), search rules))
+pub read_type-read_members-requires : goal.read_type-read_members-requires
+read_type-read_members-requires t c = (search rules, ((search (compound-ready, c.in_ok-opened.ensures), search (compound-long, c.in_ok-opened.ensures)), search rules))
 
 pub read_type-end_compound-requires : goal.read_type-end_compound-requires
-read_type-end_compound-requires t c = search compound-filled
+read_type-end_compound-requires t c = search (compound-filled, c.in_ok-members-in-Compound.was)
 
-pub read_type-slice_bounds-read_type-count : goal.read_type-slice_bounds-read_type-count
-read_type-slice_bounds-read_type-count t c = search (rules, based-within)
+pub read_type-slice_bounds-part-count : goal.read_type-slice_bounds-part-count
+read_type-slice_bounds-part-count t c = search (rules, based-within, c.in_ok-opened.ensures)
 
-pub read_type-slice_bounds-read_type-start : goal.read_type-slice_bounds-read_type-start
-read_type-slice_bounds-read_type-start t c = search (rules, based-within)
+pub read_type-slice_bounds-part-start : goal.read_type-slice_bounds-part-start
+read_type-slice_bounds-part-start t c = search (rules, based-within, c.in_ok-opened.ensures)
 
 pub read_type-overflow_add-used-in-Based : goal.read_type-overflow_add-used-in-Based
-read_type-overflow_add-used-in-Based t c = search (rules, based-free)
+read_type-overflow_add-used-in-Based t c = search (rules, based-free, c.in_ok-opened.ensures)
 
-pub read_type-read_type-got-requires : goal.read_type-read_type-got-requires
-read_type-read_type-got-requires t c = (search rules, search based-ready)
+pub read_type-read_type-requires : goal.read_type-read_type-requires
+read_type-read_type-requires t c = (search rules, search (based-ready, c.in_ok-opened.ensures))
 
 pub read_type-end_based-requires : goal.read_type-end_based-requires
-read_type-end_based-requires t c = (search based_opened, based_read c.read_type-got.ensures c.in-Done-got.is)
+read_type-end_based-requires t c = (search (based_opened, c.in_ok-opened.ensures), based_read c.read_type.ensures c.in_ok-inner-in-Based.was)
 
-pub read_type-returns-in-Refused : goal.read_type-returns-in-Refused
-read_type-returns-in-Refused t c = search type-shuts
+pub read_type-returns-in_err-header : goal.read_type-returns-in_err-header
+read_type-returns-in_err-header t c = rw (passed_on c.from_residual.result c.from_residual.ensures) (search (type-headless, c.in_err-header.was))
+
+pub read_type-returns-in_err-opened : goal.read_type-returns-in_err-opened
+read_type-returns-in_err-opened t c = rw (passed_on c.from_residual-in_err-opened.result c.from_residual-in_err-opened.ensures) (search (type-shuts, c.in_err-opened.was))
 
 pub read_type-returns-in-Leaf : goal.read_type-returns-in-Leaf
-read_type-returns-in-Leaf t c = search type-leaf
+read_type-returns-in-Leaf t c = search (type-leaf, c.in_ok-opened.ensures)
 
-pub read_type-returns-in-Refused-got : goal.read_type-returns-in-Refused-got
-read_type-returns-in-Refused-got t c = search compound-refuses
+pub read_type-returns-in_err-members-in-Compound : goal.read_type-returns-in_err-members-in-Compound
+read_type-returns-in_err-members-in-Compound t c = rw (passed_on c.from_residual-in_err-members-in-Compound.result c.from_residual-in_err-members-in-Compound.ensures) (search (compound-refuses, c.in_ok-opened.ensures, c.in_err-members-in-Compound.was))
 
-pub read_type-returns-in-Done : goal.read_type-returns-in-Done
-read_type-returns-in-Done t c = search compound-ends
+pub read_type-returns-in_ok-members-in-Compound : goal.read_type-returns-in_ok-members-in-Compound
+read_type-returns-in_ok-members-in-Compound t c = search (compound-ends, c.in_ok-opened.ensures, c.in_ok-members-in-Compound.was)
 
-pub read_type-returns-in-Refused-got-2 : goal.read_type-returns-in-Refused-got-2
-read_type-returns-in-Refused-got-2 t c = search based-refuses
+pub read_type-returns-in_err-inner-in-Based : goal.read_type-returns-in_err-inner-in-Based
+read_type-returns-in_err-inner-in-Based t c = rw (passed_on c.from_residual-in_err-inner-in-Based.result c.from_residual-in_err-inner-in-Based.ensures) (search (based-refuses, c.in_ok-opened.ensures, c.in_err-inner-in-Based.was))
 
-pub read_type-returns-in-Done-got : goal.read_type-returns-in-Done-got
-read_type-returns-in-Done-got t c = search based-ends
+pub read_type-returns-in_ok-inner-in-Based : goal.read_type-returns-in_ok-inner-in-Based
+read_type-returns-in_ok-inner-in-Based t c = search (based-ends, c.in_ok-opened.ensures, c.in_ok-inner-in-Based.was)

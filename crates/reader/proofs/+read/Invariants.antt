@@ -1,4 +1,4 @@
-use Prim.Native.Nat.{◌*◌, ◌+◌, ◌-◌}
+use Prim.Native.Nat.{◌*◌, ◌+◌}
 use Rattle.format.specs.Reading.{read_type_of}
 use Rattle.reading.specs.Members.{Progress}
 use Rattle.reader.proofs.+read.Given as goal
@@ -10,7 +10,4 @@ abbrev pub decreases-read_type : goal.decreases-read_type
 decreases-read_type l = l.levels * 2
 
 abbrev pub invariant-read_members-loop-i : goal.invariant-read_members-loop-i
-invariant-read_members-loop-i l = Progress (read_type_of l.limits.version l.levels) l.data l.limits l.version l.header.size l.count l.used l.pooled l.i l.at l.rows l.place l.initial.table l.table l.initial.pool l.pool
-
-abbrev pub decreases-read_members-loop-i : goal.decreases-read_members-loop-i
-decreases-read_members-loop-i l = l.count - l.i
+invariant-read_members-loop-i l = Progress (read_type_of l.limits.version l.levels) l.data l.limits l.version l.header.size l.count l.used l.pooled l._i l.at l.rows l.place l.initial.table l.table l.initial.pool l.pool

@@ -1,11 +1,7 @@
-use Prim.Native.Nat.{◌-◌, ◌≤◌}
 use mathlib.Core.Path.{◌≡◌}
-use lib.ListN.{length, drop}
+use lib.ListN.{drop}
 use Rattle.format.specs.Slots.{some_outside_of}
 use Rattle.references.proofs.some_outside.Given as goal
 
-abbrev pub invariant-loop-i : goal.invariant-loop-i
-invariant-loop-i l = (l.i ≤ length l.slots) × (some_outside_of l.size l.slots ≡ some_outside_of l.size (drop l.i l.slots))
-
-abbrev pub decreases-loop-i : goal.decreases-loop-i
-decreases-loop-i l = length l.slots - l.i
+abbrev pub invariant-loop-slot : goal.invariant-loop-slot
+invariant-loop-slot l = some_outside_of l.size l.slots ≡ some_outside_of l.size (drop l.slot-index l.slots)

@@ -18,12 +18,6 @@ store_record-requires c = search (slot_in_block, record_room)
 pub loop-i-preserved : goal.loop-i-preserved
 loop-i-preserved c = search (places-more, values-more, rules)
 
-pub shape_of-places : goal.shape_of-places
-shape_of-places c = c.loop-i.invariant.0.1.0
-
-pub shape_of-values : goal.shape_of-values
-shape_of-values c = c.loop-i.invariant.0.1.1
-
 pub returns : goal.returns
 returns c = let l = c.loop-i in
-    all-records _ l.places _ l.values _ _ _ l.i _ (omega arith) l.invariant.1.0 l.invariant.1.1
+    all-records _ l.places _ l.values _ _ _ l.i _ (omega arith) l.invariant.0 l.invariant.1

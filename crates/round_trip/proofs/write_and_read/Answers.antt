@@ -1,12 +1,12 @@
+use Rattle.std.proofs.lemmas.Result.{err_from_is_err_and}
 use Rattle.format.proofs.Bytes.{byte_below}
-use Rattle.round_trip.proofs.Returning.{not_written, read_back, refused-back}
+use Rattle.round_trip.proofs.Returning.{not_written, read_back}
 use Rattle.round_trip.proofs.write_and_read.Goals as goal
 
-pub returns-in-Refused : goal.returns-in-Refused
-returns-in-Refused c = search not_written
+pub returns-in_err-write : goal.returns-in_err-write
+returns-in_err-write c =
+    let p = err_from_is_err_and c.from_residual.result c.from_residual.ensures.1 in
+    rw (p.1, p.2) (search (not_written, c.in_err-write.was))
 
-pub returns-in-Refused-got : goal.returns-in-Refused-got
-returns-in-Refused-got c = search (refused-back, byte_below)
-
-pub returns-in-Read : goal.returns-in-Read
-returns-in-Read c = search (read_back, byte_below)
+pub returns : goal.returns
+returns c = search (read_back, byte_below, c.in_ok-write.was)

@@ -1,9 +1,8 @@
-use Rattle.rows.proofs.Columns.{answered, short-entry}
-use Rattle.rows.proofs.Known.{entry-tested}
+use Rattle.rows.proofs.Known.{none-answered, entry-tested}
 use Rattle.rows.proofs.entry_at.Goals as goal
 
-pub returns-then-table-row : goal.returns-then-table-row
-returns-then-table-row c = let both = answered _ _ _ _ (search short-entry) in record { is = both.0; inside = both.1 }
+pub returns-in_err-entry : goal.returns-in_err-entry
+returns-in_err-entry c = let both = none-answered _ _ _ _ c.row_entry.ensures c.in_err-entry.was c.from_residual.ensures in record { is = both.0; inside = both.1 }
 
 pub returns : goal.returns
-returns c = let both = entry-tested _ _ _ _ c.row_entry.ensures c.entry_if.ensures c.row_known.ensures in record { is = both.0; inside = both.1 }
+returns c = let both = entry-tested _ _ _ _ c.row_entry.ensures c.in_ok-entry.was c.then_some.ensures c.row_known.ensures in record { is = both.0; inside = both.1 }

@@ -1,4 +1,4 @@
-use Rattle.rows.proofs.Known.{fits_no_tag, fits-tag, fits_dimensions, fits-compound, fits-enumeration, fits-variable_length, fits_unknown}
+use Rattle.rows.proofs.Known.{fits_no_tag, fits-tag, fits_dimensions, fits-compound, fits-enumeration, fits-variable_length}
 use Rattle.rows.proofs.entry_fits.Goals as goal
 
 pub returns-then-length-eq0 : goal.returns-then-length-eq0
@@ -18,6 +18,3 @@ returns-in-Enumeration c = search fits-enumeration
 
 pub returns-in-VariableLength : goal.returns-in-VariableLength
 returns-in-VariableLength c = search fits-variable_length
-
-pub returns-in-Unknown : goal.returns-in-Unknown
-returns-in-Unknown c = search fits_unknown

@@ -1,9 +1,8 @@
-use Rattle.rows.proofs.Known.{unnamed_again, named_again}
-use borrow.Author.Rules.{rules}
+use Rattle.rows.proofs.Known.{unnamed-again, named-again}
 use Rattle.rows.proofs.known_member_at.Goals as goal
 
-pub returns-in-Unnamed : goal.returns-in-Unnamed
-returns-in-Unnamed c = let both = unnamed_again _ _ _ _ c.row_member-member.ensures (search rules) in record { is = both.0; inside = both.1 }
+pub returns-in_err-member_columns : goal.returns-in_err-member_columns
+returns-in_err-member_columns c = let both = unnamed-again _ _ _ _ c.member_columns.ensures c.in_err-member_columns.was c.from_residual.ensures in record { is = both.0; inside = both.1 }
 
-pub returns-in-Named : goal.returns-in-Named
-returns-in-Named c = let both = named_again _ _ _ _ c.row_member-member.ensures c.in-Named.is c.piece_fits.ensures c.member_if.ensures in record { is = both.0; inside = both.1 }
+pub returns : goal.returns
+returns c = let both = named-again _ _ _ _ c.member_columns.ensures c.in_ok-member_columns.was c.named_at.ensures in record { is = both.0; inside = both.1 }

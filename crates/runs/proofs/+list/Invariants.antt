@@ -18,14 +18,8 @@ decreases-list_members l = (33 - l.path.depth) * 4
 abbrev pub decreases-list_type : goal.decreases-list_type
 decreases-list_type l = (33 - l.path.depth) * 4 + 1
 
-abbrev pub invariant-list_entries-loop-done : goal.invariant-list_entries-loop-done
-invariant-list_entries-loop-done l = Going l.most (33 - l.path.depth) l.table l.pool (top_of l.path) l.stride l.count l.done l.start l.limit l.at l.initial.state l.initial.work l.state l.work
+abbrev pub invariant-list_entries-loop : goal.invariant-list_entries-loop
+invariant-list_entries-loop l = Going l.most (33 - l.path.depth) l.table l.pool (top_of l.path) l.stride l.count l.counter l.start l.limit l.at l.initial.state l.initial.work l.state l.work
 
-abbrev pub decreases-list_entries-loop-done : goal.decreases-list_entries-loop-done
-decreases-list_entries-loop-done l = l.count - l.done
-
-abbrev pub invariant-list_members-loop-left : goal.invariant-list_members-loop-left
-invariant-list_members-loop-left l = Leads l.most (32 - l.path.depth) l.table l.pool l.left l.r l.count l.row l.limit l.at l.initial.state l.initial.work l.state l.work
-
-abbrev pub decreases-list_members-loop-left : goal.decreases-list_members-loop-left
-decreases-list_members-loop-left l = l.left
+abbrev pub invariant-list_members-loop : goal.invariant-list_members-loop
+invariant-list_members-loop l = Leads l.most (32 - l.path.depth) l.table l.pool l.counter l.r l.members l.row l.limit l.at l.initial.state l.initial.work l.state l.work

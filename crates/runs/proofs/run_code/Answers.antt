@@ -1,8 +1,7 @@
-use Rattle.runs.proofs.Storing.{code_ended, code_whole}
+use mathlib.Core.Path.{ap, ◌∙◌}
+use Prim.Native.Nat.{◌+◌, ◌*◌}
+use Rattle.runs.proofs.Storing.{code_is}
 use Rattle.runs.proofs.run_code.Goals as goal
 
-pub returns-then-ended : goal.returns-then-ended
-returns-then-ended c = search code_ended
-
-pub returns-else-ended : goal.returns-else-ended
-returns-else-ended c = search code_whole
+pub returns : goal.returns
+returns c = ap (λ b. c.args.size * 2 + b) c.from.ensures ∙ code_is c.args.size c.args.ended

@@ -13,8 +13,5 @@ returns-then-s-ge4294967296 c = search store_large
 pub returns-then-work-s : goal.returns-then-work-s
 returns-then-work-s c = search store_past
 
-pub bounds-work-at-2 : goal.bounds-work-at-2
-bounds-work-at-2 c = simp length-set (omega arith)
-
 pub returns : goal.returns
 returns c = search store_here

@@ -1,5 +1,5 @@
-use Rattle.std.proofs.Common.{rules}
-use Rattle.rows.proofs.Known.{says-leaf-next, says-compound-next, names-next}
+use Rattle.std.proofs.Common.{◌≡◌, ◌-◌, rules, arith}
+use Rattle.rows.proofs.Known.{says-next, names-next}
 use Rattle.slots.proofs.Rows.{array-row, array-next}
 use Rattle.slots.proofs.Listing.{type_unknown, type-enumeration, type-variable_length, type-leaf, type-compound, row_is, type-array, inner_far, inner-none, inner-leaf, inner_type}
 use Rattle.slots.proofs.ListingInside.{members-start, members_unnamed, members-next, members_end}
@@ -24,40 +24,40 @@ pub put_inner-returns-then-depth-eq32 : goal.put_inner-returns-then-depth-eq32
 put_inner-returns-then-depth-eq32 t c = search inner-none
 
 pub put_inner-overflow_add-row : goal.put_inner-overflow_add-row
-put_inner-overflow_add-row t c = search (says-leaf-next, rules)
+put_inner-overflow_add-row t c = search (says-next, rules)
 
-pub put_inner-returns-in-Leaf : goal.put_inner-returns-in-Leaf
-put_inner-returns-in-Leaf t c = search inner-leaf
+pub put_inner-returns-in-Some-Leaf : goal.put_inner-returns-in-Some-Leaf
+put_inner-returns-in-Some-Leaf t c = search inner-leaf
 
 pub put_inner-returns-in_default : goal.put_inner-returns-in_default
 put_inner-returns-in_default t c = search inner_type
 
-pub put_members-loop-left-init : goal.put_members-loop-left-init
-put_members-loop-left-init t c = members-start _ _ _ _ _ _ _ _
+pub put_members-loop-init : goal.put_members-loop-init
+put_members-loop-init t c = let e : c.args.count - 0 ≡ c.args.count = omega arith in rw e (members-start _ _ _ _ _ _ _ _)
 
 pub put_members-returns-in_default : goal.put_members-returns-in_default
-put_members-returns-in_default t c = search members_unnamed
+put_members-returns-in_default t c = members_unnamed _ _ _ _ _ _ _ _ c.loop.invariant (omega arith) c.row_member.ensures c.in_default.is
 
 pub put_members-overflow_add-r : goal.put_members-overflow_add-r
 put_members-overflow_add-r t c = search (names-next, rules)
 
-pub put_members-loop-left-preserved : goal.put_members-loop-left-preserved
-put_members-loop-left-preserved t c = search members-next
+pub put_members-loop-preserved : goal.put_members-loop-preserved
+put_members-loop-preserved t c = members-next _ _ _ _ _ _ _ _ c.loop.invariant (omega arith) c.row_member.ensures _ c.in-Some.is c.from.ensures c.put_inner-put.ensures (search rules) (omega arith)
 
 pub put_members-returns : goal.put_members-returns
-put_members-returns t c = search members_end
+put_members-returns t c = members_end _ _ _ _ _ _ _ _ c.loop.invariant (omega arith)
 
 pub put_type-overflow_add-row : goal.put_type-overflow_add-row
-put_type-overflow_add-row t c = search (says-leaf-next, rules)
+put_type-overflow_add-row t c = search (says-next, rules)
 
 pub put_type-overflow_add-row-in-Compound : goal.put_type-overflow_add-row-in-Compound
-put_type-overflow_add-row-in-Compound t c = search (says-compound-next, rules)
+put_type-overflow_add-row-in-Compound t c = search (says-next, rules)
 
 pub put_type-put_array-requires : goal.put_type-put_array-requires
 put_type-put_array-requires t c = search (row_is, rules)
 
-pub put_type-returns-in-Unknown : goal.put_type-returns-in-Unknown
-put_type-returns-in-Unknown t c = search type_unknown
+pub put_type-returns-in_default : goal.put_type-returns-in_default
+put_type-returns-in_default t c = search type_unknown
 
 pub put_type-returns-in-Enumeration : goal.put_type-returns-in-Enumeration
 put_type-returns-in-Enumeration t c = search type-enumeration

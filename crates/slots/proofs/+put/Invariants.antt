@@ -14,8 +14,5 @@ decreases-put_members l = (33 - l.path.depth) * 3 + 1
 abbrev pub decreases-put_type : goal.decreases-put_type
 decreases-put_type l = (33 - l.path.depth) * 3 + 2
 
-abbrev pub invariant-put_members-loop-left : goal.invariant-put_members-loop-left
-invariant-put_members-loop-left l = Puts (32 - l.path.depth) l.table l.pool l.row l.count l.base l.initial.out l.at l.r l.left l.out l.next
-
-abbrev pub decreases-put_members-loop-left : goal.decreases-put_members-loop-left
-decreases-put_members-loop-left l = l.left
+abbrev pub invariant-put_members-loop : goal.invariant-put_members-loop
+invariant-put_members-loop l = Puts (32 - l.path.depth) l.table l.pool l.row l.count l.base l.initial.out l.at l.r (l.count - l.counter) l.out l.next

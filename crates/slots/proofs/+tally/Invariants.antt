@@ -11,8 +11,5 @@ decreases-tally_members l = (33 - l.path.depth) * 3 + 1
 abbrev pub decreases-tally_type : goal.decreases-tally_type
 decreases-tally_type l = (33 - l.path.depth) * 3 + 2
 
-abbrev pub invariant-tally_members-loop-left : goal.invariant-tally_members-loop-left
-invariant-tally_members-loop-left l = Counts (32 - l.path.depth) l.table l.pool l.row l.count l.r l.left l.unmapped l.slots l.end
-
-abbrev pub decreases-tally_members-loop-left : goal.decreases-tally_members-loop-left
-decreases-tally_members-loop-left l = l.left
+abbrev pub invariant-tally_members-loop : goal.invariant-tally_members-loop
+invariant-tally_members-loop l = Counts (32 - l.path.depth) l.table l.pool l.row l.count l.r (l.count - l.counter) l.unmapped l.slots l.end

@@ -1,23 +1,14 @@
-use Rattle.slots.proofs.Numbers.{last-zero, last_none, last_far, last_multiplied, last_fits, last-near, last-past}
+use Rattle.std.proofs.Common.{◌∙◌}
+use Rattle.slots.proofs.Numbers.{last-zero, last_none, last-is}
 use Rattle.slots.proofs.last_end.Goals as goal
+use Rattle.slots.proofs.last_end.Goals.{then-end-eq0-via-then-end-eq0, then-end-eq0-via-else-end-eq0+then-n-eq0}
 
 pub returns-then-end-eq0 : goal.returns-then-end-eq0
-returns-then-end-eq0 c = search last-zero
+returns-then-end-eq0 c =
+    elim c.then-end-eq0.branch [
+      | then-end-eq0-via-then-end-eq0 w ↦ last-zero _ _ _ w.if-end-eq0.true
+      | then-end-eq0-via-else-end-eq0+then-n-eq0 w ↦ last_none _ _ _ w.if-n-eq0.true
+    ]
 
-pub returns-then-n-eq0 : goal.returns-then-n-eq0
-returns-then-n-eq0 c = search last_none
-
-pub returns-then-end-ge4294967296 : goal.returns-then-end-ge4294967296
-returns-then-end-ge4294967296 c = search last_far
-
-pub overflow_mul-last : goal.overflow_mul-last
-overflow_mul-last c = search last_multiplied
-
-pub overflow_add-last : goal.overflow_add-last
-overflow_add-last c = search last_fits
-
-pub returns-then-last-lt4294967296 : goal.returns-then-last-lt4294967296
-returns-then-last-lt4294967296 c = search last-near
-
-pub returns-else-last-lt4294967296 : goal.returns-else-last-lt4294967296
-returns-else-last-lt4294967296 c = search last-past
+pub returns : goal.returns
+returns c = c.min-2.ensures ∙ rw (c.from.ensures, c.min.ensures) (last-is _ _ _ c.if-end-eq0.false c.if-n-eq0.false)

@@ -1,24 +1,23 @@
-use Rattle.slots.proofs.Answers.{zero-fits, slots-zero, slots_other, slots-many, slots_far, slots-room, slots-found}
 use Rattle.std.proofs.Common.{rules}
+use Rattle.slots.proofs.Answers.{slots-zero, slots_other, slots-many, slots_far, slots-room, slots-found}
 use Rattle.slots.proofs.slots_checked.Goals as goal
+use Rattle.slots.proofs.slots_checked.Goals.{then-t-via-then-t, then-t-via-else-t+then-size-t, then-t-via-else-t+else-size-t+then-size-t-2}
 
-pub overflow_cast-result : goal.overflow_cast-result
-overflow_cast-result c = search zero-fits
-
-pub returns-then-s-ne0 : goal.returns-then-s-ne0
-returns-then-s-ne0 c = search slots-zero
+pub returns-in-Some : goal.returns-in-Some
+returns-in-Some c = search slots-zero
 
 pub returns-then-t : goal.returns-then-t
-returns-then-t c = search slots_other
-
-pub returns-then-size-t : goal.returns-then-size-t
-returns-then-size-t c = search slots-many
-
-pub returns-then-size-t-2 : goal.returns-then-size-t-2
-returns-then-size-t-2 c = search slots_far
+returns-then-t c =
+    elim c.then-t.branch [
+      | then-t-via-then-t w ↦ slots_other _ _ _ c.requires c.in_default.is _ c.tally_type-t.ensures w.if-t.true
+      | then-t-via-else-t+then-size-t w ↦ slots-many _ _ _ c.requires c.in_default.is _ c.tally_type-t.ensures (rw c.from-size.ensures at w.if-size-t.true)
+      | then-t-via-else-t+else-size-t+then-size-t-2 w ↦ slots_far _ _ _ c.requires c.in_default.is _ c.tally_type-t.ensures (rw c.from-size.ensures at w.if-size-t-2.true)
+    ]
 
 pub returns-then-out-count : goal.returns-then-out-count
-returns-then-out-count c = search (slots-room, rules)
+returns-then-out-count c =
+    slots-room _ _ _ c.requires c.in_default.is _ c.tally_type-t.ensures c.if-t.false (rw c.from-size.ensures at c.if-size-t.false) (rw c.from-size.ensures at c.if-size-t-2.false) (search rules) c.if-out-count.true
 
 pub returns : goal.returns
-returns c = search (slots-found, rules)
+returns c =
+    slots-found _ _ _ c.requires c.in_default.is _ c.tally_type-t.ensures c.if-t.false (rw c.from-size.ensures at c.if-size-t.false) (rw c.from-size.ensures at c.if-size-t-2.false) (search rules) _ _ c.if-out-count.false c.put_type.ensures

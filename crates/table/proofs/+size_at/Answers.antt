@@ -1,5 +1,5 @@
 use borrow.Author.Rules.{rules}
-use Rattle.rows.proofs.Known.{says-array-next, says-array-row}
+use Rattle.rows.proofs.Known.{says-next, says-row}
 use Rattle.table.proofs.Passing.{sized-none, sized_unknown, sized-leaf, sized-compound, sized-enumeration, sized-variable_length, sized-array}
 use Rattle.table.proofs.+size_at.Goals as goal
 
@@ -7,13 +7,13 @@ pub returns-then-levels-eq0 : goal.returns-then-levels-eq0
 returns-then-levels-eq0 t c = search sized-none
 
 pub overflow_add-row : goal.overflow_add-row
-overflow_add-row t c = search (says-array-next, rules)
+overflow_add-row t c = search (says-next, rules)
 
 pub array_total-requires : goal.array_total-requires
-array_total-requires t c = search (says-array-row, rules)
+array_total-requires t c = search (says-row, rules)
 
-pub returns-in-Unknown : goal.returns-in-Unknown
-returns-in-Unknown t c = search sized_unknown
+pub returns-in_default : goal.returns-in_default
+returns-in_default t c = search sized_unknown
 
 pub returns-in-Leaf : goal.returns-in-Leaf
 returns-in-Leaf t c = search sized-leaf

@@ -1,4 +1,4 @@
-use Prim.Native.Nat.{◌+◌, ◌*◌}
+use Prim.Native.Nat.{◌+◌, ◌-◌, ◌*◌}
 use mathlib.Core.Path.{◌≡◌}
 use Rattle.format.specs.Table.{type_at, members_at}
 use Rattle.table.specs.Survey.{survey_in}
@@ -14,8 +14,5 @@ decreases-survey_members l = l.levels * 3 + 2
 abbrev pub decreases-survey_type : goal.decreases-survey_type
 decreases-survey_type l = l.levels * 3
 
-abbrev pub invariant-survey_members-loop-left : goal.invariant-survey_members-loop-left
-invariant-survey_members-loop-left l = survey_in l.size (members_at (type_at l.levels l.table l.pool) l.table l.pool l.count l.row l.place) ≡ gathered l.size l.zero l.outside l.heap l.object l.file (members_at (type_at l.levels l.table l.pool) l.table l.pool l.left l.r l.p)
-
-abbrev pub decreases-survey_members-loop-left : goal.decreases-survey_members-loop-left
-decreases-survey_members-loop-left l = l.left
+abbrev pub invariant-survey_members-loop : goal.invariant-survey_members-loop
+invariant-survey_members-loop l = survey_in l.size (members_at (type_at l.levels l.table l.pool) l.table l.pool l.count l.row l.place) ≡ gathered l.size l.zero l.outside l.heap l.object l.file (members_at (type_at l.levels l.table l.pool) l.table l.pool (l.count - l.counter) l.r l.p)

@@ -1,11 +1,9 @@
-use Rattle.table.proofs.Answers.{file_bad, file_yes, file_no}
+use Rattle.std.proofs.lemmas.Result.{err_from_is_err_and}
+use Rattle.table.proofs.Answers.{ok-some, file_bad, file_good}
 use Rattle.table.proofs.datatype_holds_file_address.Goals as goal
 
-pub returns-in-Bad : goal.returns-in-Bad
-returns-in-Bad c = search file_bad
+pub returns-in_err-s : goal.returns-in_err-s
+returns-in_err-s c = let p = err_from_is_err_and c.from_residual.result c.from_residual.ensures.1 in file_bad _ _ c.check.ensures c.ok_or.ensures.value c.in_err-s.was p.1 p.2
 
-pub returns-then-s : goal.returns-then-s
-returns-then-s c = search file_yes
-
-pub returns-else-s : goal.returns-else-s
-returns-else-s c = search file_no
+pub returns : goal.returns
+returns c = file_good _ _ c.check.ensures (ok-some c.ok_or.ensures.value c.in_ok-s.was)

@@ -1,11 +1,9 @@
-use Rattle.table.proofs.Answers.{object_bad, object_yes, object_no}
+use Rattle.std.proofs.lemmas.Result.{err_from_is_err_and}
+use Rattle.table.proofs.Answers.{ok-some, object_bad, object_good}
 use Rattle.table.proofs.datatype_holds_object_address.Goals as goal
 
-pub returns-in-Bad : goal.returns-in-Bad
-returns-in-Bad c = search object_bad
+pub returns-in_err-s : goal.returns-in_err-s
+returns-in_err-s c = let p = err_from_is_err_and c.from_residual.result c.from_residual.ensures.1 in object_bad _ _ c.check.ensures c.ok_or.ensures.value c.in_err-s.was p.1 p.2
 
-pub returns-then-s : goal.returns-then-s
-returns-then-s c = search object_yes
-
-pub returns-else-s : goal.returns-else-s
-returns-else-s c = search object_no
+pub returns : goal.returns
+returns c = object_good _ _ c.check.ensures (ok-some c.ok_or.ensures.value c.in_ok-s.was)

@@ -3,4 +3,4 @@ use Rattle.table.proofs.enumeration_survey.Goals as goal
 
 pub returns : goal.returns
 unfolding enumeration_survey_of
-returns c = rw (c.first_of.ensures, c.zero_note.ensures)
+returns c = rw (c.or.ensures, c.then_some.ensures)

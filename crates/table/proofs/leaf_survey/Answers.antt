@@ -3,4 +3,4 @@ use Rattle.table.proofs.leaf_survey.Goals as goal
 
 pub returns : goal.returns
 unfolding leaf_survey_of
-returns c = rw (c.region.ensures, c.zero_note.ensures)
+returns c = rw c.then_some.ensures

@@ -21,23 +21,23 @@ returns-then-kind-lt12 c = search (name-none, byte_below)
 pub overflow_add-place : goal.overflow_add-place
 overflow_add-place c = search (name-word, byte_below, lit<)
 
-pub offset_bounds-table-at-in-Good : goal.offset_bounds-table-at-in-Good
-offset_bounds-table-at-in-Good c = search (name-word-bytes, byte_below, lit<)
+pub offset_bounds-table-at-2 : goal.offset_bounds-table-at-2
+offset_bounds-table-at-2 c = search (name-word-bytes, byte_below, lit<)
 
-pub bounds-table-at-in-Good : goal.bounds-table-at-in-Good
-bounds-table-at-in-Good c = search (name-word-inside, byte_below, lit<)
+pub bounds-table-at-2 : goal.bounds-table-at-2
+bounds-table-at-2 c = search (name-word-inside, byte_below, lit<)
 
 pub overflow_add-length : goal.overflow_add-length
 overflow_add-length c = search (name-word, byte_below, lit<)
 
-pub offset_bounds-table-at-in-Good-2 : goal.offset_bounds-table-at-in-Good-2
-offset_bounds-table-at-in-Good-2 c = search (name-word-bytes, byte_below, lit<)
+pub offset_bounds-table-at-3 : goal.offset_bounds-table-at-3
+offset_bounds-table-at-3 c = search (name-word-bytes, byte_below, lit<)
 
-pub bounds-table-at-in-Good-2 : goal.bounds-table-at-in-Good-2
-bounds-table-at-in-Good-2 c = search (name-word-inside, byte_below, lit<)
+pub bounds-table-at-3 : goal.bounds-table-at-3
+bounds-table-at-3 c = search (name-word-inside, byte_below, lit<)
 
-pub returns-in-Bad : goal.returns-in-Bad
-returns-in-Bad c = search name-bad
+pub returns-in_default : goal.returns-in_default
+returns-in_default c = search name-bad
 
-pub returns-else-kind-lt12 : goal.returns-else-kind-lt12
-returns-else-kind-lt12 c = search (name-some, byte_below)
+pub returns : goal.returns
+returns c = search (name-some, byte_below)

@@ -1,27 +1,18 @@
-use Prim.Native.Nat.{◌*◌, min}
-use mathlib.Core.Path.{◌≡◌, refl}
+use mathlib.Core.Path.{refl, ◌∙◌}
 use native.Mathlib.Nat.{mul_comm}
 use native.Mathlib.Omega.{arith}
 use Rattle.format.proofs.Scaling.{cap_room, scale_start, scale_next, scale_end}
 use Rattle.table.proofs.scaled.Goals as goal
-use Rattle.table.proofs.scaled.Goals.{then-next-lt4294967296, else-next-lt4294967296}
 
 pub loop-i-init : goal.loop-i-init
-loop-i-init c = ((omega arith, omega arith), (c.requires, scale_start _ _ _ _ _ _ _ (mul_comm _ 4) refl))
+loop-i-init c = rw c.from-total.ensures (omega arith, scale_start _ _ _ _ _ _ _ (mul_comm _ 4) refl)
 
-pub read_uint-requires : goal.read_uint-requires
-read_uint-requires c = (omega arith, omega arith)
-
-pub overflow_mul-next : goal.overflow_mul-next
-overflow_mul-next c = omega (arith, cap_room c.loop-i.total c.read_uint.result (omega arith) (omega arith))
+pub overflow_mul-total : goal.overflow_mul-total
+overflow_mul-total c = omega (arith, cap_room c.loop-i.total c.from-dimension.result (omega arith) (omega arith))
 
 pub loop-i-preserved : goal.loop-i-preserved
 loop-i-preserved c = let l = c.loop-i in
-    let x = c.read_uint.result in
-    let e : c.if-next-lt4294967296.total ≡ min (l.total * x) 4294967296 = elim c.if-next-lt4294967296.branch [ then-next-lt4294967296 w ↦ omega arith | else-next-lt4294967296 w ↦ omega arith ] in (
-      (omega arith, omega arith),
-      (l.invariant.1.0, scale_next _ _ _ _ l.i l.total c.if-next-lt4294967296.total x _ (omega arith) c.read_uint.ensures l.invariant.1.1 e),
-    )
+    (omega arith, scale_next _ _ _ _ l.i l.total c.min-total.result _ _ (omega arith) (c.from-dimension.ensures ∙ c.read_uint.ensures) l.invariant.1 c.min-total.ensures)
 
 pub returns : goal.returns
-returns c = let l = c.loop-i in scale_end _ _ _ _ l.i l.total _ (omega arith) l.invariant.0.1 l.invariant.1.1
+returns c = let l = c.loop-i in scale_end _ _ _ _ l.i l.total _ (omega arith) l.invariant.0 l.invariant.1

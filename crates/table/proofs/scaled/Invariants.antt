@@ -8,8 +8,5 @@ use Rattle.table.proofs.scaled.Given as goal
 
 abbrev pub invariant-loop-i : goal.invariant-loop-i
 invariant-loop-i l =
-    ((l.i ≤ l.rank) × (l.total ≤ 4294967296))
-    × ((l.place + l.rank * 4 ≤ length l.pool) × (min (l.size * product (dimensions_from l.rank (take (l.rank * 4) (drop l.place l.pool)))) 4294967296 ≡ min (l.total * product (dimensions_behind l.pool l.place l.rank l.i)) 4294967296))
-
-abbrev pub decreases-loop-i : goal.decreases-loop-i
-decreases-loop-i l = l.rank - l.i
+    (l.total ≤ 4294967296)
+    × (min (l.size * product (dimensions_from l.rank (take (l.rank * 4) (drop l.place l.pool)))) 4294967296 ≡ min (l.total * product (dimensions_behind l.pool l.place l.rank l.i)) 4294967296)

@@ -1,8 +1,9 @@
-use Rattle.table.proofs.Answers.{size-bad, size-good}
+use Rattle.std.proofs.lemmas.Result.{err_from_is_err_and}
+use Rattle.table.proofs.Answers.{ok-some, size-bad, size-good}
 use Rattle.table.proofs.type_size.Goals as goal
 
-pub returns-in-Bad : goal.returns-in-Bad
-returns-in-Bad c = search size-bad
+pub returns-in_err-s : goal.returns-in_err-s
+returns-in_err-s c = let p = err_from_is_err_and c.from_residual.result c.from_residual.ensures.1 in size-bad _ _ c.check.ensures c.ok_or.ensures.value c.in_err-s.was p.1 p.2
 
-pub returns-in-Good : goal.returns-in-Good
-returns-in-Good c = search size-good
+pub returns : goal.returns
+returns c = size-good _ _ c.check.ensures (ok-some c.ok_or.ensures.value c.in_ok-s.was)

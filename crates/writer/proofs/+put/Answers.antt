@@ -1,48 +1,51 @@
 use borrow.Author.Rules.{rules}
 use Rattle.format.proofs.Bytes.{byte_below}
-use Rattle.rows.proofs.Decode.{leaf-inside, enumeration-row, array_behind, array-next, compound-next, named-behind, named-next, variable_length-next}
+use Rattle.rows.proofs.Decode.{leaf-inside, row-inside, row-next, array_behind, named-behind, named-next}
 use Rattle.writer.proofs.Compounds.{members-begun, members-ended, members_unnamed, members-full, members-lost, members-next}
 use Rattle.writer.proofs.Types.{type-shallow, type_unknown, type-leaf, type-compound-full, type-compound, type-enumeration, enumeration-full, enumeration-lost, enumeration-put, type_variable_full, type_variable, type-array-full, type-array}
 use Rattle.writer.proofs.+put.Goals as goal
 
-pub put_enumeration-returns-in-Full : goal.put_enumeration-returns-in-Full
-put_enumeration-returns-in-Full t c = search enumeration-full
+pub put_enumeration-returns-in_err-behind : goal.put_enumeration-returns-in_err-behind
+put_enumeration-returns-in_err-behind t c = rw c.from_residual.ensures (search (enumeration-full, c.in_err-behind.was))
 
-pub put_enumeration-returns-in-Lost : goal.put_enumeration-returns-in-Lost
-put_enumeration-returns-in-Lost t c = search enumeration-lost
+pub put_enumeration-returns-in_err-base : goal.put_enumeration-returns-in_err-base
+put_enumeration-returns-in_err-base t c = rw c.from_residual-in_err-base.ensures (search (enumeration-lost, c.in_ok-behind.was, c.in_err-base.was))
 
-pub put_enumeration-returns-in-At : goal.put_enumeration-returns-in-At
-put_enumeration-returns-in-At t c = search enumeration-put
+pub put_enumeration-returns : goal.put_enumeration-returns
+put_enumeration-returns t c = search (enumeration-put, c.in_ok-behind.was, c.in_ok-base.was)
 
 pub put_inner-returns-then-levels-eq0 : goal.put_inner-returns-then-levels-eq0
 put_inner-returns-then-levels-eq0 t c = search type-shallow
 
 pub put_inner-put_leaf-requires : goal.put_inner-put_leaf-requires
-put_inner-put_leaf-requires t c = leaf-inside _ _ _ _ c.known_entry_at-entry.ensures.inside c.in-Leaf.is
+put_inner-put_leaf-requires t c = leaf-inside _ _ _ _ c.known_entry_at.ensures.inside c.in_ok-entry.was c.in-Leaf.is
+
+pub put_inner-returns-in_err-entry : goal.put_inner-returns-in_err-entry
+put_inner-returns-in_err-entry t c = rw c.from_residual.ensures (search (type_unknown, c.in_err-entry.was))
 
 pub put_inner-returns-in-Leaf : goal.put_inner-returns-in-Leaf
-put_inner-returns-in-Leaf t c = search type-leaf
+put_inner-returns-in-Leaf t c = search (type-leaf, c.in_ok-entry.was)
 
-pub put_members-loop-left-init : goal.put_members-loop-left-init
-put_members-loop-left-init t c = search members-begun
+pub put_members-loop-init : goal.put_members-loop-init
+put_members-loop-init t c = search members-begun
 
-pub put_members-returns-in-Unnamed : goal.put_members-returns-in-Unnamed
-put_members-returns-in-Unnamed t c = search members_unnamed
+pub put_members-returns-in_err-member : goal.put_members-returns-in_err-member
+put_members-returns-in_err-member t c = rw c.from_residual.ensures (search (members_unnamed, c.in_err-member.was))
 
-pub put_members-returns-in-Full : goal.put_members-returns-in-Full
-put_members-returns-in-Full t c = search members-full
+pub put_members-returns-in_err-behind : goal.put_members-returns-in_err-behind
+put_members-returns-in_err-behind t c = rw c.from_residual-in_err-behind.ensures (search (members-full, c.in_ok-member.was, c.in_err-behind.was))
 
 pub put_members-overflow_add-from : goal.put_members-overflow_add-from
-put_members-overflow_add-from t c = search (named-behind, rules)
+put_members-overflow_add-from t c = search (named-behind, c.in_ok-member.was, rules)
 
-pub put_members-overflow_add-r : goal.put_members-overflow_add-r
-put_members-overflow_add-r t c = search (named-next, rules)
+pub put_members-overflow_add-last : goal.put_members-overflow_add-last
+put_members-overflow_add-last t c = search (named-next, c.in_ok-member.was, rules)
 
-pub put_members-returns-in-Lost : goal.put_members-returns-in-Lost
-put_members-returns-in-Lost t c = search members-lost
+pub put_members-returns-in_err-last : goal.put_members-returns-in_err-last
+put_members-returns-in_err-last t c = rw c.from_residual-in_err-last.ensures (search (members-lost, c.in_ok-member.was, c.in_ok-behind.was, c.in_err-last.was))
 
-pub put_members-loop-left-preserved : goal.put_members-loop-left-preserved
-put_members-loop-left-preserved t c = search members-next
+pub put_members-loop-preserved : goal.put_members-loop-preserved
+put_members-loop-preserved t c = search (members-next, c.in_ok-member.was, c.in_ok-behind.was, c.in_ok-last.was)
 
 pub put_members-returns : goal.put_members-returns
 put_members-returns t c = search members-ended
@@ -51,46 +54,46 @@ pub put_type-returns-then-levels-eq0 : goal.put_type-returns-then-levels-eq0
 put_type-returns-then-levels-eq0 t c = search type-shallow
 
 pub put_type-put_leaf-requires : goal.put_type-put_leaf-requires
-put_type-put_leaf-requires t c = leaf-inside _ _ _ _ c.known_entry_at-entry.ensures.inside c.in-Leaf.is
+put_type-put_leaf-requires t c = leaf-inside _ _ _ _ c.known_entry_at.ensures.inside c.in_ok-entry.was c.in-Leaf.is
 
 pub put_type-overflow_add-row : goal.put_type-overflow_add-row
-put_type-overflow_add-row t c = search (compound-next, rules)
+put_type-overflow_add-row t c = search (row-next, c.in_ok-entry.was, rules)
 
 pub put_type-put_enumeration-requires : goal.put_type-put_enumeration-requires
-put_type-put_enumeration-requires t c = search (enumeration-row, rules)
+put_type-put_enumeration-requires t c = search (row-inside, c.in_ok-entry.was, rules)
 
-pub put_type-overflow_add-row-in-Behind-headed : goal.put_type-overflow_add-row-in-Behind-headed
-put_type-overflow_add-row-in-Behind-headed t c = search (variable_length-next, rules)
+pub put_type-overflow_add-row-in-VariableLength : goal.put_type-overflow_add-row-in-VariableLength
+put_type-overflow_add-row-in-VariableLength t c = search (row-next, c.in_ok-entry.was, rules)
 
 pub put_type-overflow_add-from : goal.put_type-overflow_add-from
-put_type-overflow_add-from t c = search (array_behind, rules)
+put_type-overflow_add-from t c = search (array_behind, c.in_ok-entry.was, rules)
 
-pub put_type-overflow_add-row-in-Behind-headed-2 : goal.put_type-overflow_add-row-in-Behind-headed-2
-put_type-overflow_add-row-in-Behind-headed-2 t c = search (array-next, rules)
+pub put_type-overflow_add-row-in-Array : goal.put_type-overflow_add-row-in-Array
+put_type-overflow_add-row-in-Array t c = search (row-next, c.in_ok-entry.was, rules)
 
-pub put_type-returns-in-Unknown : goal.put_type-returns-in-Unknown
-put_type-returns-in-Unknown t c = search type_unknown
+pub put_type-returns-in_err-entry : goal.put_type-returns-in_err-entry
+put_type-returns-in_err-entry t c = rw c.from_residual.ensures (search (type_unknown, c.in_err-entry.was))
 
 pub put_type-returns-in-Leaf : goal.put_type-returns-in-Leaf
-put_type-returns-in-Leaf t c = search type-leaf
+put_type-returns-in-Leaf t c = search (type-leaf, c.in_ok-entry.was)
 
-pub put_type-returns-in-Full : goal.put_type-returns-in-Full
-put_type-returns-in-Full t c = search type-compound-full
+pub put_type-returns-in_err-behind-in-Compound : goal.put_type-returns-in_err-behind-in-Compound
+put_type-returns-in_err-behind-in-Compound t c = rw c.from_residual-in_err-behind-in-Compound.ensures (search (type-compound-full, c.in_ok-entry.was, c.in_err-behind-in-Compound.was))
 
-pub put_type-returns-in-Behind : goal.put_type-returns-in-Behind
-put_type-returns-in-Behind t c = search type-compound
+pub put_type-returns-in_ok-behind-in-Compound : goal.put_type-returns-in_ok-behind-in-Compound
+put_type-returns-in_ok-behind-in-Compound t c = search (type-compound, c.in_ok-entry.was, c.in_ok-behind-in-Compound.was)
 
 pub put_type-returns-in-Enumeration : goal.put_type-returns-in-Enumeration
-put_type-returns-in-Enumeration t c = search type-enumeration
+put_type-returns-in-Enumeration t c = search (type-enumeration, c.in_ok-entry.was)
 
-pub put_type-returns-in-Full-headed : goal.put_type-returns-in-Full-headed
-put_type-returns-in-Full-headed t c = search type_variable_full
+pub put_type-returns-in_err-behind-in-VariableLength : goal.put_type-returns-in_err-behind-in-VariableLength
+put_type-returns-in_err-behind-in-VariableLength t c = rw c.from_residual-in_err-behind-in-VariableLength.ensures (search (type_variable_full, c.in_ok-entry.was, c.in_err-behind-in-VariableLength.was))
 
-pub put_type-returns-in-Behind-headed : goal.put_type-returns-in-Behind-headed
-put_type-returns-in-Behind-headed t c = search type_variable
+pub put_type-returns-in_ok-behind-in-VariableLength : goal.put_type-returns-in_ok-behind-in-VariableLength
+put_type-returns-in_ok-behind-in-VariableLength t c = search (type_variable, c.in_ok-entry.was, c.in_ok-behind-in-VariableLength.was)
 
-pub put_type-returns-in-Full-headed-2 : goal.put_type-returns-in-Full-headed-2
-put_type-returns-in-Full-headed-2 t c = search (type-array-full, byte_below)
+pub put_type-returns-in_err-behind-in-Array : goal.put_type-returns-in_err-behind-in-Array
+put_type-returns-in_err-behind-in-Array t c = rw c.from_residual-in_err-behind-in-Array.ensures (search (type-array-full, byte_below, c.in_ok-entry.was, c.in_err-behind-in-Array.was))
 
-pub put_type-returns-in-Behind-headed-2 : goal.put_type-returns-in-Behind-headed-2
-put_type-returns-in-Behind-headed-2 t c = search (type-array, byte_below)
+pub put_type-returns-in_ok-behind-in-Array : goal.put_type-returns-in_ok-behind-in-Array
+put_type-returns-in_ok-behind-in-Array t c = search (type-array, byte_below, c.in_ok-entry.was, c.in_ok-behind-in-Array.was)

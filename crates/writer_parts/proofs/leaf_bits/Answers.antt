@@ -8,4 +8,4 @@ pub returns-then-size-eq0 : goal.returns-then-size-eq0
 returns-then-size-eq0 c = search (no_bits, bits_of-none, bits_of)
 
 pub returns : goal.returns
-returns c = search (no_bits, bits_of-none, bits_of)
+returns c = rw c.from.ensures (search bits_of)

@@ -4,11 +4,11 @@ use Rattle.writer_parts.proofs.put_columns.Goals as goal
 pub loop-c-init : goal.loop-c-init
 loop-c-init c = search columns-begun
 
-pub returns-in-Full : goal.returns-in-Full
-returns-in-Full c = search columns-full
+pub returns-in_err-a : goal.returns-in_err-a
+returns-in_err-a c = rw c.from_residual.ensures (search (columns-full, c.in_err-a.was))
 
 pub loop-c-preserved : goal.loop-c-preserved
-loop-c-preserved c = search columns-next
+loop-c-preserved c = search (columns-next, c.in_ok-a.was)
 
 pub returns : goal.returns
 returns c = search columns-ended

@@ -1,9 +1,5 @@
-use Prim.Native.Nat.{◌-◌}
 use Rattle.writer_parts.proofs.Leaves.{ColumnsLeft}
 use Rattle.writer_parts.proofs.put_columns.Given as goal
 
 abbrev pub invariant-loop-c : goal.invariant-loop-c
 invariant-loop-c l = ColumnsLeft l.table l.row l.from l.to l.at l.initial.out l.c l.a l.out
-
-abbrev pub decreases-loop-c : goal.decreases-loop-c
-decreases-loop-c l = l.to - l.c

@@ -1,34 +1,34 @@
 use borrow.Author.Rules.{rules}
-use Rattle.rows.proofs.Decode.{enum_named_behind, enum_named_next}
+use Rattle.rows.proofs.Decode.{named-behind, named-next}
 use Rattle.writer_parts.proofs.Enums.{enum_begun, enum_unnamed, enum_full, enum_past, enum_next, enum_cut, enum_ended, values-fit}
 use Rattle.writer_parts.proofs.put_enum_members.Goals as goal
 
-pub loop-left-init : goal.loop-left-init
-loop-left-init c = search (rules, enum_begun)
+pub loop-init : goal.loop-init
+loop-init c = search enum_begun
 
-pub returns-in-Unnamed : goal.returns-in-Unnamed
-returns-in-Unnamed c = search enum_unnamed
+pub returns-in_err-member : goal.returns-in_err-member
+returns-in_err-member c = rw c.from_residual.ensures (search (enum_unnamed, c.in_err-member.was))
 
-pub returns-in-Full : goal.returns-in-Full
-returns-in-Full c = search enum_full
+pub returns-in_err-a : goal.returns-in_err-a
+returns-in_err-a c = rw c.from_residual-in_err-a.ensures (search (enum_full, c.in_ok-member.was, c.in_err-a.was))
 
 pub returns-then-pool-values : goal.returns-then-pool-values
-returns-then-pool-values c = search enum_past
+returns-then-pool-values c = search (enum_past, c.in_ok-member.was)
 
 pub overflow_add-r : goal.overflow_add-r
-overflow_add-r c = search (enum_named_next, rules)
+overflow_add-r c = search (named-next, c.in_ok-member.was, rules)
 
 pub overflow_add-p : goal.overflow_add-p
-overflow_add-p c = search (enum_named_behind, rules)
+overflow_add-p c = search (named-behind, c.in_ok-member.was, rules)
 
-pub loop-left-preserved : goal.loop-left-preserved
-loop-left-preserved c = search enum_next
+pub loop-preserved : goal.loop-preserved
+loop-preserved c = search (enum_next, c.in_ok-member.was, c.in_ok-a.was)
 
 pub overflow_add-result : goal.overflow_add-result
-overflow_add-result c = search values-fit
+overflow_add-result c = search (values-fit, c.in_ok-end.was)
 
-pub returns-in-Full-put : goal.returns-in-Full-put
-returns-in-Full-put c = search enum_cut
+pub returns-in_err-end : goal.returns-in_err-end
+returns-in_err-end c = rw c.from_residual-in_err-end.ensures (search (enum_cut, c.in_err-end.was))
 
-pub returns-in-Behind-put : goal.returns-in-Behind-put
-returns-in-Behind-put c = search enum_ended
+pub returns : goal.returns
+returns c = search (enum_ended, c.in_ok-end.was)

@@ -5,8 +5,8 @@ use mathlib.Core.Path.{ap, ◌∙◌}
 use Rattle.writer_parts.proofs.Placing.{header-full, header-stored}
 use Rattle.writer_parts.proofs.put_header.Goals as goal
 
-pub returns-then-room-lt8 : goal.returns-then-room-lt8
-returns-then-room-lt8 c = search header-full
+pub returns-then-saturating_sub-lt8 : goal.returns-then-saturating_sub-lt8
+returns-then-saturating_sub-lt8 c = search header-full
 
 pub bounds-out-at-2 : goal.bounds-out-at-2
 bounds-out-at-2 c = simp length-set (omega arith)

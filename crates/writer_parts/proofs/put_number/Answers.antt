@@ -1,8 +1,8 @@
 use Rattle.writer_parts.proofs.Placing.{number-full, number-stored, number-of_width}
 use Rattle.writer_parts.proofs.put_number.Goals as goal
 
-pub returns-then-room-width : goal.returns-then-room-width
-returns-then-room-width c = search number-full
+pub returns-then-saturating_sub-width : goal.returns-then-saturating_sub-width
+returns-then-saturating_sub-width c = search number-full
 
 pub returns-in-1 : goal.returns-in-1
 returns-in-1 c = search number-of_width

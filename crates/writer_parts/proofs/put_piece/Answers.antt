@@ -4,11 +4,11 @@ use Rattle.writer_parts.proofs.put_piece.Goals as goal
 pub returns-then-n-eq0 : goal.returns-then-n-eq0
 returns-then-n-eq0 c = search piece-none
 
-pub returns-then-room-n : goal.returns-then-room-n
-returns-then-room-n c = search piece-outside
+pub returns-then-saturating_sub-n : goal.returns-then-saturating_sub-n
+returns-then-saturating_sub-n c = search piece-outside
 
-pub returns-then-room-n-2 : goal.returns-then-room-n-2
-returns-then-room-n-2 c = search piece-full
+pub returns-then-saturating_sub-n-2 : goal.returns-then-saturating_sub-n-2
+returns-then-saturating_sub-n-2 c = search piece-full
 
 pub returns : goal.returns
 returns c = search piece-stored

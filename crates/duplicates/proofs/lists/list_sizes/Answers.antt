@@ -1,8 +1,19 @@
-use Rattle.duplicates.proofs.Answers.{known-tallied, known-room, known-sizes}
+use native.Mathlib.Omega.{arith}
+use Rattle.groups.proofs.Ways.{sizes-all}
+use Rattle.groups.proofs.Lists.{sizes-none, size_room, groups-more, sizes-more}
+use borrow.Author.Rules.{rules}
 use Rattle.duplicates.proofs.lists.list_sizes.Goals as goal
 
-pub put_sizes-requires : goal.put_sizes-requires
-put_sizes-requires c = record { tallied = search known-tallied; n_in_bounds = search known-room }
+pub loop-k-init : goal.loop-k-init
+loop-k-init c = sizes-none _ _
 
-pub returns-else-buckets-eq0 : goal.returns-else-buckets-eq0
-returns-else-buckets-eq0 c = search known-sizes
+pub put_size-g-requires : goal.put_size-g-requires
+put_size-g-requires c = record { n_in_bounds = search rules; known = search rules; k_in_bounds = search (size_room, rules) }
+
+pub loop-k-preserved : goal.loop-k-preserved
+loop-k-preserved c = let l = c.loop-k in
+    (groups-more _ _ _ l.g _ l.k c.put_size-g.ensures l.invariant.0, sizes-more _ _ _ _ l.g _ l.k c.put_size-g.ensures l.invariant.0 l.invariant.1)
+
+pub returns : goal.returns
+returns c = let l = c.loop-k in
+    sizes-all _ _ _ c.args.n l.k (omega arith) l.invariant.1

@@ -2,8 +2,8 @@ use Rattle.firsts.proofs.Chaining.{number-inside, runs_inside, in_bucket}
 use borrow.Author.Rules.{rules}
 use Rattle.firsts.proofs.chains.bucket_of.Goals as goal
 
-pub record_of-x-requires : goal.record_of-x-requires
-record_of-x-requires c = search (number-inside, rules)
+pub get-x-requires : goal.get-x-requires
+get-x-requires c = search (number-inside, rules)
 
 pub hash_by_runs-h-requires : goal.hash_by_runs-h-requires
 hash_by_runs-h-requires c = search (runs_inside, rules)

@@ -2,11 +2,11 @@ use Rattle.firsts.proofs.Chaining.{number-inside, runs_inside, same-lengths, key
 use borrow.Author.Rules.{rules}
 use Rattle.firsts.proofs.chains.same_key.Goals as goal
 
-pub record_of-x-requires : goal.record_of-x-requires
-record_of-x-requires c = search (number-inside, rules)
+pub get-x-requires : goal.get-x-requires
+get-x-requires c = search (number-inside, rules)
 
-pub record_of-y-requires : goal.record_of-y-requires
-record_of-y-requires c = search (number-inside, rules)
+pub get-y-requires : goal.get-y-requires
+get-y-requires c = search (number-inside, rules)
 
 pub same_by_runs-requires : goal.same_by_runs-requires
 same_by_runs-requires c = search (runs_inside, same-lengths)

@@ -6,7 +6,7 @@ pub returns-then-same_key : goal.returns-then-same_key
 returns-then-same_key c = search (first_found, arith)
 
 pub loop-j-preserved : goal.loop-j-preserved
-loop-j-preserved c = (omega arith, search (first-passed, arith))
+loop-j-preserved c = search (first-passed, arith)
 
 pub returns : goal.returns
 returns c = search (first-own, arith)

@@ -1,10 +1,10 @@
-use Prim.Native.Nat.{◌-◌, ◌≤◌}
+use Prim.Native.Nat.{◌+◌, ◌≤◌}
 use lib.ListN.{length}
 use Rattle.replay.proofs.files.entries.Given as goal
 
--- Each entry ends behind its place and inside the file, so the count is at most the place.
-abbrev pub invariant-loop-at : goal.invariant-loop-at
-invariant-loop-at l = (l.at ≤ length l.bytes) × (l.count ≤ l.at) × (l.lines ≤ l.count)
+-- Each entry takes at least a byte, so the count is at most the bytes taken.
+abbrev pub invariant-loop-rest : goal.invariant-loop-rest
+invariant-loop-rest l = (l.count + length l.rest.bytes.now ≤ length l.bytes) × (l.lines ≤ l.count)
 
-abbrev pub decreases-loop-at : goal.decreases-loop-at
-decreases-loop-at l = length l.bytes - l.at
+abbrev pub decreases-loop-rest : goal.decreases-loop-rest
+decreases-loop-rest l = length l.rest.bytes.now

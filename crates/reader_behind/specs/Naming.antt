@@ -1,0 +1,14 @@
+-- How a member begins.
+use Rattle.std.specs.Prelude.{◌≡◌, List, ℕ, ◌<◌, Result, Ok, Err}
+use Rattle.refusal.specs.declared.Refusal.{Refusal}
+use Rattle.format.specs.Reading.{refused, read_name_of}
+use Rattle.names.specs.Names.{WholeName}
+use Rattle.names.specs.declared.Name.{Name}
+use Rattle.reading.specs.declared.Limits.{Limits}
+use Rattle.reading.specs.Contract.{run}
+
+-- a row is free and the name is stored, or the name is refused, whatever the version
+pub record NameBegins (d : List ℕ) (lim : Limits) (at used pooled : ℕ) (r : Result Name Refusal) (p p' : List ℕ) : Type 0 where
+  pub free : (x : Name) → r ≡ Ok x → used < lim.rows
+  pub whole : (x : Name) → r ≡ Ok x → WholeName d at p p' pooled lim.pool x.length x.stored
+  pub stopped : (e : Refusal) → r ≡ Err e → (v : ℕ) → run (read_name_of v) d lim at used pooled ≡ refused e

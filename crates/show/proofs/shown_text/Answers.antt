@@ -1,7 +1,0 @@
-use mathlib.Core.Path.{sym}
-use native.Mathlib.Omega.{arith}
-use lib.Seq.{length-take-le}
-use Rattle.show.proofs.shown_text.Goals as goal
-
-pub slice_bounds-text-end : goal.slice_bounds-text-end
-slice_bounds-text-end c = sym (length-take-le _ _ (omega arith))
