@@ -120,8 +120,8 @@ pub fn tell<T: Told>(answer: Result<T, Refusal>, first: &mut u64, second: &mut u
         }
         Err(refusal) => {
             let values = refusal::values(refusal);
-            *first = values.first;
-            *second = values.second;
+            *first = values.first.unwrap_or(0);
+            *second = values.second.unwrap_or(0);
             refusal::number(refusal)
         }
     }

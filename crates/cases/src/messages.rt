@@ -1,6 +1,7 @@
 // The messages of the cases. U1, U2, R and P are document 01's.
 ghost use Rattle.std.specs.Prelude.{◌≡◌, ◌+◌, ◌*◌, length};
 
+use record_types::{FLOAT, P, R, TWO_R, U1};
 use show::reading;
 
 // At limit 15, with 64 rows and 256 pool bytes.
@@ -11,7 +12,7 @@ fn plain(label: &[u8], message: &[u8]) {
 // Document 01's own cases of reading.
 pub fn document_cases() {
     plain(b"empty", b"");
-    plain(b"U1", b"\x10\x00\x00\x00\x01\x00\x00\x00\x00\x00\x08\x00");
+    plain(b"U1", &U1);
     plain(
         b"a tag without its padding",
         b"\x15\x03\x00\x00\x05\x00\x00\x00abc",
@@ -23,39 +24,19 @@ pub fn document_cases() {
     );
     plain(b"padding 3", b"\x13\x23\x00\x00\x01\x00\x00\x00");
     plain(b"charset 2", b"\x13\x20\x00\x00\x01\x00\x00\x00");
-    plain(
-        b"P",
-        b"\x36\x02\x00\x00\x04\x00\x00\x00a\x00\x00\x10\x00\x00\x00\x01\x00\x00\x00\x00\x00\x08\x00b\x00\x02\x10\x00\x00\x00\x02\x00\x00\x00\x00\x00\x10\x00",
-    );
-    reading(
-        b"P at limit 2",
-        b"\x36\x02\x00\x00\x04\x00\x00\x00a\x00\x00\x10\x00\x00\x00\x01\x00\x00\x00\x00\x00\x08\x00b\x00\x02\x10\x00\x00\x00\x02\x00\x00\x00\x00\x00\x10\x00",
-        2,
-        64,
-        256,
-    );
+    plain(b"P", &P);
+    reading(b"P at limit 2", &P, 2, 64, 256);
     plain(
         b"array with dimension 0",
         b"\x3a\x00\x00\x00\x00\x00\x00\x00\x01\x00\x00\x00\x00\x10\x00\x00\x00\x01\x00\x00\x00\x00\x00\x08\x00",
     );
-    plain(
-        b"array of two R",
-        b"\x3a\x00\x00\x00\x00\x00\x00\x00\x01\x02\x00\x00\x00\x17\x00\x00\x00\x08\x00\x00\x00",
-    );
+    plain(b"array of two R", &TWO_R);
     plain(
         b"dimensions 65536 and 65536 over U1",
         b"\x3a\x00\x00\x00\x00\x00\x00\x00\x02\x00\x00\x01\x00\x00\x00\x01\x00\x10\x00\x00\x00\x01\x00\x00\x00\x00\x00\x08\x00",
     );
-    sequences(
-        b"31 sequences round R",
-        31,
-        b"\x17\x00\x00\x00\x08\x00\x00\x00",
-    );
-    sequences(
-        b"32 sequences round R",
-        32,
-        b"\x17\x00\x00\x00\x08\x00\x00\x00",
-    );
+    sequences(b"31 sequences round R", 31, &R);
+    sequences(b"32 sequences round R", 32, &R);
 }
 
 // So many sequences, at most 40, round a message of at most 64 bytes.
@@ -214,13 +195,7 @@ pub fn piece_cases() {
         64,
         2,
     );
-    reading(
-        b"dimensions too long for the pool",
-        b"\x3a\x00\x00\x00\x00\x00\x00\x00\x01\x02\x00\x00\x00\x17\x00\x00\x00\x08\x00\x00\x00",
-        15,
-        64,
-        3,
-    );
+    reading(b"dimensions too long for the pool", &TWO_R, 15, 64, 3);
 }
 
 // Sizes of 0, versions at the limit and above it, and codes.
@@ -281,10 +256,7 @@ pub fn size_and_version_cases() {
 
 // A type of each class.
 pub fn class_cases() {
-    plain(
-        b"float",
-        b"\x11\x20\x1f\x00\x04\x00\x00\x00\x00\x00\x20\x00\x17\x08\x00\x17\x7f\x00\x00\x00",
-    );
+    plain(b"float", &FLOAT);
     plain(
         b"VAX float",
         b"\x11\x41\x1f\x00\x04\x00\x00\x00\x00\x00\x20\x00\x17\x08\x00\x17\x7f\x00\x00\x00",

@@ -1,4 +1,5 @@
 // Six records of P with a workspace of every length, up to one word more than `duplicates_words` tells.
+use crate::types::SIX_OF_P;
 use duplicates::{Groups, duplicates, duplicates_words};
 use record_types::P;
 use show::{out, refusal_line};
@@ -22,7 +23,7 @@ fn given_with(table: &[u32], pool: &[u8], words: usize) -> bool {
     let answer = duplicates(
         table,
         pool,
-        b"\x01\xff\x05\x00\x02\x00\x05\x00\x01\x00\x05\x00\x01\x11\x05\x00\x02\x77\x05\x00\x01\x00\x05\x01",
+        &SIX_OF_P,
         &mut numbers,
         &mut sizes,
         &mut work[..words],

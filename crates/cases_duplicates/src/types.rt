@@ -2,16 +2,13 @@
 use crate::calls::{grouping, words};
 use record_types::{NAME, NO_MEMBER, OUTSIDE, P, SEQUENCE};
 
+// Six records of P, of three kinds.
+pub const SIX_OF_P: [u8; 24] =
+    *b"\x01\xff\x05\x00\x02\x00\x05\x00\x01\x00\x05\x00\x01\x11\x05\x00\x02\x77\x05\x00\x01\x00\x05\x01";
+
 // Records that differ in what no field owns, with more room than is needed.
 pub fn group_cases() {
-    grouping(
-        b"six of P",
-        &P,
-        b"\x01\xff\x05\x00\x02\x00\x05\x00\x01\x00\x05\x00\x01\x11\x05\x00\x02\x77\x05\x00\x01\x00\x05\x01",
-        7,
-        4,
-        22,
-    );
+    grouping(b"six of P", &P, &SIX_OF_P, 7, 4, 22);
     grouping(
         b"five with a name",
         &NAME,
@@ -31,14 +28,7 @@ pub fn group_cases() {
 }
 
 fn six_of_p(label: &[u8], places: usize, groups: usize) {
-    grouping(
-        label,
-        &P,
-        b"\x01\xff\x05\x00\x02\x00\x05\x00\x01\x00\x05\x00\x01\x11\x05\x00\x02\x77\x05\x00\x01\x00\x05\x01",
-        places,
-        groups,
-        22,
-    );
+    grouping(label, &P, &SIX_OF_P, places, groups, 22);
 }
 
 // Too little room for the numbers, for the sizes, and just enough.

@@ -1,5 +1,6 @@
 // Listings of types. U1, U2 and P are document 01's.
 use listing::list_fields;
+use record_types::{P, U1};
 use refusal::Refusal;
 use show::{out, refusal_line, shown_text, text};
 use show_lent::lent_line;
@@ -41,11 +42,7 @@ fn listed(label: &[u8], message: &[u8], room: usize) {
 
 // The lines of whole types.
 pub fn type_cases() {
-    listed(
-        b"P",
-        b"\x36\x02\x00\x00\x04\x00\x00\x00\x61\x00\x00\x10\x00\x00\x00\x01\x00\x00\x00\x00\x00\x08\x00\x62\x00\x02\x10\x00\x00\x00\x02\x00\x00\x00\x00\x00\x10\x00",
-        1024,
-    );
+    listed(b"P", &P, 1024);
     listed(
         b"an empty name and an ill-formed one",
         b"\x36\x02\x00\x00\x02\x00\x00\x00\x00\x00\x10\x00\x00\x00\x01\x00\x00\x00\x00\x00\x08\x00\x61\xff\x00\x01\x10\x00\x00\x00\x01\x00\x00\x00\x00\x00\x08\x00",
@@ -82,16 +79,8 @@ pub fn depth_case() {
 
 // Enough room, a byte less, and a table that sets out no type.
 pub fn refused_cases() {
-    listed(
-        b"U1 in 39 bytes",
-        b"\x10\x00\x00\x00\x01\x00\x00\x00\x00\x00\x08\x00",
-        39,
-    );
-    listed(
-        b"U1 in 38 bytes",
-        b"\x10\x00\x00\x00\x01\x00\x00\x00\x00\x00\x08\x00",
-        38,
-    );
+    listed(b"U1 in 39 bytes", &U1, 39);
+    listed(b"U1 in 38 bytes", &U1, 38);
     let table = [0u32; 16];
     let mut out = [7u8; 64];
     text(b"no type: ");

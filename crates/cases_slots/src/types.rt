@@ -1,14 +1,12 @@
 // Document 01's cases of sizes, slots and references, members' names, and one for each refusal of them. U1, R and P are document 01's.
 use crate::calls::{first_byte, names, references, sizes, slots};
+use record_types::{OUTSIDE, P, R, REGION, TWO_R, U1};
 
 // Types with slots and without, and immense arrays.
 pub fn slot_cases() {
-    slots(
-        b"array of two R",
-        b"\x3a\x00\x00\x00\x00\x00\x00\x00\x01\x02\x00\x00\x00\x17\x00\x00\x00\x08\x00\x00\x00",
-    );
-    slots(b"R", b"\x17\x00\x00\x00\x08\x00\x00\x00");
-    slots(b"U1", b"\x10\x00\x00\x00\x01\x00\x00\x00\x00\x00\x08\x00");
+    slots(b"array of two R", &TWO_R);
+    slots(b"R", &R);
+    slots(b"U1", &U1);
     slots(
         b"array of five R",
         b"\x3a\x00\x00\x00\x00\x00\x00\x00\x01\x05\x00\x00\x00\x17\x00\x00\x00\x08\x00\x00\x00",
@@ -29,7 +27,7 @@ pub fn slot_cases() {
 
 // References that are no slots, and a member past the end of its compound.
 pub fn unmapped_cases() {
-    slots(b"a region reference", b"\x17\x01\x00\x00\x0c\x00\x00\x00");
+    slots(b"a region reference", &REGION);
     slots(
         b"a sequence of R",
         b"\x19\x00\x00\x00\x10\x00\x00\x00\x17\x00\x00\x00\x08\x00\x00\x00",
@@ -42,10 +40,7 @@ pub fn unmapped_cases() {
         b"a member at 8 that is R",
         b"\x36\x01\x00\x00\x10\x00\x00\x00\x61\x00\x08\x17\x00\x00\x00\x08\x00\x00\x00",
     );
-    slots(
-        b"a member past the end of its compound",
-        b"\x36\x01\x00\x00\x04\x00\x00\x00\x61\x00\x00\x17\x00\x00\x00\x08\x00\x00\x00",
-    );
+    slots(b"a member past the end of its compound", &OUTSIDE);
 }
 
 // References of blocks of records.
@@ -84,14 +79,8 @@ pub fn reference_cases() {
 
 // Sizes and address predicates.
 pub fn size_cases() {
-    sizes(
-        b"P",
-        b"\x36\x02\x00\x00\x04\x00\x00\x00\x61\x00\x00\x10\x00\x00\x00\x01\x00\x00\x00\x00\x00\x08\x00\x62\x00\x02\x10\x00\x00\x00\x02\x00\x00\x00\x00\x00\x10\x00",
-    );
-    sizes(
-        b"array of two R",
-        b"\x3a\x00\x00\x00\x00\x00\x00\x00\x01\x02\x00\x00\x00\x17\x00\x00\x00\x08\x00\x00\x00",
-    );
+    sizes(b"P", &P);
+    sizes(b"array of two R", &TWO_R);
     sizes(
         b"dimensions 65536 and 65536 over U1",
         b"\x3a\x00\x00\x00\x00\x00\x00\x00\x02\x00\x00\x01\x00\x00\x00\x01\x00\x10\x00\x00\x00\x01\x00\x00\x00\x00\x00\x08\x00",
@@ -100,7 +89,7 @@ pub fn size_cases() {
         b"a sequence of U1",
         b"\x19\x00\x00\x00\x00\x00\x00\x00\x10\x00\x00\x00\x01\x00\x00\x00\x00\x00\x08\x00",
     );
-    sizes(b"a region reference", b"\x17\x01\x00\x00\x0c\x00\x00\x00");
+    sizes(b"a region reference", &REGION);
     first_byte(b"class 5", 0x15);
     first_byte(b"class 6", 0x16);
     first_byte(b"class 10", 0x3a);
@@ -109,10 +98,7 @@ pub fn size_cases() {
 
 // Names of members: of a compound, and of an enumeration.
 pub fn name_cases() {
-    names(
-        b"names of P",
-        b"\x36\x02\x00\x00\x04\x00\x00\x00\x61\x00\x00\x10\x00\x00\x00\x01\x00\x00\x00\x00\x00\x08\x00\x62\x00\x02\x10\x00\x00\x00\x02\x00\x00\x00\x00\x00\x10\x00",
-    );
+    names(b"names of P", &P);
     names(
         b"names of an enumeration over U1",
         b"\x38\x02\x00\x00\x01\x00\x00\x00\x10\x00\x00\x00\x01\x00\x00\x00\x00\x00\x08\x00on\x00off\x00\x01\x02",

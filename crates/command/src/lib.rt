@@ -61,7 +61,7 @@ pub fn fill<R: Read>(reader: &mut R, buffer: &mut [u8]) -> (usize, Result<()>)
     ensures whole { OnOk result.1 (result.0 < length buffer.new → IsAtEnd (R.remaining reader.new)) }
 {
     let mut done = 0;
-    // No `for`: a read gives as many bytes as it likes.
+    // A `while`, since each read says how many bytes it gave.
     while done < buffer.len() {
         match reader.read(&mut buffer[done..]) {
             Ok(0) => return (done, Ok(())),

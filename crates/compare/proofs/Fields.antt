@@ -28,11 +28,7 @@ module _ {e : Entry} where
   unfolding is_field_of
   enumeration-is h = ap is_field_of (sym h)
 
-  pub leaf-string : {c n l y : ℕ} {x : Bool} → e ≡ Leaf c n l y → x ≡ nul_terminated_of c y → x ≡ is_string_of e
-  unfolding is_string_of
-  leaf-string h v = v ∙ ap is_string_of (sym h)
-
--- any other row's type is neither
+-- any other row's type is none
 pub no_field : (e : Entry) → ((c n l y : ℕ) → e ≡ Leaf c n l y → ⊥) → ((n k : ℕ) → e ≡ Enumeration n k → ⊥) → false ≡ is_field_of e
 unfolding is_field_of
 no_field (Leaf c n l y) h g = absurd (h c n l y refl)
@@ -40,14 +36,6 @@ no_field (Enumeration n k) h g = absurd (g n k refl)
 no_field (Compound n k) h g = refl
 no_field (VariableLength i a c) h g = refl
 no_field (Array k) h g = refl
-
-pub no_string : (e : Entry) → ((c n l y : ℕ) → e ≡ Leaf c n l y → ⊥) → false ≡ is_string_of e
-unfolding is_string_of
-no_string (Leaf c n l y) h = absurd (h c n l y refl)
-no_string (Enumeration n k) h = refl
-no_string (Compound n k) h = refl
-no_string (VariableLength i a c) h = refl
-no_string (Array k) h = refl
 
 pub other_class : (c x : ℕ) → (c ≡ 3 → ⊥) → eqb c 3 ≡ nul_terminated_of c x
 unfolding nul_terminated_of

@@ -12,7 +12,7 @@ use lib.ListN.{length, get_or, take, drop}
 use lib.Seq.{drop-cons}
 use lib.Pointwise.{pointwise}
 use lib.Dec.{ltb, eqb}
-use borrow.Author.Tests.{ne_eqb, eqb-true, eqb-false, ltb-true, ltb-false, le-ltb, not-true, not-false}
+use borrow.Author.Tests.{ne_eqb, eq-eqb, eqb-true, eqb-false, ltb-true, ltb-false, le-ltb, not-true, not-false}
 use Rattle.format.specs.Image.{Field, move_field, move_fields, field_entries, no_nul_between, counted_in, FieldsAgree, FieldsDiffer}
 use Rattle.format.proofs.Image.{no_nul_if, counted_if, owned_if}
 use Rattle.format.proofs.Walking.{agree-none, agree_both, entry_walked, entry-differs, counted-one, field-equal, field-ended, field_apart}
@@ -206,8 +206,8 @@ module _ (n : ℕ) (a b : List ℕ) (at k : ℕ) (w : Common a b at n k) where
       pub leaf-not-ended : (k ≡ n → ⊥) → r ≡ false → AgreesField n ended a b at next (Err Apart)
       leaf-not-ended z h = rw (← u, y) (unfold AgreesField in λ l. answers-apart (no_nul-apart z h))
 
-  pub string-equal : k ≡ n → StringSame a b at n true
-  string-equal h = record { same = λ e. all-equal true h; differs = λ e. absurd (false≢true (sym e)) }
+  pub string-equal : k ≡ n → StringSame a b at n (eqb k n)
+  string-equal h = rw (eq-eqb k n h) (record { same = λ e. all-equal true h; differs = λ e. absurd (false≢true (sym e)) })
 
   pub leaf-equal : (next : ℕ) (e : Bool) → k ≡ n → AgreesField n e a b at next (Ok next)
   unfolding AgreesField

@@ -125,14 +125,15 @@ module _ (table pool : List ℕ) (row k levels : ℕ) {size : ℕ} (f : SizedAt 
   unfolding BaseIn from_entry
   base-zero z a b at x = record { agrees = λ p q. array-zero _ size a b at x (type_at levels table pool (suc row) (p + k * 4)) (base-size (p + k * 4)) z }
 
-  pub base-found : {total : ℕ} → TotalAt table pool row k size total → BaseIn table pool row k levels (Some (record { stride = size; bytes = total; count = total / size }))
+  pub base-found : {total n : ℕ} → TotalAt table pool row k size total → n ≡ size → BaseIn table pool row k levels (Some (record { stride = size; bytes = total; count = total / n }))
   unfolding BaseIn from_entry
-  base-found h =
-      record {
+  base-found h e =
+      rw e
+      (record {
         fields = λ e s i a b at next x g v.
             record { agrees = λ p q. array-fields _ size (h.total p q) a b at x (is_string_of e) (type_at levels table pool (suc row) (p + k * 4)) next (base-size (p + k * 4)) (rw (add-one row) at (g.passes pool (p + k * 4))) (rw (add-one row) at (type-field levels table pool (row + 1) (p + k * 4) e (s.is pool (p + k * 4)) i)) v };
         each = λ a b at x v. record { agrees = λ p q. array-each _ size (h.total p q) a b at x (type_at levels table pool (suc row) (p + k * 4)) (base-size (p + k * 4)) (rw (add-one row) at (v.agrees (p + k * 4))) };
-      }
+      })
 
 -- ---- by the row
 

@@ -82,10 +82,7 @@ pub fn equal_string(a: &[u8], b: &[u8], at: usize, n: usize) -> bool
     ensures { StringSame a.now b.now at n result }
 {
     let equal = common(a, b, at, n);
-    if equal == n {
-        return true;
-    }
-    has_nul(a, at, equal)
+    equal == n || has_nul(a, at, equal)
 }
 
 // A field of n bytes from `at` on that counts whole.
@@ -187,12 +184,14 @@ pub fn is_field(entry: Entry) -> bool
 }
 
 // Whether a row's type is a NUL-terminated string.
+#[tactic(auto, unfolding(crate::specs::Agreeing::is_string_of))]
 pub fn is_string(entry: Entry) -> bool
     ensures { result ≡ is_string_of entry }
 {
     match entry {
         Entry::Leaf(class, _, _, code) => nul_terminated(class, code),
-        _ => false,
+        Entry::Enumeration(_, _) => false,
+        Entry::Compound(_, _) | Entry::VariableLength(_, _, _) | Entry::Array(_) => false,
     }
 }
 
@@ -227,7 +226,7 @@ fn array_base(table: &[u32], pool: &[u8], row: usize, rank: u32, levels: usize) 
     Some(Base {
         stride: size as usize,
         bytes: total as usize,
-        count: (total / size as u64) as usize,
+        count: (total / u64::from(size)) as usize,
     })
 }
 

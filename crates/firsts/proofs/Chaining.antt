@@ -1,5 +1,4 @@
 -- Records on chains, by the runs at the workspace's end.
-use Rattle.firsts.specs.declared.records.Records.{Records}
 use Prim.Native.Nat.{ℕ, zero, ◌+◌, ◌-◌, ◌/◌, ◌%◌, ◌<◌, ◌≤◌}
 use mathlib.Core.Path.{◌≡◌, sym, ap, ◌∙◌}
 use mathlib.Core.Bool.{Bool, true, false, false≢true}
@@ -18,44 +17,43 @@ use Rattle.groups.proofs.Heads.{Seeking, find_begins, find_fails, find_inside, f
 use Rattle.groups.proofs.Ways.{bucket_is, bucket_below, place-first, place-later, built-clear, tally_begins, distinct-is, tallied-is}
 use Rattle.groups.proofs.Building.{built_repeat}
 use Rattle.groups.proofs.Keys.{length-keys}
-use Rattle.keys.specs.Hash.{hash_of}
-use Rattle.keys.specs.declared.Multipliers.{Multipliers}
 use Rattle.firsts.specs.Records.{both, IsRecord}
-use Rattle.firsts.specs.Chaining.{keys_by, ByRuns, InBucket, Seeks, SpotIs, Repeats, Placed, Compiled, Counted, link_of}
+use Rattle.firsts.specs.Chaining.{runs_at, words_behind, keys_by, hash_by, ByRuns, InBucket, Seeks, SpotIs, Repeats, Placed, Compiled, Counted, link_of}
+use Rattle.firsts.specs.declared.chains.Chains.{Chains}
 use Rattle.firsts.specs.declared.chains.Spot.{Spot}
 use Rattle.firsts.proofs.KeyLaws.{key_of_lem}
 
 -- ---- records by runs
 
-module _ (words : List ℕ) (rs : Records) (g : ByRuns words rs) where
-  pub number-inside : (k : ℕ) → k < length (keys_by words rs) → k < length (both rs) / rs.size
+module _ (words : List ℕ) (c : Chains) (g : ByRuns words c) where
+  pub number-inside : (k : ℕ) → k < length (keys_by words c) → k < length (both c.records) / c.records.size
   unfolding keys_by
-  number-inside k h = omega (arith, length-keys (runs_in words) (both rs) rs.size)
+  number-inside k h = omega (arith, length-keys (runs_in words) (both c.records) c.records.size)
 
-  pub runs_inside : (k : ℕ) {x : List ℕ} → IsRecord (both rs) rs.size k x → Inside (length x) (runs_in words)
+  pub runs_inside : (k : ℕ) {x : List ℕ} → IsRecord (both c.records) c.records.size k x → Inside (length x) (runs_in words)
   runs_inside k r = rw r.long g.inside
 
-  pub same-lengths : (j k : ℕ) {x y : List ℕ} → IsRecord (both rs) rs.size j x → IsRecord (both rs) rs.size k y → length y ≡ length x
+  pub same-lengths : (j k : ℕ) {x y : List ℕ} → IsRecord (both c.records) c.records.size j x → IsRecord (both c.records) c.records.size k y → length y ≡ length x
   same-lengths j k rx ry = ry.long ∙ sym rx.long
 
-  key_by : (k : ℕ) {x : List ℕ} → k < length (keys_by words rs) → IsRecord (both rs) rs.size k x → image_from (runs_in words) x 0 (length x) ≡ key_at (keys_by words rs) k
+  key_by : (k : ℕ) {x : List ℕ} → k < length (keys_by words c) → IsRecord (both c.records) c.records.size k x → image_from (runs_in words) x 0 (length x) ≡ key_at (keys_by words c) k
   unfolding keys_by
-  key_by k h r = key_of_lem (runs_in words) (both rs) rs.size k h r
+  key_by k h r = key_of_lem (runs_in words) (both c.records) c.records.size k h r
 
-  pub keys-compared : (j k : ℕ) {x y : List ℕ} (c : Bool) → j < length (keys_by words rs) → k < length (keys_by words rs) → IsRecord (both rs) rs.size j x → IsRecord (both rs) rs.size k y
-      → c ≡ same_words (image_from (runs_in words) x 0 (length x)) (image_from (runs_in words) y 0 (length x))
-      → c ≡ same_words (key_at (keys_by words rs) j) (key_at (keys_by words rs) k)
-  keys-compared j k {x = x} {y = y} c hj hk rx ry e =
+  pub keys-compared : (j k : ℕ) {x y : List ℕ} (t : Bool) → j < length (keys_by words c) → k < length (keys_by words c) → IsRecord (both c.records) c.records.size j x → IsRecord (both c.records) c.records.size k y
+      → t ≡ same_words (image_from (runs_in words) x 0 (length x)) (image_from (runs_in words) y 0 (length x))
+      → t ≡ same_words (key_at (keys_by words c) j) (key_at (keys_by words c) k)
+  keys-compared j k {x = x} {y = y} t hj hk rx ry e =
       let l : length x ≡ length y = rx.long ∙ sym ry.long in
-      let q : image_from (runs_in words) y 0 (length x) ≡ key_at (keys_by words rs) k = rw l (key_by k hk ry) in
+      let q : image_from (runs_in words) y 0 (length x) ≡ key_at (keys_by words c) k = rw l (key_by k hk ry) in
       e ∙ rw (key_by j hj rx, q)
 
-  pub in_bucket : (m : Multipliers) (buckets k h : ℕ) {x : List ℕ} → k < length (keys_by words rs) → 0 < buckets → IsRecord (both rs) rs.size k x
-      → h ≡ hash_of m (runs_in words) (image_from (runs_in words) x 0 (length x)) → InBucket m words rs buckets k (h % buckets)
-  in_bucket m buckets k h l p r e =
+  pub in_bucket : (k h : ℕ) {x : List ℕ} → k < length (keys_by words c) → 0 < c.buckets → IsRecord (both c.records) c.records.size k x
+      → h ≡ hash_by words c (image_from (runs_in words) x 0 (length x)) → InBucket words c k (h % c.buckets)
+  in_bucket k h l p r e =
       record {
-        is = bucket_is (hash_of m (runs_in words)) (keys_by words rs) buckets k h (e ∙ ap (hash_of m (runs_in words)) (key_by k l r));
-        below = bucket_below buckets h p;
+        is = bucket_is (hash_by words c) (keys_by words c) c.buckets k h (e ∙ ap (hash_by words c) (key_by k l r));
+        below = bucket_below c.buckets h p;
       }
 
 -- ---- a search down a chain
@@ -94,18 +92,18 @@ module _ (keys : List (List ℕ)) (buckets k : ℕ) (w : List ℕ) (bucket : ℕ
 
 -- ---- a record looked up, by runs that stand behind the chains
 
-module _ (m : Multipliers) (rs : Records) (n buckets k : ℕ) (w : List ℕ) (g : Placed (drop (buckets + n + n) w) m rs n buckets k w) (l : k < n) {runs : List ℕ} (e : runs ≡ drop (buckets + n + n) w) where
-  pub looked_by : ByRuns runs rs
+module _ (c : Chains) (k : ℕ) (w : List ℕ) (g : Placed (words_behind c w) c k w) (l : k < c.n) {runs : List ℕ} (e : runs ≡ words_behind c w) where
+  pub looked_by : ByRuns runs c
   looked_by = rw e g.by_runs
 
-  pub looked-number : k < length (keys_by runs rs)
+  pub looked-number : k < length (keys_by runs c)
   looked-number = rw e (omega (arith, g.count))
 
-  module _ (bucket : ℕ) (i : InBucket m runs rs buckets k bucket) where
-    pub looked-seeks : Seeks (keys_by runs rs) buckets k w bucket
+  module _ (bucket : ℕ) (i : InBucket runs c k bucket) where
+    pub looked-seeks : Seeks (keys_by runs c) c.buckets k w bucket
     looked-seeks =
         record {
-          hash = hash_of m (runs_in runs);
+          hash = hash_by runs c;
           number = looked-number;
           is = i.is;
           below = i.below;
@@ -113,66 +111,59 @@ module _ (m : Multipliers) (rs : Records) (n buckets k : ℕ) (w : List ℕ) (g 
           chains = rw e g.built.chains;
         }
 
-    pub looked : (p : Option ℕ) → Sought (keys_by runs rs) k (link_of p) → SpotIs (drop (buckets + n + n) w) m rs buckets k (record { bucket = bucket; first = p })
+    pub looked : (p : Option ℕ) → Sought (keys_by runs c) k (link_of p) → SpotIs (words_behind c w) c k (record { bucket = bucket; first = p })
     looked p s = record { in_bucket = rw e at i; sought = rw e at s }
 
 -- ---- a record placed
 
-module _ (words : List ℕ) (m : Multipliers) (rs : Records) (n buckets k : ℕ) (w : List ℕ) (g : Placed words m rs n buckets k w) where
-  pub placed-room : buckets + n + n ≤ length w
-  placed-room = g.built.room
+module _ (words : List ℕ) (c : Chains) (k : ℕ) (w : List ℕ) (g : Placed words c k w) (l : k < c.n) where
+  more : (w' : List ℕ) → words_behind c w' ≡ words_behind c w → Built (hash_by words c) (keys_by words c) c.n c.buckets (k + 1) w'
+      → Placed words c (k + 1) w'
+  more w' e v = record { by_runs = g.by_runs; small = g.small; count = g.count; some = g.some; kept = e ∙ g.kept; built = v }
 
-  module _ (l : k < n) where
-    more : (w' : List ℕ) → drop (buckets + n + n) w' ≡ drop (buckets + n + n) w → Built (hash_of m (runs_in words)) (keys_by words rs) n buckets (k + 1) w'
-        → Placed words m rs n buckets (k + 1) w'
-    more w' e v = record { by_runs = g.by_runs; small = g.small; count = g.count; some = g.some; kept = e ∙ g.kept; built = v }
+  module _ (s : Spot) (i : SpotIs words c k s) where
+    pub placed_first : s.first ≡ None → Placed words c (k + 1) (set (set (set w (c.buckets + k) (get_or w s.bucket 0)) s.bucket (k + 1)) (c.buckets + c.n + k) k)
+    placed_first e =
+        let w₁ = set w (c.buckets + k) (get_or w s.bucket 0) in
+        let w₂ = set w₁ s.bucket (k + 1) in
+        let z : link_of s.first ≡ 0 = ap link_of e in
+        more
+        (set w₂ (c.buckets + c.n + k) k)
+        (drop-set-lt (runs_at c) w₂ (c.buckets + c.n + k) k (omega arith)
+        ∙ drop-set-lt (runs_at c) w₁ s.bucket (k + 1) (omega (arith, i.in_bucket.below))
+        ∙ drop-set-lt (runs_at c) w (c.buckets + k) (get_or w s.bucket 0) (omega arith))
+        (place-first (hash_by words c) (keys_by words c) c.n c.buckets k w s.bucket (link_of s.first) g.built l i.in_bucket.is i.in_bucket.below i.sought z)
 
-    module _ (s : Spot) (i : SpotIs words m rs buckets k s) where
-      pub placed_below : s.bucket < length w
-      placed_below = omega (arith, i.in_bucket.below, g.built.room)
-
-      pub placed_first : s.first ≡ None → Placed words m rs n buckets (k + 1) (set (set (set w (buckets + k) (get_or w s.bucket 0)) s.bucket (k + 1)) (buckets + n + k) k)
-      placed_first e =
-          let w₁ = set w (buckets + k) (get_or w s.bucket 0) in
-          let w₂ = set w₁ s.bucket (k + 1) in
-          let z : link_of s.first ≡ 0 = ap link_of e in
-          more
-          (set w₂ (buckets + n + k) k)
-          (drop-set-lt (buckets + n + n) w₂ (buckets + n + k) k (omega arith)
-          ∙ drop-set-lt (buckets + n + n) w₁ s.bucket (k + 1) (omega (arith, i.in_bucket.below))
-          ∙ drop-set-lt (buckets + n + n) w (buckets + k) (get_or w s.bucket 0) (omega arith))
-          (place-first (hash_of m (runs_in words)) (keys_by words rs) n buckets k w s.bucket (link_of s.first) g.built l i.in_bucket.is i.in_bucket.below i.sought z)
-
-      pub placed-later : (f : ℕ) → s.first ≡ Some f → Placed words m rs n buckets (k + 1) (set (set w (buckets + k) (get_or w s.bucket 0)) (buckets + n + k) f)
-      placed-later f e =
-          let w₁ = set w (buckets + k) (get_or w s.bucket 0) in
-          let q : link_of s.first ≡ f + 1 = ap link_of e in
-          let z : link_of s.first ≡ 0 → ⊥ = λ h. omega arith in
-          let r : link_of s.first - 1 ≡ f = omega arith in
-          more
-          (set w₁ (buckets + n + k) f)
-          (drop-set-lt (buckets + n + n) w₁ (buckets + n + k) f (omega arith)
-          ∙ drop-set-lt (buckets + n + n) w (buckets + k) (get_or w s.bucket 0) (omega arith))
-          (rw r at (place-later (hash_of m (runs_in words)) (keys_by words rs) n buckets k w s.bucket (link_of s.first) g.built l i.in_bucket.is i.in_bucket.below i.sought z))
+    pub placed-later : (f : ℕ) → s.first ≡ Some f → Placed words c (k + 1) (set (set w (c.buckets + k) (get_or w s.bucket 0)) (c.buckets + c.n + k) f)
+    placed-later f e =
+        let w₁ = set w (c.buckets + k) (get_or w s.bucket 0) in
+        let q : link_of s.first ≡ f + 1 = ap link_of e in
+        let z : link_of s.first ≡ 0 → ⊥ = λ h. omega arith in
+        let r : link_of s.first - 1 ≡ f = omega arith in
+        more
+        (set w₁ (c.buckets + c.n + k) f)
+        (drop-set-lt (runs_at c) w₁ (c.buckets + c.n + k) f (omega arith)
+        ∙ drop-set-lt (runs_at c) w (c.buckets + k) (get_or w s.bucket 0) (omega arith))
+        (rw r at (place-later (hash_by words c) (keys_by words c) c.n c.buckets k w s.bucket (link_of s.first) g.built l i.in_bucket.is i.in_bucket.below i.sought z))
 
 -- a record that is the same as the one before it
-module _ (m : Multipliers) (rs : Records) (n buckets k : ℕ) (w : List ℕ) (g : Placed (drop (buckets + n + n) w) m rs n buckets k w) (l : k < n) where
-  pub repeats-first : k ≡ 0 → Repeats (keys_by (drop (buckets + n + n) w) rs) k false
+module _ (c : Chains) (k : ℕ) (w : List ℕ) (g : Placed (words_behind c w) c k w) (l : k < c.n) where
+  pub repeats-first : k ≡ 0 → Repeats (keys_by (words_behind c w) c) k false
   repeats-first z = record { later = λ e. absurd (false≢true e); equal = λ e. absurd (false≢true e) }
 
-  module _ (z : k ≡ 0 → ⊥) {runs : List ℕ} (e : runs ≡ drop (buckets + n + n) w) where
-    pub repeats-before : k - 1 < length (keys_by runs rs)
+  module _ (z : k ≡ 0 → ⊥) {runs : List ℕ} (e : runs ≡ words_behind c w) where
+    pub repeats-before : k - 1 < length (keys_by runs c)
     repeats-before = rw e (omega (arith, g.count))
 
-    pub repeats-told : {c : Bool} → c ≡ same_words (key_at (keys_by runs rs) (k - 1)) (key_at (keys_by runs rs) k) → Repeats (keys_by (drop (buckets + n + n) w) rs) k c
+    pub repeats-told : {t : Bool} → t ≡ same_words (key_at (keys_by runs c) (k - 1)) (key_at (keys_by runs c) k) → Repeats (keys_by (words_behind c w) c) k t
     repeats-told q = record { later = λ y. omega arith; equal = λ y. same_words_true _ _ (sym (rw e at q) ∙ y) }
 
-  module _ {c : Bool} (r : Repeats (keys_by (drop (buckets + n + n) w) rs) k c) (y : c ≡ true) where
-    pub placed_repeat : Placed (drop (buckets + n + n) w) m rs n buckets (k + 1) (set w (buckets + n + k) (get_or w (buckets + n + k - 1) 0))
+  module _ {t : Bool} (r : Repeats (keys_by (words_behind c w) c) k t) (y : t ≡ true) where
+    pub placed_repeat : Placed (words_behind c w) c (k + 1) (set w (c.buckets + c.n + k) (get_or w (c.buckets + c.n + k - 1) 0))
     placed_repeat =
-        more (drop (buckets + n + n) w) m rs n buckets k w g l (set w (buckets + n + k) (get_or w (buckets + n + k - 1) 0))
-        (drop-set-lt (buckets + n + n) w (buckets + n + k) (get_or w (buckets + n + k - 1) 0) (omega arith))
-        (built_repeat (hash_of m (runs_in (drop (buckets + n + n) w))) (keys_by (drop (buckets + n + n) w) rs) n buckets k w g.built l g.count (r.later y) (r.equal y))
+        more (words_behind c w) c k w g l (set w (c.buckets + c.n + k) (get_or w (c.buckets + c.n + k - 1) 0))
+        (drop-set-lt (runs_at c) w (c.buckets + c.n + k) (get_or w (c.buckets + c.n + k - 1) 0) (omega arith))
+        (built_repeat (hash_by (words_behind c w) c) (keys_by (words_behind c w) c) c.n c.buckets k w g.built l g.count (r.later y) (r.equal y))
 
 -- ---- all records placed
 
@@ -184,11 +175,11 @@ zeroed k w z h e = let l : length (take k w) ≡ k = length-take-le k w h in rw 
 kept : (n : ℕ) (l r : List ℕ) → r ≡ replicate n 0 ++ drop n l → drop n r ≡ drop n l
 kept n l r e = ap (drop n) e ∙ rw (length-replicate n zero) at (drop-append_seam (replicate n 0) (drop n l))
 
-module _ (m : Multipliers) (rs : Records) (n buckets : ℕ) (w : List ℕ) (g : Compiled m rs n buckets w) {w' : List ℕ} (e : w' ≡ replicate (buckets + n + n) 0 ++ drop (buckets + n + n) w) where
-  same-words : drop (buckets + n + n) w' ≡ drop (buckets + n + n) w
-  same-words = kept (buckets + n + n) w w' e
+module _ (c : Chains) (w : List ℕ) (g : Compiled c w) {w' : List ℕ} (e : w' ≡ replicate (runs_at c) 0 ++ words_behind c w) where
+  same-words : words_behind c w' ≡ words_behind c w
+  same-words = kept (runs_at c) w w' e
 
-  pub none-placed : Placed (drop (buckets + n + n) w') m rs n buckets 0 w'
+  pub none-placed : Placed (words_behind c w') c 0 w'
   none-placed =
       rw same-words (record {
         by_runs = g.by_runs;
@@ -196,33 +187,25 @@ module _ (m : Multipliers) (rs : Records) (n buckets : ℕ) (w : List ℕ) (g : 
         count = g.count;
         some = g.some;
         kept = same-words;
-        built = built-clear _ _ n buckets (buckets + n + n) w' (drop (buckets + n + n) w) (omega arith) (rw e (omega (arith, length-append (replicate {A = ℕ} (buckets + n + n) 0) (drop (buckets + n + n) w), length-replicate (buckets + n + n) zero))) e;
+        built = built-clear _ _ c.n c.buckets (runs_at c) w' (words_behind c w) (omega arith) (rw e (omega (arith, length-append (replicate {A = ℕ} (runs_at c) 0) (words_behind c w), length-replicate (runs_at c) zero))) e;
       })
 
-  pub all_placed : {w'' : List ℕ} → Placed (drop (buckets + n + n) w') m rs n buckets n w'' → Placed (drop (buckets + n + n) w) m rs n buckets n w''
+  pub all_placed : {w'' : List ℕ} → Placed (words_behind c w') c c.n w'' → Placed (words_behind c w) c c.n w''
   all_placed p = rw same-words at p
 
--- a loop over the records: the runs that it began with are those that stand in the workspace
-module _ (words : List ℕ) (m : Multipliers) (rs : Records) (n buckets k : ℕ) (w : List ℕ) (p : Placed words m rs n buckets k w) where
-  pub placed-own : Placed (drop (buckets + n + n) w) m rs n buckets k w
-  placed-own = rw p.kept p
-
-  pub placed-next : (j : ℕ) (w' : List ℕ) → Placed (drop (buckets + n + n) w) m rs n buckets j w' → Placed words m rs n buckets j w'
-  placed-next j w' q = rw p.kept at q
-
--- a loop that has come to its end
-pub placed-all : (words : List ℕ) (m : Multipliers) (rs : Records) (n buckets k : ℕ) (w : List ℕ) → Placed words m rs n buckets k w → k ≤ n → n ≤ k → Placed words m rs n buckets n w
-placed-all words m rs n buckets k w p h i = let e : k ≡ n = omega arith in rw e at p
+-- the runs that a loop over the records began with are those that stand in the workspace
+pub placed-next : (words : List ℕ) (c : Chains) (k : ℕ) (w : List ℕ) → Placed words c k w → (j : ℕ) (w' : List ℕ) → Placed (words_behind c w) c j w' → Placed words c j w'
+placed-next words c k w p j w' q = rw p.kept at q
 
 -- ---- counted
 
-module _ (words : List ℕ) (m : Multipliers) (rs : Records) (n buckets : ℕ) (w : List ℕ) (g : Placed words m rs n buckets n w) where
-  pub placed_tally : Tallied (names_in n buckets w) n buckets 0 w
-  placed_tally = tally_begins (hash_of m (runs_in words)) (keys_by words rs) n buckets w g.count g.built
+module _ (words : List ℕ) (c : Chains) (w : List ℕ) (g : Placed words c c.n w) where
+  pub placed_tally : Tallied (names_in c.n c.buckets w) c.n c.buckets 0 w
+  placed_tally = tally_begins (hash_by words c) (keys_by words c) c.n c.buckets w g.count g.built
 
-  pub placed-counted : (d : ℕ) (w' : List ℕ) → d ≡ length (firsts_to (names_in n buckets w) n) → Tallied (names_in n buckets w) n buckets n w' → Counted (keys_by words rs) n buckets d w'
+  pub placed-counted : (d : ℕ) (w' : List ℕ) → d ≡ length (firsts_to (names_in c.n c.buckets w) c.n) → Tallied (names_in c.n c.buckets w) c.n c.buckets c.n w' → Counted words c d w'
   placed-counted d w' e t =
       record {
-        distinct = distinct-is (hash_of m (runs_in words)) (keys_by words rs) n buckets w g.count g.built d e;
-        tallied = tallied-is (hash_of m (runs_in words)) (keys_by words rs) n buckets w g.count g.built w' t;
+        distinct = distinct-is (hash_by words c) (keys_by words c) c.n c.buckets w g.count g.built d e;
+        tallied = tallied-is (hash_by words c) (keys_by words c) c.n c.buckets w g.count g.built w' t;
       }

@@ -1,10 +1,9 @@
 -- A type's runs in a workspace, and the records by them.
-use Rattle.firsts.specs.declared.records.Records.{Records}
 use Prim.Native.Nat.{ℕ, zero, suc, ◌+◌, ◌-◌, ◌*◌, ◌/◌, ◌<◌, ◌≤◌}
 use mathlib.Core.Path.{◌≡◌, refl, sym, ap, ◌∙◌}
 use mathlib.Core.List.{List}
 use native.Mathlib.Omega.{arith}
-use lib.ListN.{length, get_or, drop, replicate}
+use lib.ListN.{length, get_or, replicate}
 use Rattle.format.specs.Bytes.{zeros}
 use Rattle.format.specs.Image.{Field}
 use Rattle.groups.specs.Chains.{names_in, Named}
@@ -14,10 +13,10 @@ use Rattle.groups.specs.Runs.{runs_of, words_of, runs_in, Inside}
 use Rattle.groups.proofs.Firsts.{number_at}
 use Rattle.groups.proofs.Runs.{runs_image, runs_in_words, runs_inside, fields-inside}
 use Rattle.keys.specs.Hash.{Small}
-use Rattle.keys.specs.declared.Multipliers.{Multipliers}
 use Rattle.runs.specs.Listing.{RunsListed}
 use Rattle.firsts.specs.Finding.{Heads, Known, FirstsAre}
-use Rattle.firsts.specs.Chaining.{keys_by, Compiled, Counted}
+use Rattle.firsts.specs.declared.chains.Chains.{Chains}
+use Rattle.firsts.specs.Chaining.{words_behind, keys_by, Compiled, Counted}
 use Rattle.firsts.specs.Records.{both, keys_in, Comparable}
 use Rattle.firsts.proofs.KeyLaws.{fields_in}
 use Rattle.std.specs.Prelude.{Option, Some, None}
@@ -55,37 +54,39 @@ keys_runs : (fs : List Field) (block : List ℕ) (size : ℕ) → keys_of (runs_
 unfolding keys_of
 keys_runs fs block size = listed_same (key_of (runs_of fs) block size) (key_of fs block size) (λ k. unfold key_of in runs_image fs (record_at_of block size k) 0 size) (length block / size)
 
-module _ (table pool : List ℕ) (rs : Records) (n buckets : ℕ) (w : List ℕ) (g : Comparable table pool rs) (r : Option ℕ) (h : Heads (runs_of (fields_in_of table pool)) n r w) (q : r ≡ Some buckets) where
-  words_are : drop (buckets + n + n) w ≡ words_of (runs_of (fields_in_of table pool))
-  words_are = h.words buckets q
+module _ (table pool : List ℕ) (c : Chains) (w : List ℕ) (g : Comparable table pool c.records) (r : Option ℕ) (h : Heads (runs_of (fields_in_of table pool)) c.n r w) (q : r ≡ Some c.buckets) where
+  words_are : words_behind c w ≡ words_of (runs_of (fields_in_of table pool))
+  words_are = h.words c.buckets q
 
-  runs_are : runs_in (drop (buckets + n + n) w) ≡ runs_of (fields_in_of table pool)
+  runs_are : runs_in (words_behind c w) ≡ runs_of (fields_in_of table pool)
   runs_are = rw words_are (runs_in_words (runs_of (fields_in_of table pool)))
 
-  keys-are : keys_by (drop (buckets + n + n) w) rs ≡ keys_in table pool rs
+  keys-are : keys_by (words_behind c w) c ≡ keys_in table pool c.records
   unfolding keys_by keys_in
-  keys-are = rw runs_are (keys_runs (fields_in_of table pool) (both rs) rs.size)
+  keys-are = rw runs_are (keys_runs (fields_in_of table pool) (both c.records) c.records.size)
 
-  all-inside : Inside rs.size (runs_of (fields_in_of table pool))
+  all-inside : Inside c.records.size (runs_of (fields_in_of table pool))
   all-inside =
       let d = g.admits.admitted in
-      runs_inside rs.size (fields_in_of table pool) (rw (fields_in table pool rs.size g.admits, g.admits.size_is) (fields-inside g.admits.type d.inside d.sized))
+      runs_inside c.records.size (fields_in_of table pool) (rw (fields_in table pool c.records.size g.admits, g.admits.size_is) (fields-inside g.admits.type d.inside d.sized))
 
-  pub compiled : (m : Multipliers) → n ≡ length (keys_in table pool rs) → Small m → Compiled m rs n buckets w
-  compiled m e s =
+  pub compiled : c.n ≡ length (keys_in table pool c.records) → Small c.m → Compiled c w
+  compiled e s =
       record {
         by_runs = record { whole = g.whole; inside = rw runs_are all-inside };
         small = s;
         count = rw keys-are e;
-        some = h.some buckets q;
-        room = h.room buckets q;
+        some = h.some c.buckets q;
+        room = h.room c.buckets q;
       }
 
   -- the firsts by the runs are those by the fields
-  pub compiled-firsts : (d : ℕ) (w' : List ℕ) → Counted (keys_by (drop (buckets + n + n) w) rs) n buckets d w' → FirstsAre (keys_in table pool rs) n (record { buckets = Some buckets; distinct = d }) w'
-  compiled-firsts d w' c =
-      let v = rw keys-are at c in
-      record { distinct = v.distinct; known = record { tallied = λ k e. let f : buckets ≡ k = same_Some buckets k e in rw (← f) v.tallied } }
+  pub compiled-firsts : (d : ℕ) (w' : List ℕ) → Counted (words_behind c w) c d w' → FirstsAre (keys_in table pool c.records) c.n (record { buckets = Some c.buckets; distinct = d }) w'
+  compiled-firsts d w' v =
+      record {
+        distinct = rw keys-are at v.distinct;
+        known = record { tallied = λ k e. let f : c.buckets ≡ k = same_Some c.buckets k e in rw (← f) (rw keys-are at v.tallied) };
+      }
 
 -- without heads
 pub plain-firsts : (keys : List (List ℕ)) (n d : ℕ) (w : List ℕ) (r : Option ℕ) → r ≡ None → d ≡ distinct_of keys → FirstsAre keys n (record { buckets = r; distinct = d }) w
@@ -99,9 +100,6 @@ first-sought keys n k r e l h = e ∙ sym (number_at keys k (omega arith))
 module _ (ns : List ℕ) (n : ℕ) (r : Option ℕ) (w : List ℕ) (g : Known ns n r w) (buckets : ℕ) (q : r ≡ Some buckets) where
   pub tallied-room : buckets + n + n ≤ length w
   tallied-room = (g.tallied buckets q).room
-
-  pub tallied-low : (k : ℕ) → k < n → get_or (names_in n buckets w) k 0 ≤ k
-  tallied-low k h = let v = g.tallied buckets q in rw v.names (v.low k h)
 
   pub tallied-first : (k f : ℕ) → Named (names_in n buckets w) k f → f ≡ get_or ns k 0
   tallied-first k f e = let v = g.tallied buckets q in e.name ∙ ap (λ (l : List ℕ). get_or l k 0) v.names

@@ -14,7 +14,7 @@ ghost use Rattle.compare.specs.Agreeing.{Admits};
 ghost use Rattle.firsts.specs.Finding.{Heads, Known, FirstsAre};
 ghost use Rattle.firsts.specs.Records.{keys_in, Comparable};
 
-use chains::count_all;
+use chains::Chains;
 use counts::name_of;
 use keys::seeded;
 use plain::{count_firsts, first_of};
@@ -74,7 +74,15 @@ pub fn find_firsts<'a>(
     let buckets = list_type(table, pool, records.size, n, work);
     let distinct = match buckets {
         None => count_firsts(table, pool, records, n),
-        Some(heads) => count_all(records, n, m, heads, work),
+        Some(heads) => {
+            let chains = Chains {
+                records,
+                n,
+                m,
+                buckets: heads,
+            };
+            chains.count_all(work)
+        }
     };
     Firsts { buckets, distinct }
 }

@@ -7,7 +7,7 @@ ghost use Rattle.firsts.specs.Records.{keys_in, Comparable};
 use crate::records::Records;
 use compare::same_records;
 
-// Whether two records are the same. A trait over this and the chains' `same_key`, which goes by runs, would be longer than both.
+// Whether two records are the same. A trait over this and `Chains::same_key`, which goes by runs, would be longer than both.
 fn same_key<'a>(table: &[u32], pool: &[u8], records: Records<'a>, j: usize, k: usize) -> bool
     requires comparable { Comparable table.now pool.now records }
     requires j_in_bounds { (j < length (keys_in table.now pool.now records)) × (k < length (keys_in table.now pool.now records)) }

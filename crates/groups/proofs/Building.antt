@@ -181,10 +181,6 @@ module _ (ns : List ℕ) (n buckets k : ℕ) (w : List ℕ) (t : Tallied ns n bu
   entry_at_lem : get_or w (buckets + n + k) 0 ≡ get_or ns k 0
   entry_at_lem = sym (name-at n buckets w t.room k l) ∙ ap (λ (x : List ℕ). get_or x k 0) t.names
 
-  -- the name of k is not above it
-  pub entry-low : get_or ns k 0 ≤ k
-  entry-low = t.low k l
-
   later : (j : ℕ) → k ≤ j → count j (take k ns) ≡ 0
   later j h = count-later ns (λ (i : ℕ) (g : i < length ns). t.low i (omega (arith, length-of))) k j (omega (arith, length-of)) h
 

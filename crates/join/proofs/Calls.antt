@@ -1,9 +1,8 @@
 -- `join`: one law for each way out.
 use Rattle.firsts.specs.declared.records.Records.{Records}
 use Prim.Native.Nat.{ℕ, ◌+◌, ◌*◌, ◌/◌, ◌%◌, ◌<◌, ◌≤◌, min}
-use mathlib.Core.Path.{◌≡◌, refl, sym, ◌∙◌}
+use mathlib.Core.Path.{◌≡◌, refl, sym, ap, ◌∙◌}
 use mathlib.Core.List.{List}
-use native.Mathlib.Nat.{div-le_self}
 use native.Mathlib.Omega.{arith}
 use lib.ListN.{length, replicate}
 use lib.Seq.{sets}
@@ -16,12 +15,15 @@ use Rattle.format.specs.Ownership.{admission}
 use Rattle.format.proofs.Lists.{sets-front}
 use Rattle.compare.specs.Agreeing.{Admits}
 use Rattle.compare.proofs.Comparing.{refused-admission}
-use Rattle.groups.specs.Groups.{firsts_of, distinct_of}
+use Rattle.groups.specs.Groups.{distinct_of}
 use Rattle.groups.specs.Duplicates.{fields_in_of}
-use Rattle.groups.specs.Join.{records_at, Joint as JointBlock, joint_of, fitting_joint, joining}
+use Rattle.groups.specs.Join.{Joint as JointBlock, joint_of, fitting_joint, joining}
 use Rattle.groups.proofs.JoinOutcomes.{length-joint, joint_le, joint-short, joint-given, joining-refused, joining-first-length, joining-second-length, joining-whole}
 use Rattle.groups.proofs.Records.{records-of_both}
 use Rattle.firsts.specs.Records.{both, keys_in, Comparable}
+use Rattle.join.specs.declared.Found.{Found}
+use Rattle.join.specs.Copying.{Standing, copied}
+use Rattle.join.proofs.Copying.{copied_all}
 use Rattle.firsts.proofs.Compiling.{all_cleared}
 use Rattle.firsts.proofs.KeyLaws.{admits-some, admits-admission, length_in}
 use Rattle.join.specs.Answers.{joint_in, joint_told, joint_values, bytes_given, JoinAnswered, JoiningIs}
@@ -30,8 +32,8 @@ use Rattle.std.specs.Prelude.{Result, Ok, Err}
 use Rattle.format.proofs.Outcomes.{answers}
 
 -- a record's number is that of a whole one
-pub number-inside : (table pool : List ℕ) (rs : Records) (n k : ℕ) → Comparable table pool rs → n ≡ length (keys_in table pool rs) → k < n → k < length (both rs) / rs.size
-number-inside table pool rs n k g e h = omega (arith, length_in table pool rs g)
+pub number-inside : (f : Found) (k : ℕ) → Standing f → k < f.n → k < length (both f.records) / f.records.size
+number-inside f k g h = omega (arith, length_in f.table.now f.pool.now f.records g.comparable, g.count)
 
 -- a refusal leaves what is lent as it is
 refused_by : (o : Outcome JointBlock) (e : Refusal) (out : List ℕ) → o ≡ refuses e → JoinAnswered o (Err e) out out
@@ -45,36 +47,41 @@ joined_by o j bytes records out out' h l r f q = rw h (record { answer = rw (l, 
 
 -- ---- whole records
 
-module _ (table pool : List ℕ) (rs : Records) (d : ℕ) (e : d ≡ distinct_of (keys_in table pool rs)) where
-  bytes-are : d * rs.size ≡ length (joint_in table pool rs).bytes
+module _ (f : Found) (g : Standing f) (d : ℕ) (e : d ≡ distinct_of (keys_in f.table.now f.pool.now f.records)) where
+  abbrev whole : JointBlock
+  whole = joint_in f.table.now f.pool.now f.records
+
+  bytes-are : d * f.records.size ≡ length whole.bytes
   unfolding keys_in
-  bytes-are = rw e (sym (length-joint (fields_in_of table pool) rs.a.now rs.b.now rs.size))
+  bytes-are = rw e (sym (length-joint (fields_in_of f.table.now f.pool.now) f.records.a.now f.records.b.now f.records.size))
 
-  bytes_low : d * rs.size ≤ length rs.a.now + length rs.b.now
+  bytes_low : d * f.records.size ≤ length f.records.a.now + length f.records.b.now
   unfolding keys_in
-  bytes_low = rw e (joint_le (fields_in_of table pool) rs.a.now rs.b.now rs.size)
+  bytes_low = rw e (joint_le (fields_in_of f.table.now f.pool.now) f.records.a.now f.records.b.now f.records.size)
 
-  pub bytes_fit : length rs.a.now * 1 < 9223372036854775808 → length rs.b.now * 1 < 9223372036854775808 → Fits w64 (d * rs.size)
-  bytes_fit h g = record { fits = omega (arith, bytes_low) }
-
-  pub joint-room : (room : ℕ) → d * rs.size ≤ room → length (records_at (both rs) rs.size (firsts_of (keys_in table pool rs))) ≤ room
+  copied-whole : copied f f.n ≡ whole.bytes
   unfolding keys_in joint_of
-  joint-room room h = omega (arith, bytes-are)
+  copied-whole = copied_all f g
+
+  pub bytes_fit : length f.records.a.now * 1 < 9223372036854775808 → length f.records.b.now * 1 < 9223372036854775808 → Fits w64 (d * f.records.size)
+  bytes_fit la lb = record { fits = omega (arith, bytes_low) }
+
+  pub joint-room : (room : ℕ) → d * f.records.size ≤ room → length (copied f f.n) ≤ room
+  joint-room room h = omega (arith, bytes-are, ap length copied-whole)
 
   module _ (out : List ℕ) where
-    pub joint-refused : length out < d * rs.size → length rs.a.now * 1 < 9223372036854775808 → length rs.b.now * 1 < 9223372036854775808
-        → JoinAnswered (fitting_joint (length out) (joint_in table pool rs)) (Err (NoRoom (d * rs.size))) out out
+    pub joint-refused : length out < d * f.records.size → length f.records.a.now * 1 < 9223372036854775808 → length f.records.b.now * 1 < 9223372036854775808
+        → JoinAnswered (fitting_joint (length out) whole) (Err (NoRoom (d * f.records.size))) out out
     unfolding needed
     joint-refused h la lb =
-        let c : min (length (joint_in table pool rs).bytes) 18446744073709551615 ≡ d * rs.size = omega (arith, bytes-are, bytes_low) in
-        refused_by _ (NoRoom (d * rs.size)) out (joint-short (length out) (joint_in table pool rs) (omega (arith, bytes-are)) ∙ rw c)
+        let c : min (length whole.bytes) 18446744073709551615 ≡ d * f.records.size = omega (arith, bytes-are, bytes_low) in
+        refused_by _ (NoRoom (d * f.records.size)) out (joint-short (length out) whole (omega (arith, bytes-are)) ∙ rw c)
 
-    pub joint-joined : (out' : List ℕ) → d * rs.size ≤ length out → out' ≡ sets out 0 (records_at (both rs) rs.size (firsts_of (keys_in table pool rs)))
-        → JoinAnswered (fitting_joint (length out) (joint_in table pool rs)) (Ok (record { bytes = d * rs.size; records = d })) out out'
+    pub joint-joined : (out' : List ℕ) → d * f.records.size ≤ length out → out' ≡ sets out 0 (copied f f.n)
+        → JoinAnswered (fitting_joint (length out) whole) (Ok (record { bytes = d * f.records.size; records = d })) out out'
     joint-joined out' h q =
-        let f : length (joint_in table pool rs).bytes ≤ length out = omega (arith, bytes-are) in
-        joined_by _ (joint_in table pool rs) (d * rs.size) d out out' (joint-given (length out) (joint_in table pool rs) f) bytes-are (unfold keys_in joint_of in e) f
-        (unfold keys_in joint_of in q)
+        let l : length whole.bytes ≤ length out = omega (arith, bytes-are) in
+        joined_by _ whole (d * f.records.size) d out out' (joint-given (length out) whole l) bytes-are (unfold keys_in joint_of in e) l (rw copied-whole at q)
 
 -- ---- an admitted type
 
@@ -85,9 +92,6 @@ module _ (table pool a b : List ℕ) (size : ℕ) (g : Admits table pool size) w
 
     pub sized-second : length a % size ≡ 0 → (length b % size ≡ 0 → ⊥) → JoinAnswered (joining table pool a b (length out)) (Err WrongLength) out out
     sized-second w d = refused_by _ WrongLength out (joining-second-length table pool a b (length out) size (admits-admission table pool size g) w d)
-
-  pub records-fit : length a * 1 < 9223372036854775808 → length b * 1 < 9223372036854775808 → Fits w64 (length a / size + length b / size)
-  records-fit h l = record { fits = omega (arith, div-le_self (length a) size, div-le_self (length b) size) }
 
 module _ (table pool : List ℕ) (rs : Records) (g : Admits table pool rs.size) (w : length rs.a.now % rs.size ≡ 0) (v : length rs.b.now % rs.size ≡ 0) where
   pub both_comparable : Comparable table pool rs

@@ -1,5 +1,5 @@
 -- Laws of records copied one behind the other.
-use Prim.Native.Nat.{ℕ, zero, suc, ◌+◌, ◌*◌, ◌<◌, ◌≤◌}
+use Prim.Native.Nat.{ℕ, zero, suc, ◌+◌, ◌<◌, ◌≤◌}
 use mathlib.Core.Path.{◌≡◌, refl, sym, ap, ◌∙◌}
 use mathlib.Core.Bool.{Bool, true, false}
 use mathlib.Core.Logic.{⊎_elim}
@@ -9,98 +9,96 @@ use native.Mathlib.Omega.{arith}
 use lib.ListN.{length, get_or, take, drop, length-append}
 use lib.Seq.{sets, take_all}
 use lib.Dec.{eqb}
-use mir.Syntax.{w64}
-use mir.Val.{Fits}
 use borrow.Author.Tests.{eq-eqb, ne_eqb, eqb-true, eqb-false}
 use Rattle.format.proofs.Lists.{sets_append}
-use Rattle.groups.specs.Groups.{numbers_of, firsts_to, firsts_of}
+use Rattle.groups.specs.Groups.{firsts_to, firsts_of}
 use Rattle.groups.specs.Duplicates.{record_at_of}
 use Rattle.groups.specs.Join.{records_at}
 use Rattle.groups.proofs.Cases.{same_or_not, below_or_same}
 use Rattle.groups.proofs.Records.{records-next_hit, records-next_miss}
-use Rattle.firsts.specs.Records.{IsRecord}
-use Rattle.join.specs.Copying.{added, Put}
+use Rattle.firsts.specs.Records.{both, keys_in, IsRecord}
+use Rattle.join.specs.Copying.{Standing, numbers_in, added, copied, Put}
+use Rattle.join.specs.declared.Found.{Found}
 
 -- ---- what a record adds
 
-module _ (ns block : List ℕ) (size k : ℕ) where
-  added-here : get_or ns k 0 ≡ k → added ns block size k ≡ record_at_of block size k
+module _ (f : Found) (k : ℕ) where
+  added-here : get_or (numbers_in f) k 0 ≡ k → added f k ≡ record_at_of (both f.records) f.records.size k
   unfolding added
-  added-here e = rw (eq-eqb (get_or ns k 0) k e)
+  added-here e = rw (eq-eqb (get_or (numbers_in f) k 0) k e)
 
-  added-not : (get_or ns k 0 ≡ k → ⊥) → added ns block size k ≡ []
+  added-not : (get_or (numbers_in f) k 0 ≡ k → ⊥) → added f k ≡ []
   unfolding added
-  added-not d = rw (ne_eqb (get_or ns k 0) k d)
+  added-not d = rw (ne_eqb (get_or (numbers_in f) k 0) k d)
 
-  records-next : records_at block size (firsts_to ns (k + 1)) ≡ records_at block size (firsts_to ns k) ++ added ns block size k
-  records-next =
+  copied-next : copied f (k + 1) ≡ copied f k ++ added f k
+  unfolding copied
+  copied-next =
       ⊎_elim
-      (λ (e : get_or ns k 0 ≡ k). records-next_hit block size ns k e ∙ rw (added-here e))
-      (λ (d : get_or ns k 0 ≡ k → ⊥). records-next_miss block size ns k d ∙ rw (added-not d) (sym (append-nil (records_at block size (firsts_to ns k)))))
-      (same_or_not (get_or ns k 0) k)
+      (λ (e : get_or (numbers_in f) k 0 ≡ k). records-next_hit (both f.records) f.records.size (numbers_in f) k e ∙ rw (added-here e))
+      (λ (d : get_or (numbers_in f) k 0 ≡ k → ⊥). records-next_miss (both f.records) f.records.size (numbers_in f) k d ∙ rw (added-not d) (sym (append-nil (copied f k))))
+      (same_or_not (get_or (numbers_in f) k 0) k)
 
-  length-next : length (records_at block size (firsts_to ns (k + 1))) ≡ length (records_at block size (firsts_to ns k)) + length (added ns block size k)
-  length-next = ap length records-next ∙ length-append (records_at block size (firsts_to ns k)) (added ns block size k)
+  length-next : length (copied f (k + 1)) ≡ length (copied f k) + length (added f k)
+  length-next = ap length copied-next ∙ length-append (copied f k) (added f k)
 
-records_mono : (ns block : List ℕ) (size m n : ℕ) → m ≤ n → length (records_at block size (firsts_to ns m)) ≤ length (records_at block size (firsts_to ns n))
-records_mono ns block size m zero h = let e : m ≡ 0 = omega arith in rw e (omega arith)
-records_mono ns block size m (suc n) h =
+copied_mono : (f : Found) (m n : ℕ) → m ≤ n → length (copied f m) ≤ length (copied f n)
+copied_mono f m zero h = let e : m ≡ 0 = omega arith in rw e (omega arith)
+copied_mono f m (suc n) h =
     ⊎_elim
-    (λ (l : m < suc n). rw (← (add-one n)) (omega (arith, records_mono ns block size m n (omega arith), length-next ns block size n)))
+    (λ (l : m < suc n). rw (← (add-one n)) (omega (arith, copied_mono f m n (omega arith), length-next f n)))
     (λ (e : m ≡ suc n). rw e (omega arith))
     (below_or_same m (suc n) (omega arith))
 
 -- ---- one record
 
+-- a record that is a first
+added-first : (f : Found) (k : ℕ) {t : Bool} → t ≡ eqb (get_or (numbers_in f) k 0) k → t ≡ true → {x : List ℕ} → IsRecord (both f.records) f.records.size k x → added f k ≡ x
+added-first f k g e r = added-here f k (eqb-true (get_or (numbers_in f) k 0) k (sym g ∙ e)) ∙ sym r.is
+
 pub first_told : {x : Bool} (ns : List ℕ) (k f : ℕ) → f ≡ get_or ns k 0 → x ≡ eqb f k → x ≡ eqb (get_or ns k 0) k
 first_told ns k f g e = e ∙ ap (λ (i : ℕ). eqb i k) g
 
-module _ (ns block : List ℕ) (size k : ℕ) {t : Bool} (g : t ≡ eqb (get_or ns k 0) k) where
-  module _ (e : t ≡ true) {x : List ℕ} (r : IsRecord block size k x) where
-    here : added ns block size k ≡ x
-    here = added-here ns block size k (eqb-true (get_or ns k 0) k (sym g ∙ e)) ∙ sym r.is
+pub put-from : (block : List ℕ) (size k : ℕ) {x : List ℕ} → IsRecord block size k x → 0 + size ≤ length x
+put-from block size k r = omega (arith, r.long)
 
-    pub put-from : 0 + size ≤ length x
-    put-from = omega (arith, r.long)
+module _ (f : Found) (k to : ℕ) where
+  module _ (room : ℕ) (h : to + length (added f k) ≤ room) {t : Bool} (g : t ≡ eqb (get_or (numbers_in f) k 0) k) (e : t ≡ true) {x : List ℕ} (r : IsRecord (both f.records) f.records.size k x) where
+    pub put_to : to + f.records.size ≤ room
+    put_to = omega (arith, ap length (added-first f k g e r), r.long)
 
-    pub put_to : (to room : ℕ) → to + length (added ns block size k) ≤ room → to + size ≤ room
-    put_to to room h = omega (arith, ap length here, r.long)
-
-    pub put-fits : (to room : ℕ) → to + length (added ns block size k) ≤ room → room * 1 < 9223372036854775808 → Fits w64 (to + size)
-    put-fits to room h l = record { fits = omega (arith, put_to to room h) }
-
-    pub put-here : (to : ℕ) (out out' : List ℕ) → out' ≡ sets out to (take size (drop 0 x)) → Put ns block size k to (to + size) out out'
-    put-here to out out' q =
-        let t : take size (drop 0 x) ≡ x = take_all size x (omega (arith, r.long)) in
+  module _ {t : Bool} (g : t ≡ eqb (get_or (numbers_in f) k 0) k) where
+    pub put-here : t ≡ true → {x : List ℕ} → IsRecord (both f.records) f.records.size k x → (out out' : List ℕ) → out' ≡ sets out to (take f.records.size (drop 0 x)) → Put f k to (to + f.records.size) out out'
+    put-here e {x = x} r out out' q =
+        let here : added f k ≡ x = added-first f k g e r in
+        let t : take f.records.size (drop 0 x) ≡ x = take_all f.records.size x (omega (arith, r.long)) in
         record { next = omega (arith, ap length here, r.long); stored = q ∙ rw (t, here) }
 
-  pub put-not : t ≡ false → (to : ℕ) (out : List ℕ) → Put ns block size k to to out out
-  put-not d to out =
-      let z : added ns block size k ≡ [] = added-not ns block size k (eqb-false (get_or ns k 0) k (sym g ∙ d)) in
-      record { next = rw z (omega arith); stored = rw z }
+    pub put-not : t ≡ false → (out : List ℕ) → Put f k to to out out
+    put-not d out =
+        let z : added f k ≡ [] = added-not f k (eqb-false (get_or (numbers_in f) k 0) k (sym g ∙ d)) in
+        record { next = rw z (omega arith); stored = rw z }
 
 -- ---- all records
 
-pub copied_none : (ns block : List ℕ) (size : ℕ) (out : List ℕ) → (0 ≡ length (records_at block size (firsts_to ns 0))) × (out ≡ sets out 0 (records_at block size (firsts_to ns 0)))
-unfolding firsts_to records_at
-copied_none ns block size out = (refl, refl)
+module _ (f : Found) where
+  pub copied_none : (out : List ℕ) → (0 ≡ length (copied f 0)) × (out ≡ sets out 0 (copied f 0))
+  unfolding copied firsts_to records_at
+  copied_none out = (refl, refl)
 
-module _ (ns block : List ℕ) (size k to to' : ℕ) (out₁ out₂ : List ℕ) (p : Put ns block size k to to' out₁ out₂) (e : to ≡ length (records_at block size (firsts_to ns k))) where
-  pub copied_next : to' ≡ length (records_at block size (firsts_to ns (k + 1)))
-  copied_next = omega (arith, p.next, length-next ns block size k)
+  module _ (k to to' : ℕ) (out₁ out₂ : List ℕ) (p : Put f k to to' out₁ out₂) (e : to ≡ length (copied f k)) where
+    pub copied_to : to' ≡ length (copied f (k + 1))
+    copied_to = omega (arith, p.next, length-next f k)
 
-  pub copied_more : (out : List ℕ) → out₁ ≡ sets out 0 (records_at block size (firsts_to ns k)) → out₂ ≡ sets out 0 (records_at block size (firsts_to ns (k + 1)))
-  copied_more out q =
-      let z : 0 + length (records_at block size (firsts_to ns k)) ≡ to = omega arith in
-      p.stored ∙ rw (q, records-next ns block size k, sets_append (records_at block size (firsts_to ns k)) (added ns block size k) out 0, z)
+    pub copied_more : (out : List ℕ) → out₁ ≡ sets out 0 (copied f k) → out₂ ≡ sets out 0 (copied f (k + 1))
+    copied_more out q =
+        let z : 0 + length (copied f k) ≡ to = omega arith in
+        p.stored ∙ rw (q, copied-next f k, sets_append (copied f k) (added f k) out 0, z)
 
-module _ (keys : List (List ℕ)) (block : List ℕ) (size n k : ℕ) (e : n ≡ length keys) where
-  pub copied_room : (to room room₀ : ℕ) → to ≡ length (records_at block size (firsts_to (numbers_of keys) k)) → k < n → length (records_at block size (firsts_of keys)) ≤ room₀ → room ≡ room₀
-      → to + length (added (numbers_of keys) block size k) ≤ room
-  unfolding firsts_of
-  copied_room to room room₀ t l h s =
-      omega (arith, length-next (numbers_of keys) block size k, records_mono (numbers_of keys) block size (k + 1) (length keys) (omega arith))
+  pub copied_room : (k to room room₀ : ℕ) → to ≡ length (copied f k) → k < f.n → length (copied f f.n) ≤ room₀ → room ≡ room₀ → to + length (added f k) ≤ room
+  copied_room k to room room₀ t l h s = omega (arith, length-next f k, copied_mono f (k + 1) f.n (omega arith))
 
-  pub copied_all : (out out' : List ℕ) → out' ≡ sets out 0 (records_at block size (firsts_to (numbers_of keys) k)) → k ≤ n → n ≤ k → out' ≡ sets out 0 (records_at block size (firsts_of keys))
-  unfolding firsts_of
-  copied_all out out' q h l = let z : k ≡ length keys = omega arith in q ∙ rw z
+  -- all firsts
+  pub copied_all : Standing f → copied f f.n ≡ records_at (both f.records) f.records.size (firsts_of (keys_in f.table.now f.pool.now f.records))
+  unfolding copied firsts_of
+  copied_all s = rw s.count

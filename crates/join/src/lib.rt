@@ -3,18 +3,17 @@
 
 ghost use Rattle.std.specs.Prelude.{◌≡◌, ◌++◌, ◌+◌, ◌≤◌, ◌<◌, length, get_or, eqb};
 ghost use Rattle.std.proofs.lemmas.List.Edits.{sets};
-ghost use Rattle.groups.specs.Groups.{numbers_of, firsts_of};
+ghost use Rattle.groups.specs.Groups.{distinct_of};
 ghost use Rattle.groups.specs.Duplicates.{fields_in_of};
-ghost use Rattle.groups.specs.Join.{records_at, joint_of, fitting_joint, joining};
+ghost use Rattle.groups.specs.Join.{joint_of, fitting_joint, joining};
 ghost use Rattle.compare.specs.Agreeing.{Admits};
-ghost use Rattle.firsts.specs.Finding.{Known, FirstsAre};
-ghost use Rattle.firsts.specs.Records.{both, keys_in, Comparable};
+ghost use Rattle.firsts.specs.Records.{keys_in, Comparable};
 ghost use Rattle.join.specs.Answers.{joint_in, JoinAnswered, JoiningIs};
-ghost use Rattle.join.specs.Copying.{added, Put};
+ghost use Rattle.join.specs.Copying.{Standing, numbers_in, added, copied, Put};
 
 use compare::admit;
 use firsts::records::Records;
-use firsts::{Firsts, find_firsts, first_at};
+use firsts::{find_firsts, first_at};
 use primitives::copy_bytes;
 use refusal::Refusal;
 
@@ -25,101 +24,77 @@ pub struct Joint {
     pub records: u64,
 }
 
-// Whether record k has no earlier one that is the same.
-#[tactic(auto, using(crate::proofs::Copying::first_told))]
-fn is_first<'a>(
-    table: &[u32],
-    pool: &[u8],
+// What the steps behind `find_firsts` share: n records of two blocks, and the workspace with the first of each, where it has heads.
+#[derive(Clone, Copy)]
+struct Found<'a> {
+    table: &'a [u32],
+    pool: &'a [u8],
     records: Records<'a>,
     n: usize,
     buckets: Option<usize>,
-    work: &[u64],
-    k: usize,
-) -> bool
-    requires comparable { Comparable table.now pool.now records }
-    requires n_value { (n ≡ length (keys_in table.now pool.now records)) × (k < n) }
-    requires known { Known (numbers_of (keys_in table.now pool.now records)) n buckets work.now }
-    ensures { result ≡ eqb (get_or (numbers_of (keys_in table.now pool.now records.entry)) k 0) k }
-{
-    let f = first_at(table, pool, records, n, buckets, work, k);
-    f == k
+    work: &'a [u64],
 }
 
-// Record k behind the `to` bytes so far, if it is a first.
-fn put_record<'a>(
-    table: &[u32],
-    pool: &[u8],
-    records: Records<'a>,
-    n: usize,
-    buckets: Option<usize>,
-    work: &[u64],
-    k: usize,
-    to: usize,
-    out: &mut [u8],
-) -> usize
-    requires comparable { Comparable table.now pool.now records }
-    requires n_value { (n ≡ length (keys_in table.now pool.now records)) × (k < n) }
-    requires known { Known (numbers_of (keys_in table.now pool.now records)) n buckets work.now }
-    requires k_in_bounds { to + length (added (numbers_of (keys_in table.now pool.now records)) (both records) records.size k) ≤ length out.old }
-    ensures { Put (numbers_of (keys_in table.now pool.now records.entry)) (both records.entry) records.entry.size k to result out.old out.new }
-{
-    if is_first(table, pool, records, n, buckets, work, k) {
-        let x = records.get(k);
-        let size = records.size as usize;
-        let next = to + size;
-        copy_bytes(x, 0, size, out, to);
-        return next;
+impl<'a> Found<'a> {
+    // Whether record k has no earlier one that is the same.
+    #[tactic(auto, using(crate::proofs::Copying::first_told))]
+    fn is_first(self, k: usize) -> bool
+        requires { Standing self × (k < self.n) }
+        ensures { result ≡ eqb (get_or (numbers_in self.entry) k 0) k }
+    {
+        let f = first_at(
+            self.table,
+            self.pool,
+            self.records,
+            self.n,
+            self.buckets,
+            self.work,
+            k,
+        );
+        f == k
     }
-    to
-}
 
-// The records that are firsts, one behind the other.
-fn put_records<'a>(
-    table: &[u32],
-    pool: &[u8],
-    records: Records<'a>,
-    n: usize,
-    buckets: Option<usize>,
-    work: &[u64],
-    out: &mut [u8],
-)
-    requires comparable { Comparable table.now pool.now records }
-    requires n_value { n ≡ length (keys_in table.now pool.now records) }
-    requires known { Known (numbers_of (keys_in table.now pool.now records)) n buckets work.now }
-    requires size_in_bounds { length (records_at (both records) records.size (firsts_of (keys_in table.now pool.now records))) ≤ length out.old }
-    ensures { out.new ≡ sets out.old 0 (records_at (both records.entry) records.entry.size (firsts_of (keys_in table.now pool.now records.entry))) }
-{
-    let mut to = 0;
-    for k in 0..n {
-        to = put_record(table, pool, records, n, buckets, work, k, to, out);
+    // Record k behind the `to` bytes so far, if it is a first.
+    fn put_record(self, k: usize, to: usize, out: &mut [u8]) -> usize
+        requires { Standing self × (k < self.n) × (to + length (added self k) ≤ length out.old) }
+        ensures { Put self.entry k to result out.old out.new }
+    {
+        if self.is_first(k) {
+            let x = self.records.get(k);
+            let size = self.records.size as usize;
+            let next = to + size;
+            copy_bytes(x, 0, size, out, to);
+            return next;
+        }
+        to
     }
-}
 
-// The answer for the n records of two blocks, by their firsts.
-fn put_joint<'a>(
-    table: &[u32],
-    pool: &[u8],
-    records: Records<'a>,
-    n: usize,
-    found: Firsts,
-    work: &[u64],
-    out: &mut [u8],
-) -> Result<Joint, Refusal>
-    requires comparable { Comparable table.now pool.now records }
-    requires n_value { n ≡ length (keys_in table.now pool.now records) }
-    requires firsts { FirstsAre (keys_in table.now pool.now records) n found work.now }
-    ensures { JoinAnswered (fitting_joint (length out.old) (joint_in table.now pool.now records.entry)) result out.old out.new }
-{
-    let d = found.distinct;
-    let bytes = d * records.size as usize;
-    if out.len() < bytes {
-        return Err(Refusal::NoRoom(bytes as u64));
+    // The records that are firsts, one behind the other.
+    fn put_records(self, out: &mut [u8])
+        requires { Standing self × (length (copied self self.n) ≤ length out.old) }
+        ensures { out.new ≡ sets out.old 0 (copied self.entry self.entry.n) }
+    {
+        let mut to = 0;
+        for k in 0..self.n {
+            to = self.put_record(k, to, out);
+        }
     }
-    put_records(table, pool, records, n, found.buckets, work, out);
-    Ok(Joint {
-        bytes,
-        records: d as u64,
-    })
+
+    // The answer, d of the records being firsts.
+    fn put_joint(self, d: usize, out: &mut [u8]) -> Result<Joint, Refusal>
+        requires { Standing self × (d ≡ distinct_of (keys_in self.table.now self.pool.now self.records)) }
+        ensures { JoinAnswered (fitting_joint (length out.old) (joint_in self.entry.table.now self.entry.pool.now self.entry.records)) result out.old out.new }
+    {
+        let bytes = d * self.records.size as usize;
+        if out.len() < bytes {
+            return Err(Refusal::NoRoom(bytes as u64));
+        }
+        self.put_records(out);
+        Ok(Joint {
+            bytes,
+            records: d as u64,
+        })
+    }
 }
 
 // The answer for two blocks of whole records.
@@ -135,8 +110,16 @@ fn joined<'a>(
     requires n_value { n ≡ length (keys_in table.now pool.now records) }
     ensures { JoinAnswered (fitting_joint (length out.old) (joint_in table.now pool.now records.entry)) result out.old out.new }
 {
-    let found = find_firsts(table, pool, records, n, work);
-    put_joint(table, pool, records, n, found, work, out)
+    let firsts = find_firsts(table, pool, records, n, work);
+    let found = Found {
+        table,
+        pool,
+        records,
+        n,
+        buckets: firsts.buckets,
+        work,
+    };
+    found.put_joint(firsts.distinct, out)
 }
 
 // The answer for a type that is admitted and has a size.

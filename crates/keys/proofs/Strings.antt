@@ -24,12 +24,6 @@ pub record Passed (x : List ℕ) (at n i : ℕ) : Type 0 where
   pub same : up_to_nul (take n (drop at x)) ≡ take i (drop at x) ++ up_to_nul (take (n - i) (drop (at + i) x))
 
 module _ (x : List ℕ) (at n : ℕ) where
-  pub string-begun : Passed x at n 0
-  string-begun =
-      let e : at + 0 ≡ at = omega arith in
-      let f : n - 0 ≡ n = omega arith in
-      record { same = rw (e, f) }
-
   module _ (i : ℕ) (w : Passed x at n i) where
     pub string-whole : i ≤ n → n ≤ i → UpTo x at n n
     string-whole l h =

@@ -115,9 +115,6 @@ pub record SameFrom (runs a b : List ℕ) (k : ℕ) : Type 0 where
   pub decides : (x : Bool) → SameIn (runs_in (drop (2 * k) runs)) a b x → SameIn (runs_in runs) a b x
 
 module _ (runs a b : List ℕ) where
-  pub same-begun : Inside (length a) (runs_in runs) → SameFrom runs a b 0
-  same-begun h = record { inside = h; decides = λ x w. w }
-
   module _ (k : ℕ) (w : SameFrom runs a b k) where
     pub same_here : k < length runs / 2 → get_or runs (2 * k) 0 + get_or runs (2 * k + 1) 0 / 2 ≤ length a
     same_here l = run-here runs (2 * k) (length a) w.inside (omega arith)

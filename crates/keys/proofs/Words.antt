@@ -76,17 +76,9 @@ module _ (m : Multipliers) (h v w : ℕ) (s : Small m) (lh : h < 34359738368) (l
   pub second_fits : Fits w64 (w * m.second)
   second_fits = record { fits = omega (arith, second-product) }
 
-  pub sum_fits : Fits w64 ((h + v) * m.first + w * m.second)
-  sum_fits = record { fits = sum_below }
-
   pub step_is : (r : ℕ) → (r ≡ reduced ((h + v) * m.first + w * m.second)) × (r < 34359738368) → Steps m h v w r
   unfolding step
   step_is r q = record { is = q.0; small = q.1 }
-
--- nor where two hashes are made one
-module _ (m : Multipliers) (g : ℕ) (s : Small m) (lg : g < 34359738368) where
-  pub join-fits : Fits w64 (g * m.second)
-  join-fits = let p : g * m.second ≤ 34359738367 * 268435455 = mul-le-mul {n₂ = 34359738367} {m₂ = 268435455} (omega arith) (omega (arith, s.second-small)) in record { fits = omega (arith, p) }
 
 pub reduce_is : (t : ℕ) → t < 18446744073709551616 → (t % 8589934592 + t / 8589934592 * 9 ≡ reduced t) × (t % 8589934592 + t / 8589934592 * 9 < 34359738368)
 unfolding reduced

@@ -4,6 +4,7 @@ use mathlib.Core.Path.{◌≡◌, refl, sym, ap, ◌∙◌}
 use mathlib.Core.List.{List, [], ◌∷◌, ◌++◌, append-nil}
 use mathlib.Core.Option as maybe
 use Rattle.std.specs.Prelude.{Option, Some, None}
+use Rattle.std.specs.Option.{unwrap_or}
 use native.Mathlib.Omega.{arith}
 use native.Mathlib.Numerals.{add-one}
 use lib.ListN.{length, take, drop}
@@ -36,23 +37,23 @@ lines_none : (l o : ℕ) (b : maybe.Option (List ℕ)) (t : Datatype) → inner_
 lines_none l o b t e = sym (append-nil (line l o b t)) ∙ lines_as l o b t e
 
 module _ (levels o : ℕ) (b : maybe.Option (List ℕ)) (at : ℕ) (table pool : List ℕ) (r p : ℕ) (out : List ℕ) where
-  line-put : {c n a z : ℕ} {out₁ out₂ : List ℕ} → ((t : Datatype) (r' p' : ℕ) → type_at levels table pool r p ≡ found t r' p' → n ≡ type_size_of t) → c ≡ class_in (entry_at table pool r p)
+  line-put : {c n a z : ℕ} {out₁ out₂ : List ℕ} → ((t : Datatype) (r' p' : ℕ) → type_at levels table pool r p ≡ found t r' p' → n ≡ type_size_of t) → c ≡ unwrap_or (class_in (entry_at table pool r p)) 0
       → Puts (decimal (33 - levels) ++ spaced (c ∷ o ∷ n ∷ [])) at a out out₁ → Puts ((32 ∷ name_text b) ++ (10 ∷ [])) a z out₁ out₂
       → PutsLine (33 - levels) o b at (type_at levels table pool r p) z out out₂
   line-put {c = c} {n = n} h q m x =
       record {
         puts = λ t r' p' f.
             let e : n ≡ type_size_of t = h t r' p' f in
-            let g : c ≡ class_number t = q ∙ (shape levels table pool r p f).class in
+            let g : c ≡ class_number t = q ∙ ap (λ (k : Option ℕ). unwrap_or k 0) (shape levels table pool r p f).class in
             put_as (line_as (33 - levels) o b t g e) (then-put m x);
       }
 
   module _ {y : Option Survey} (d : y ≡ survey_of (type_at levels table pool r p)) where
-    pub line-none : (n : ℕ) {c a z : ℕ} {out₁ out₂ : List ℕ} → y ≡ None → c ≡ class_in (entry_at table pool r p)
+    pub line-none : (n : ℕ) {c a z : ℕ} {out₁ out₂ : List ℕ} → y ≡ None → c ≡ unwrap_or (class_in (entry_at table pool r p)) 0
         → Puts (decimal (33 - levels) ++ spaced (c ∷ o ∷ n ∷ [])) at a out out₁ → Puts ((32 ∷ name_text b) ++ (10 ∷ [])) a z out₁ out₂ → PutsLine (33 - levels) o b at (type_at levels table pool r p) z out out₂
     line-none n i q m x = line-put (λ t r' p' f. absurd (somewhere _ d f i)) q m x
 
-    pub line-some : {s : Survey} {c n a z : ℕ} {out₁ out₂ : List ℕ} → y ≡ Some s → n ≡ s.size → c ≡ class_in (entry_at table pool r p)
+    pub line-some : {s : Survey} {c n a z : ℕ} {out₁ out₂ : List ℕ} → y ≡ Some s → n ≡ s.size → c ≡ unwrap_or (class_in (entry_at table pool r p)) 0
         → Puts (decimal (33 - levels) ++ spaced (c ∷ o ∷ n ∷ [])) at a out out₁ → Puts ((32 ∷ name_text b) ++ (10 ∷ [])) a z out₁ out₂ → PutsLine (33 - levels) o b at (type_at levels table pool r p) z out out₂
     line-some i j q m x = line-put (λ t r' p' f. j ∙ (reached _ d f i).1.1) q m x
 

@@ -7,7 +7,7 @@ use mathlib.Core.Option.{some}
 use native.Mathlib.Omega.{arith}
 use native.Mathlib.Numerals.{add-one}
 use lib.ListN.{length, get_or, take, drop, length-append}
-use lib.Seq.{sets, length-sets, set_out, take-suc, take_all, length-take-le}
+use lib.Seq.{sets, length-sets, set_out, take-suc, take_all}
 use mir.Syntax.{w64}
 use mir.Val.{Fits}
 use lib.Dec.{ltb}
@@ -20,7 +20,7 @@ use Rattle.refusal.specs.declared.RefusalValues.{RefusalValues}
 use Rattle.listing.specs.Text.{decimal_in, decimal, spaced, hex_digit_of, hexadecimal, name_text, refusal_text}
 use Rattle.listing.specs.Puts.{last, Puts, name_in_of, NameInside}
 use Rattle.table.specs.declared.NamePart.{NamePart}
-use Rattle.std.specs.Prelude.{Option, Some, None}
+use Rattle.std.specs.Prelude.{Option, Some, None, MatchOption, option_to_list, slice_get}
 
 -- past the end nothing is stored
 sets-past : (vs l : List ℕ) (i : ℕ) → length l ≤ i → sets l i vs ≡ l
@@ -242,27 +242,26 @@ few-values Unmapped = omega arith
 few-values SlotOutside = omega arith
 few-values (NoRoom n) = omega arith
 
--- as many numbers of three as there are values
-first-numbers : (n : ℕ) (vs : List ℕ) → length vs ≤ 2 → take (1 + length vs) (n ∷ get_or vs 0 0 ∷ get_or vs 1 0 ∷ []) ≡ n ∷ vs
-first-numbers n [] h = refl
-first-numbers n (a ∷ []) h = refl
-first-numbers n (a ∷ b ∷ []) h = refl
-first-numbers n (a ∷ b ∷ d ∷ vs) h = absurd (omega arith)
+-- the values one by one
+values-listed : (vs : List ℕ) → length vs ≤ 2 → option_to_list (slice_get vs 0) ++ option_to_list (slice_get vs 1) ≡ vs
+values-listed [] h = refl
+values-listed (a ∷ []) h = refl
+values-listed (a ∷ b ∷ []) h = refl
+values-listed (a ∷ b ∷ d ∷ vs) h = absurd (omega arith)
+
+-- an Option as a slice
+as_listed : (o : Option ℕ) {s : List ℕ} → MatchOption o (s ≡ []) (λ x. s ≡ x ∷ []) → s ≡ option_to_list o
+as_listed None h = h
+as_listed (Some x) h = h
 
 module _ (e : Refusal) {v : RefusalValues} (q : v ≡ values_from e) where
-  pub value-count : 1 + v.count ≤ 3
-  value-count = let k : v.count ≡ length (values_of e) = ap (λ (x : RefusalValues). x.count) q in omega (arith, few-values e)
-
-  -- so many of three words
-  pub value_taken : (x y z : ℕ) → 1 + v.count ≡ length (take (1 + v.count) (x ∷ y ∷ z ∷ []))
-  value_taken x y z = sym (length-take-le (1 + v.count) (x ∷ y ∷ z ∷ []) value-count)
-
-  pub refusal_put : {m n a b r : ℕ} {out out₁ out₂ out₃ : List ℕ} → m ≡ number_of e → n ≡ m → Puts (114 ∷ 101 ∷ 102 ∷ 117 ∷ 115 ∷ 101 ∷ 100 ∷ []) 0 a out out₁
-      → Puts (spaced (take (1 + v.count) (n ∷ v.first ∷ v.second ∷ []))) a b out₁ out₂ → Puts (10 ∷ []) b r out₂ out₃ → Puts (refusal_text e) 0 r out out₃
+  pub refusal_put : {m n a b c d r : ℕ} (f s : List ℕ) {out out₁ out₂ out₃ out₄ out₅ : List ℕ} → m ≡ number_of e → n ≡ m
+      → Puts (114 ∷ 101 ∷ 102 ∷ 117 ∷ 115 ∷ 101 ∷ 100 ∷ []) 0 a out out₁ → Puts (spaced (n ∷ [])) a b out₁ out₂ → Puts (spaced f) b c out₂ out₃ → Puts (spaced s) c d out₃ out₄ → Puts (10 ∷ []) d r out₄ out₅
+      → MatchOption v.first (f ≡ []) (λ x. f ≡ x ∷ []) → MatchOption v.second (s ≡ []) (λ x. s ≡ x ∷ []) → Puts (refusal_text e) 0 r out out₅
   unfolding refusal_text
-  refusal_put {n = n} g h x y z =
-      let f : n ≡ number_of e = h ∙ g in
-      let k : take (1 + v.count) (n ∷ v.first ∷ v.second ∷ []) ≡ number_of e ∷ values_of e =
-      ap (λ (x : RefusalValues). take (1 + x.count) (n ∷ x.first ∷ x.second ∷ [])) q ∙ first-numbers n (values_of e) (few-values e) ∙ ap (λ (i : ℕ). i ∷ values_of e) f
-      in
-      then-put (then-put x (put_as (ap spaced k) y)) z
+  refusal_put {n = n} f s g h w x y z k i j =
+      let l : f ++ s ≡ values_of e =
+      rw (as_listed v.first i, as_listed v.second j, q) (values-listed (values_of e) (few-values e)) in
+      let t : spaced (n ∷ []) ++ (spaced f ++ spaced s) ≡ spaced (number_of e ∷ values_of e) =
+      ap (λ (u : List ℕ). spaced (n ∷ []) ++ u) (sym (spaced-joins f s)) ∙ sym (spaced-joins (n ∷ []) (f ++ s)) ∙ rw (l, h ∙ g) in
+      then-put (then-put w (put_as t (then-put x (then-put y z)))) k

@@ -26,31 +26,31 @@ use Rattle.listing.specs.declared.Inside.TheVariants.{Nothing, Members as Inside
 -- ---- the class and the inside, entry by entry
 
 module _ {y e : Option Entry} (q : y ≡ e) where
-  pub class_unknown : y ≡ None → 0 ≡ class_in e
+  pub class_unknown : {k : Option ℕ} → k ≡ None → y ≡ None → k ≡ class_in e
   unfolding class_in
-  class_unknown i = ap class_in (sym i ∙ q)
+  class_unknown n i = n ∙ ap class_in (sym i ∙ q)
 
   module _ {f : Entry} (j : y ≡ Some f) where
     is_entry : {g : Entry} → f ≡ g → Some g ≡ e
     is_entry i = sym (j ∙ ap Some i) ∙ q
 
-    pub class-leaf : {c n l x : ℕ} → f ≡ Leaf c n l x → c ≡ class_in e
+    pub class-leaf : {c n l x : ℕ} → f ≡ Leaf c n l x → Some c ≡ class_in e
     unfolding class_in
     class-leaf i = ap class_in (is_entry i)
 
-    pub class-compound : {n k : ℕ} → f ≡ Compound n k → 6 ≡ class_in e
+    pub class-compound : {n k : ℕ} → f ≡ Compound n k → Some 6 ≡ class_in e
     unfolding class_in
     class-compound i = ap class_in (is_entry i)
 
-    pub class-enumeration : {n k : ℕ} → f ≡ Enumeration n k → 8 ≡ class_in e
+    pub class-enumeration : {n k : ℕ} → f ≡ Enumeration n k → Some 8 ≡ class_in e
     unfolding class_in
     class-enumeration i = ap class_in (is_entry i)
 
-    pub class_variable : {i a c : ℕ} → f ≡ VariableLength i a c → 9 ≡ class_in e
+    pub class_variable : {i a c : ℕ} → f ≡ VariableLength i a c → Some 9 ≡ class_in e
     unfolding class_in
     class_variable i = ap class_in (is_entry i)
 
-    pub class-array : {k : ℕ} → f ≡ Array k → 10 ≡ class_in e
+    pub class-array : {k : ℕ} → f ≡ Array k → Some 10 ≡ class_in e
     unfolding class_in
     class-array i = ap class_in (is_entry i)
 
@@ -155,7 +155,7 @@ Inner rd table pool r p l t (InsideMembers k) = MembersInside rd table pool k r 
 Inner rd table pool r p l t (Base q) = BaseInside rd q r l t
 
 pub record Shape (rd : Walk Datatype) (table pool : List ℕ) (r p : ℕ) (t : Datatype) (e : Option Entry) : Type 0 where
-  pub class : class_in e ≡ class_number t
+  pub class : class_in e ≡ Some (class_number t)
   pub inner : (l : ℕ) → Inner rd table pool r p l t (inside_of p e)
 
 module _ (rd : Walk Datatype) (table pool : List ℕ) (r p : ℕ) (t : Datatype) (r' p' : ℕ) where
@@ -164,12 +164,12 @@ module _ (rd : Walk Datatype) (table pool : List ℕ) (r p : ℕ) (t : Datatype)
   by_entry (Some (Leaf c n l x)) q h =
       let s = leaf_shown table pool r p q in
       let f : leaf_type table pool r p c ≡ t = (found-is h).0 in
-      record { class = s.0 ∙ ap class_number f; inner = λ i. sym (ap (inner_lines i) f) ∙ s.1 i }
+      record { class = ap Some (s.0 ∙ ap class_number f); inner = λ i. sym (ap (inner_lines i) f) ∙ s.1 i }
   by_entry (Some (Compound n k)) q h =
       let w = then_found (members_at rd table pool k (suc r) p) _ h in
       let f : compound n w.first ≡ t = (found-is w.rest).0 in
       record {
-        class = ap class_number f;
+        class = ap (λ (x : Datatype). Some (class_number x)) f;
         inner = λ i. record { members = w.first; row = w.row; place = w.place; are = rw (add-one r) w.is; text = sym (ap (inner_lines i) f) };
       }
   by_entry (Some (Enumeration n k)) q h =
@@ -178,21 +178,21 @@ module _ (rd : Walk Datatype) (table pool : List ℕ) (r p : ℕ) (t : Datatype)
       let u = then_found (enum_values_at pool v.first v.row v.place) _ v.rest in
       let f : enumeration n w.first u.first ≡ t = (found-is u.rest).0 in
       record {
-        class = ap class_number f;
+        class = ap (λ (x : Datatype). Some (class_number x)) f;
         inner = λ i. record { base = w.first; row = w.row; place = w.place; is = rw (add-one r) w.is; text = sym (ap (inner_lines i) f) };
       }
   by_entry (Some (VariableLength i a c)) q h =
       let w = then_found (rd (suc r) p) _ h in
       let f : variable_length i a c w.first ≡ t = (found-is w.rest).0 in
       record {
-        class = ap class_number f;
+        class = ap (λ (x : Datatype). Some (class_number x)) f;
         inner = λ i. record { base = w.first; row = w.row; place = w.place; is = rw (add-one r) w.is; text = sym (ap (inner_lines i) f) };
       }
   by_entry (Some (Array k)) q h =
       let w = then_found (rd (suc r) (p + k * 4)) _ h in
       let f : array (dimensions_from k (take (k * 4) (drop p pool))) w.first ≡ t = (found-is w.rest).0 in
       record {
-        class = ap class_number f;
+        class = ap (λ (x : Datatype). Some (class_number x)) f;
         inner = λ i. record { base = w.first; row = w.row; place = w.place; is = rw (add-one r) w.is; text = sym (ap (inner_lines i) f) };
       }
   by_entry None q h = absurd (no_found h)

@@ -32,13 +32,13 @@ NameInside pool None = Unit {0}
 NameInside pool (Some x) = x.place + x.length ≤ length pool
 
 -- the class of a row, and what is inside its type, whose pool bytes begin at p
-unfoldable pub class_in : Option Entry → ℕ
-class_in (Some (Leaf c n l x)) = c
-class_in (Some (Compound n k)) = 6
-class_in (Some (Enumeration n k)) = 8
-class_in (Some (VariableLength i a c)) = 9
-class_in (Some (Array k)) = 10
-class_in None = 0
+unfoldable pub class_in : Option Entry → Option ℕ
+class_in (Some (Leaf c n l x)) = Some c
+class_in (Some (Compound n k)) = Some 6
+class_in (Some (Enumeration n k)) = Some 8
+class_in (Some (VariableLength i a c)) = Some 9
+class_in (Some (Array k)) = Some 10
+class_in None = None
 
 unfoldable pub inside_of : (p : ℕ) → Option Entry → Inside
 inside_of p (Some (Leaf c n l x)) = Nothing

@@ -13,7 +13,7 @@ use refusal::{Refusal, number, values};
 use rows::{Entry, entry_at, member_at};
 use table::{NamePart, check, survey_type};
 
-// The types inside a type: none, so many members, or a base whose pool bytes begin at a place.
+// The types inside a type: none, so many members, or a base whose pool bytes begin at a place. No Option, since there are three cases.
 #[derive(Clone, Copy)]
 enum Inside {
     Nothing,
@@ -122,19 +122,16 @@ fn put_name(pool: &[u8], name: Option<NamePart>, out: &mut [u8], at: usize) -> u
     }
 }
 
-// The class of the type at a row.
-fn class_at(table: &[u32], pool: &[u8], row: usize, place: usize) -> u32
+// The class of the type at a row, if there is one.
+fn class_at(table: &[u32], pool: &[u8], row: usize, place: usize) -> Option<u32>
     ensures { result ≡ class_in (entry_at table.now pool.now row place) }
 {
-    let Some(entry) = entry_at(table, pool, row, place) else {
-        return 0;
-    };
-    match entry {
-        Entry::Leaf(class, _, _, _) => class,
-        Entry::Compound(_, _) => 6,
-        Entry::Enumeration(_, _) => 8,
-        Entry::VariableLength(_, _, _) => 9,
-        Entry::Array(_) => 10,
+    match entry_at(table, pool, row, place)? {
+        Entry::Leaf(class, _, _, _) => Some(class),
+        Entry::Compound(_, _) => Some(6),
+        Entry::Enumeration(_, _) => Some(8),
+        Entry::VariableLength(_, _, _) => Some(9),
+        Entry::Array(_) => Some(10),
     }
 }
 
@@ -182,7 +179,7 @@ fn put_line(
         None => 0,
         Some(s) => s.size,
     };
-    let class = class_at(table, pool, row, place);
+    let class = class_at(table, pool, row, place).unwrap_or(0);
     let behind = put_numbers((33 - levels) as u64, class, offset, size, out, at);
     put_name(pool, name, out, behind)
 }
@@ -314,11 +311,11 @@ fn put_refusal(refusal: Refusal, out: &mut [u8]) -> usize
     ensures { Puts (refusal_text refusal) 0 result out.old out.new }
 {
     let v = values(refusal);
-    let numbers = [u64::from(number(refusal)), v.first, v.second];
-    let used = 1 + v.count as usize;
     let word = put_text(b"refused", out, 0);
-    let behind = put_spaced(&numbers[..used], out, word);
-    put_byte(b'\n', out, behind)
+    let numbered = put_spaced(&[u64::from(number(refusal))], out, word);
+    let first = put_spaced(v.first.as_slice(), out, numbered);
+    let second = put_spaced(v.second.as_slice(), out, first);
+    put_byte(b'\n', out, second)
 }
 
 // Writes the line of a refusal to the start of `out`: `refused`, its number and its values. Refused: NoRoom. Cost: the length of the line, twice.

@@ -6,7 +6,8 @@ use Prim.Native.Nat.{ℕ, zero, suc, ◌+◌, ◌-◌, ◌≤◌, ◌<◌}
 use native.Mathlib.Omega.{arith}
 use borrow.Author.Tests.{le-leb, lt-leb}
 use lib.Dec.{leb}
-use lib.ListN.{length, take}
+use lib.ListN.{length, take, get_or}
+use lib.Seq.{length-take-le}
 use Rattle.format.specs.Utf8.{Lead, single, ill, lead, up_to, leads, ready, waiting, Utf8Step, replacement, begin, broken, going, step, carried}
 use Rattle.names.specs.Pass.{lead_of, Sized, carrying, state_of, carry_on_of, Fits, Steps}
 use Rattle.names.specs.declared.Start.{Start}
@@ -68,14 +69,6 @@ module _ (b : ℕ) (s : Start) (is : (lead_of s ≡ up_to leads b) × Sized s) w
     unfolding begin replacement
     begins_ill e = rw (ill_is e) (given _ 3 z _ none refl (omega arith) refl refl)
 
-    pub breaks_single : s ≡ Single → Steps (record { out = 0xef ∷ 0xbf ∷ 0xbd ∷ b ∷ 0 ∷ 0 ∷ []; len = 4; next = z }) (broken (begin b (up_to leads b)))
-    unfolding begin broken replacement
-    breaks_single e = rw (single_is e) (given _ 4 z _ none refl (omega arith) refl refl)
-
-    pub breaks_ill : s ≡ Ill → Steps (record { out = 0xef ∷ 0xbf ∷ 0xbd ∷ 0xef ∷ 0xbf ∷ 0xbd ∷ []; len = 6; next = z }) (broken (begin b (up_to leads b)))
-    unfolding begin broken replacement
-    breaks_ill e = rw (ill_is e) (given _ 6 z _ none refl (omega arith) refl refl)
-
   module _ (n lo hi : ℕ) (e : s ≡ More n lo hi) where
     starts : Fits (record { count = 1; first = b; second = 0; third = 0; more = n; low = lo; high = hi })
     starts = one-fits b n lo hi (rw e at is.1)
@@ -84,9 +77,36 @@ module _ (b : ℕ) (s : Start) (is : (lead_of s ≡ up_to leads b) × Sized s) w
     unfolding begin state_of carrying
     begins-more = rw (more-is n lo hi e) (record { out = refl; next = refl; fits = starts; six = refl; short = omega arith })
 
-    pub breaks_more : Steps (record { out = 0xef ∷ 0xbf ∷ 0xbd ∷ 0 ∷ 0 ∷ 0 ∷ []; len = 3; next = record { count = 1; first = b; second = 0; third = 0; more = n; low = lo; high = hi } }) (broken (begin b (up_to leads b)))
-    unfolding begin broken replacement state_of carrying
-    breaks_more = rw (more-is n lo hi e) (record { out = refl; next = refl; fits = starts; six = refl; short = omega arith })
+-- what begins gives out three bytes at the most
+begins-short : (b : ℕ) (x : Lead) → length (begin b x).out ≤ 3
+unfolding begin replacement
+begins-short b single = omega arith
+begins-short b ill = omega arith
+begins-short b (lead n lo hi) = omega arith
+
+first_three : (l : List ℕ) (n : ℕ) → n ≤ 3 → length l ≡ 6 → take n (get_or l 0 0 ∷ get_or l 1 0 ∷ get_or l 2 0 ∷ []) ≡ take n l
+first_three [] n h e = absurd (omega arith)
+first_three (x ∷ []) n h e = absurd (omega arith)
+first_three (x ∷ y ∷ []) n h e = absurd (omega arith)
+first_three (x ∷ y ∷ z ∷ l) zero h e = refl
+first_three (x ∷ y ∷ z ∷ l) (suc zero) h e = refl
+first_three (x ∷ y ∷ z ∷ l) (suc (suc zero)) h e = refl
+first_three (x ∷ y ∷ z ∷ l) (suc (suc (suc zero))) h e = refl
+first_three (x ∷ y ∷ z ∷ l) (suc (suc (suc (suc n)))) h e = absurd (omega arith)
+
+pub breaks : (b : ℕ) (y : Stepped) → Steps y (begin b (up_to leads b))
+    → Steps (record { out = 0xef ∷ 0xbf ∷ 0xbd ∷ get_or y.out 0 0 ∷ get_or y.out 1 0 ∷ get_or y.out 2 0 ∷ []; len = 3 + y.len; next = y.next }) (broken (begin b (up_to leads b)))
+unfolding broken replacement
+breaks b y s =
+    let n : y.len ≤ 3 = omega (arith, length-take-le y.len y.out (omega (arith, s.six, s.short)), ap length s.out, begins-short b (up_to leads b)) in
+    let q : 3 + y.len ≡ suc (suc (suc y.len)) = omega arith in
+    record {
+      out = rw q (ap (λ (l : List ℕ). 0xef ∷ 0xbf ∷ 0xbd ∷ l) (first_three y.out y.len n s.six ∙ s.out));
+      next = s.next;
+      fits = s.fits;
+      six = refl;
+      short = omega arith;
+    }
 
 -- ---- in a character
 

@@ -13,7 +13,7 @@ use lib.Pow.{shl_exact}
 use borrow.Author.Tests.{eq-eqb, ne_eqb}
 use Rattle.format.specs.Bytes.{number_from, little_endian, zeros}
 use Rattle.format.specs.Bits.{low_bits, high_bits, join_bits, bit_at, float_flags_of, float_order_of}
-use Rattle.format.proofs.Bits.{join-lt, bit_of, float_flags_lt}
+use Rattle.format.proofs.Bits.{bit_of}
 
 -- ---- numbers in a message
 
@@ -92,9 +92,6 @@ pub or_shift : (k j w low high : ℕ) → high < 2 ^ j → j + k ≤ w → bit_o
 unfolding join_bits
 or_shift k j w low high h g = ap (bit_or low) (shl_exact j k w h g)
 
-pub or_shift-lt : (k j w low high : ℕ) → low < 2 ^ k → high < 2 ^ j → j + k ≤ w → bit_or low ((high * 2 ^ k) % 2 ^ w) < 2 ^ (k + j)
-or_shift-lt k j w low high h g f = rw (or_shift k j w low high g f) (join-lt k j low high h g)
-
 -- b & 1
 pub and_one : (b : ℕ) → bit_and b 1 ≡ bit_at 0 b
 and_one b = and_mask b 1 ∙ (omega arith ∙ sym (bit_of 0 b))
@@ -113,6 +110,3 @@ float_flags_made zero h = refl
 float_flags_made (suc zero) h = refl
 float_flags_made (suc (suc zero)) h = refl
 float_flags_made (suc (suc (suc o))) h = absurd (omega arith)
-
-pub float_flags_fit : (o : ℕ) → o < 3 → bit_or (bit_or (bit_and o 1) 32) ((o / 2 * 64) % 4294967296) < 256
-float_flags_fit o h = rw (float_flags_made o h) (float_flags_lt o)

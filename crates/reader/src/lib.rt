@@ -4,45 +4,14 @@
 ghost use Rattle.std.specs.Prelude.{◌+◌, ◌*◌, ◌<◌, ◌≤◌, length};
 ghost use Rattle.format.specs.Reading.{read_members_of, read_type_of};
 ghost use Rattle.reading.specs.Contract.{run, Ready, AfterType, AfterMembers};
-ghost use Rattle.reading.specs.Members.{CompoundEnds};
 ghost use Rattle.reading.specs.Reads.{Reads};
 
 use format::Header;
-use primitives::put_row;
 use reader_before::{open_headed, open_header};
 use reader_behind::{end_based, enter_member, member_count};
 use reader_leaf::read_leaf;
-use reading::{Limits, Opened, State};
+use reading::{Limits, Opened, State, end_row};
 use refusal::Refusal;
-
-// A compound's own row, once its members are read.
-// Inlined, as is `end_based`: where a call writes the answer, `read_type` passes each answer through memory, a third slower on compounds.
-#[inline(always)]
-fn end_compound(
-    table: &mut [u32],
-    used: usize,
-    header: Header,
-    count: u32,
-    inner: State,
-) -> Result<State, Refusal>
-    requires { used * 16 + 16 ≤ length table.old }
-    ensures { CompoundEnds used header count inner result table.old table.new }
-{
-    if header.size == 0 {
-        return Err(Refusal::ZeroSize(header.class));
-    }
-    put_row(
-        table,
-        used,
-        [7, header.size, 0, 0, count, 0, 0, 0, 0, 0, 0, 0, 0, 0, 0, 0],
-    );
-    Ok(State {
-        at: inner.at,
-        rows: inner.rows,
-        pooled: inner.pooled,
-        size: header.size,
-    })
-}
 
 // The members of a compound, from behind its header on.
 #[cycle(read)]
@@ -128,7 +97,16 @@ fn read_type(
                 version,
                 count as usize,
             )?;
-            end_compound(table, used, header, count, members)
+            end_row(
+                table,
+                used,
+                header.class,
+                [7, header.size, 0, 0, count, 0, 0, 0, 0, 0, 0, 0, 0, 0, 0, 0],
+                State {
+                    size: header.size,
+                    ..members
+                },
+            )
         }
         Opened::Based(base) => {
             let part = &data[base.from..];

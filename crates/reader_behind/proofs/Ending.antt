@@ -24,9 +24,9 @@ use Rattle.format.proofs.Bytes.{length_dimensions, length-dimensions_from, dimen
 use Rattle.reading.specs.declared.Limits.{Limits}
 use Rattle.reading.specs.declared.State.{State}
 use Rattle.reading.specs.declared.Base.{Base}
-use Rattle.reading.specs.Contract.{run, here, Ready, AfterEnum, read_enum_members_of, behind, variable_of, dimensions_of_lem, BasedKind, OpensBased, BaseRead, Ended, Ends}
+use Rattle.reading.specs.Contract.{run, here, Ready, AfterEnum, read_enum_members_of, behind, variable_of, dimensions_of_lem, BasedKind, OpensBased, BaseRead, Ended, Ends, EndsRow}
 use Rattle.reading.proofs.Steps.{sized_no, sized-go, sized-zero}
-use Rattle.reading.proofs.Contracts.{by_done, not_done, by_refused, not-refused, part-near}
+use Rattle.reading.proofs.Contracts.{by_done, not_done, by_refused, not-refused, by_row, part-near}
 
 -- ---- by what is returned
 
@@ -140,7 +140,7 @@ module _ (d : List ℕ) (lim : Limits) (used pooled : ℕ) (h : Header) (b : Bas
   unfolding behind
   array-given base = rw kind
 
-  pub array_empty : {t' p' : List ℕ} → z ≡ 0
+  array_empty : {t' p' : List ℕ} → z ≡ 0
       → Ends d lim used pooled h (dimensions_of_lem d b) inner.at inner.rows inner.pooled inner.size (Err (ZeroSize h.class)) t t' p p'
   array_empty e =
       stops
@@ -148,13 +148,13 @@ module _ (d : List ℕ) (lim : Limits) (used pooled : ℕ) (h : Header) (b : Bas
       sized-zero h (behind h (dimensions_of_lem d b) (class_kind h.class) base) (length d) inner.at (drop inner.at d) (lim.rows - inner.rows) (lim.pool - inner.pooled)
       (array (dimensions_of_lem d b) base) inner.at (drop inner.at d) (lim.rows - inner.rows) (lim.pool - inner.pooled) (array-given base) (sym (array_size base en) ∙ e)
 
-  pub array-ends : {t' p' : List ℕ} → Ready lim inner.rows inner.pooled t p → inner.at ≤ length d + 7 → b.start + 4 * b.rank ≤ length d → ((i : ℕ) → get_or d i 0 < 256) → (z ≡ 0 → ⊥)
+  array-stored : {t' p' : List ℕ} → Ready lim inner.rows inner.pooled t p → inner.at ≤ length d + 7 → b.start + 4 * b.rank ≤ length d → ((i : ℕ) → get_or d i 0 < 256) → 0 < z
       → t' ≡ sets t (used * 16) (11 ∷ 0 ∷ pooled ∷ b.rank ∷ 0 ∷ 0 ∷ 0 ∷ 0 ∷ 0 ∷ 0 ∷ 0 ∷ 0 ∷ 0 ∷ 0 ∷ 0 ∷ 0 ∷ [])
       → p' ≡ sets p pooled (take (4 * b.rank) (drop b.start d))
       → Ends d lim used pooled h (dimensions_of_lem d b) inner.at inner.rows inner.pooled inner.size
       (Ok (record { at = inner.at; rows = inner.rows; pooled = inner.pooled; size = z })) t t' p p'
   unfolding row_count pool_bytes rows row enumeration_row variable_length_row array_row
-  array-ends ready near long small some et ep =
+  array-stored ready near long small some et ep =
       let ds = dimensions_of_lem d b in
       let k = rank_is d b in
       let l = length_dimensions ds in
@@ -185,6 +185,14 @@ module _ (d : List ℕ) (lim : Limits) (used pooled : ℕ) (h : Header) (b : Bas
         near = near;
       }
 
+  pub array-ends : {t' p' : List ℕ} (r : Result State Refusal) → Ready lim inner.rows inner.pooled t p → inner.at ≤ length d + 7 → b.start + 4 * b.rank ≤ length d → ((i : ℕ) → get_or d i 0 < 256)
+      → p' ≡ sets p pooled (take (4 * b.rank) (drop b.start d))
+      → EndsRow used h.class (11 ∷ 0 ∷ pooled ∷ b.rank ∷ 0 ∷ 0 ∷ 0 ∷ 0 ∷ 0 ∷ 0 ∷ 0 ∷ 0 ∷ 0 ∷ 0 ∷ 0 ∷ 0 ∷ []) (record { at = inner.at; rows = inner.rows; pooled = inner.pooled; size = z }) r t t'
+      → Ends d lim used pooled h (dimensions_of_lem d b) inner.at inner.rows inner.pooled inner.size r t t' p p'
+  array-ends {t'} {p'} r ready near long small ep x =
+      by_row (λ y. Ends d lim used pooled h (dimensions_of_lem d b) inner.at inner.rows inner.pooled inner.size y t t' p p') r x
+      (λ some et. array-stored ready near long small some et ep) array_empty
+
 -- ---- class 8
 
 module _ (d : List ℕ) (lim : Limits) (used pooled : ℕ) (h : Header) (b : Base) (inner : State) (count : ℕ) (r : Result State Refusal) (t t₁ p p₁ : List ℕ)
@@ -210,8 +218,8 @@ module _ (d : List ℕ) (lim : Limits) (used pooled : ℕ) (h : Header) (b : Bas
     unfolding then
     enum_given base en = members-are base en ∙ rw (members.done s done).is
 
-    pub enum_empty : h.size ≡ 0
-        → Ends d lim used pooled h (dimensions_of_lem d b) inner.at inner.rows inner.pooled inner.size (Err (ZeroSize h.class)) t t₁ p p₁
+    enum_empty : {t' : List ℕ} → h.size ≡ 0
+        → Ends d lim used pooled h (dimensions_of_lem d b) inner.at inner.rows inner.pooled inner.size (Err (ZeroSize h.class)) t t' p p₁
     unfolding type_size_of
     enum_empty z =
         stops
@@ -219,25 +227,24 @@ module _ (d : List ℕ) (lim : Limits) (used pooled : ℕ) (h : Header) (b : Bas
         sized-zero h (behind h (dimensions_of_lem d b) (class_kind h.class) base) (length d) inner.at (drop inner.at d) (lim.rows - inner.rows) (lim.pool - inner.pooled)
         (enumeration h.size base (members.done s done).tree) s.at (drop s.at d) (lim.rows - s.rows) (lim.pool - s.pooled) (enum_given base en) z
 
-    pub enum_ends : {t' : List ℕ} → b.rank ≡ 0 → (h.size ≡ 0 → ⊥)
+    enum_stored : {t' : List ℕ} → b.rank ≡ 0 → 0 < h.size
         → t' ≡ sets t₁ (used * 16) (9 ∷ h.size ∷ 0 ∷ 0 ∷ count ∷ 0 ∷ 0 ∷ 0 ∷ 0 ∷ 0 ∷ 0 ∷ 0 ∷ 0 ∷ 0 ∷ 0 ∷ 0 ∷ [])
         → Ends d lim used pooled h (dimensions_of_lem d b) inner.at inner.rows inner.pooled inner.size
         (Ok (record { at = s.at; rows = s.rows; pooled = s.pooled; size = h.size })) t t' p p₁
     unfolding type_size_of row_count pool_bytes rows row enumeration_row variable_length_row array_row
-    enum_ends rank some et =
+    enum_stored rank some et =
         let l = members.done s done in
         let ms = l.tree in
         let k = rank_is d b in
-        let n : 0 < h.size = omega (arith, some) in
         ends
         λ base en er ep.
         let q : inner.pooled ≡ pooled + length (pool_bytes base) = omega arith in
         record {
           tree = enumeration h.size base ms;
           is = sized-go h (behind h (dimensions_of_lem d b) (class_kind h.class) base) (length d) inner.at (drop inner.at d) (lim.rows - inner.rows) (lim.pool - inner.pooled)
-              (enumeration h.size base ms) s.at (drop s.at d) (lim.rows - s.rows) (lim.pool - s.pooled) (enum_given base en) n;
+              (enumeration h.size base ms) s.at (drop s.at d) (lim.rows - s.rows) (lim.pool - s.pooled) (enum_given base en) some;
           size_is = refl;
-          some_size = n;
+          some_size = some;
           head = 9 ∷ h.size ∷ 0 ∷ 0 ∷ length ms ∷ 0 ∷ 0 ∷ 0 ∷ 0 ∷ 0 ∷ 0 ∷ 0 ∷ 0 ∷ 0 ∷ 0 ∷ 0 ∷ [];
           more = enum_rows (pooled + length (pool_bytes base)) ms;
           before = [];
@@ -254,6 +261,13 @@ module _ (d : List ℕ) (lim : Limits) (used pooled : ℕ) (h : Header) (b : Bas
           room = l.ready.room;
           near = l.near;
         }
+
+    pub enum_ends : {t' : List ℕ} (q : Result State Refusal) → b.rank ≡ 0
+        → EndsRow used h.class (9 ∷ h.size ∷ 0 ∷ 0 ∷ count ∷ 0 ∷ 0 ∷ 0 ∷ 0 ∷ 0 ∷ 0 ∷ 0 ∷ 0 ∷ 0 ∷ 0 ∷ 0 ∷ []) (record { at = s.at; rows = s.rows; pooled = s.pooled; size = h.size }) q t₁ t'
+        → Ends d lim used pooled h (dimensions_of_lem d b) inner.at inner.rows inner.pooled inner.size q t t' p p₁
+    enum_ends {t'} q rank x =
+        by_row (λ y. Ends d lim used pooled h (dimensions_of_lem d b) inner.at inner.rows inner.pooled inner.size y t t' p p₁) q x
+        (enum_stored rank) enum_empty
 
 -- ---- by class
 

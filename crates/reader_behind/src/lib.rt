@@ -17,7 +17,7 @@ use names::{Name, NameError, read_name};
 use primitives::{
     copy_bytes, high4, low4, name_padding, offset_bytes_for_size, put_row, read_uint, skipped_bytes,
 };
-use reading::{Base, Limits, State};
+use reading::{Base, Limits, State, end_row};
 use refusal::Refusal;
 
 // The number of members of a compound or an enumeration.
@@ -65,7 +65,7 @@ fn put_member_row(
 }
 
 // A member's name, once a row is free for it: TooMany, Short, PoolFull.
-// Inlined: a call that hands on the name's answer makes an enumeration a quarter slower.
+// Inlined, so that the name's answer stays in registers.
 #[inline(always)]
 fn begin_member(
     data: &[u8],
@@ -261,20 +261,16 @@ fn end_enumeration(
         header.version,
         count as usize,
     )?;
-    if header.size == 0 {
-        return Err(Refusal::ZeroSize(header.class));
-    }
-    put_row(
+    end_row(
         table,
         used,
+        header.class,
         [9, header.size, 0, 0, count, 0, 0, 0, 0, 0, 0, 0, 0, 0, 0, 0],
-    );
-    Ok(State {
-        at: members.at,
-        rows: members.rows,
-        pooled: members.pooled,
-        size: header.size,
-    })
+        State {
+            size: header.size,
+            ..members
+        },
+    )
 }
 
 // Class 9, behind its base.
@@ -323,10 +319,10 @@ fn scaled_size(data: &[u8], start: usize, rank: usize, size: u32) -> u32
     requires { start + 4 * rank ≤ length «data».now }
     ensures { result ≡ min (size * product (dimensions_from rank (take (4 * rank) (drop start «data».now)))) 4294967295 }
 {
-    let mut scaled = size as u64;
+    let mut scaled = u64::from(size);
     for i in 0..rank {
-        let dimension = read_uint(data, start + 4 * i, 4);
-        scaled = (scaled * dimension as u64).min(4294967295);
+        let dimension = u64::from(read_uint(data, start + 4 * i, 4));
+        scaled = (scaled * dimension).min(4294967295);
     }
     scaled as u32
 }
@@ -349,13 +345,11 @@ fn end_array(
         table.old table.new pool.old pool.new }
 {
     let size = scaled_size(data, base.start, base.rank, inner.size);
-    if size == 0 {
-        return Err(Refusal::ZeroSize(header.class));
-    }
     copy_bytes(data, base.start, 4 * base.rank, pool, pooled);
-    put_row(
+    end_row(
         table,
         used,
+        header.class,
         [
             11,
             0,
@@ -374,18 +368,16 @@ fn end_array(
             0,
             0,
         ],
-    );
-    Ok(State {
-        at: inner.at,
-        rows: inner.rows,
-        pooled: inner.pooled,
-        size: size,
-    })
+        State {
+            size: size,
+            ..inner
+        },
+    )
 }
 
 // What stands behind the base of a class 8, 9 or 10 type, and the type's own row. The base was read as a message of its own: `inner` counts
 // from where that begins.
-// Inlined: where a call writes the answer, `read_type` of the reader passes each answer through memory, a third slower on compounds.
+// Inlined, so that the answers of `read_type` of the reader stay in registers.
 #[inline(always)]
 pub fn end_based(
     data: &[u8],

@@ -20,9 +20,9 @@ use Rattle.format.specs.Table.{columns_of, leaf_row, Kind, is_leaf, isFixedPoint
 use Rattle.format.proofs.Lists.{drop-take, length_part}
 use Rattle.reading.specs.declared.Limits.{Limits}
 use Rattle.reading.specs.declared.State.{State}
-use Rattle.reading.specs.Contract.{run, here, Ready, AfterType, leaf_kind, read_leaf_of}
+use Rattle.reading.specs.Contract.{run, here, Ready, AfterType, EndsRow, leaf_kind, read_leaf_of}
 use Rattle.reading.proofs.Steps.{bytes-go, bytes-short, skip-go, piece-go, piece-full, sized_no, sized-go, sized-zero}
-use Rattle.reading.proofs.Contracts.{lands, refuses, one-row}
+use Rattle.reading.proofs.Contracts.{lands, refuses, one-row, by_row}
 
 -- ---- what all classes share
 
@@ -65,6 +65,15 @@ module _ {k : Kind} (h : Header) (d : List ℕ) {lim : Limits} {used pooled : �
       (sized-go h (read_leaf_of h) (length d) 8 (drop 8 d) (lim.rows - (used + 1)) (lim.pool - pooled) tree s.at (drop s.at d) (lim.rows - s.rows) (lim.pool - s.pooled) (rw asked.1 q) some)
       l.words_are l.bytes-are l.count (es ∙ sym l.size, some) er ep et eb asked.0.0.0 asked.0.0.1 room near)
 
+  -- its row ends it
+  leaf-ends : {w b : List ℕ} (tree : Datatype) (at place : ℕ) → run (read_properties (refuse TooDeep) h k) d lim 8 (used + 1) pooled ≡ here tree d lim (ended h at used place) → Leaf h pooled tree w b
+      → place ≡ pooled + length b → place ≤ lim.pool → at ≤ length d + 7 → p' ≡ sets p pooled b
+      → (r : Result State Refusal) → EndsRow used h.class w (ended h at used place) r t t' → Ends h d lim used pooled t p r t' p'
+  leaf-ends tree at place q l ep room near eb r x =
+      by_row (λ r. Ends h d lim used pooled t p r t' p') r x
+      (λ z et. leaf-lands tree (ended h at used place) q l (λ e. omega arith) refl refl ep room near et eb)
+      (leaf-zero tree (ended h at used place) q l)
+
 -- ---- properties that are numbers, sought together
 
 -- numbers of given widths, one behind another from a place of the message on
@@ -105,16 +114,10 @@ module _ {k : Kind} {widths : List ℕ} {end : ℕ} {type : Header → List ℕ 
   block_cut l = leaf-refuses h d asked (block-short b h d (lim.rows - (used + 1)) (lim.pool - pooled) l)
 
   module _ (long : end ≤ length d) where
-    pub block-zero : {p' : List ℕ} → h.size ≡ 0 → Ends h d lim used pooled t p (Err (ZeroSize h.class)) t' p'
-    block-zero z =
-        leaf-zero h d asked (type h (numbers_at widths 8 d)) (ended h end used pooled)
-        (block-go b h d (lim.rows - (used + 1)) (lim.pool - pooled) long) (b.leaf h pooled (numbers_at widths 8 d)) z
-
-    block-lands : (h.size ≡ 0 → ⊥) → t' ≡ sets t (used * 16) (rows pooled (type h (numbers_at widths 8 d)))
-        → Ends h d lim used pooled t p (Ok (ended h end used pooled)) t' p
-    block-lands z et =
-        leaf-lands h d asked (type h (numbers_at widths 8 d)) (ended h end used pooled)
-        (block-go b h d (lim.rows - (used + 1)) (lim.pool - pooled) long) (b.leaf h pooled (numbers_at widths 8 d)) z refl refl (omega arith) asked.0.0.0.room (omega arith) et refl
+    block-ends : (r : Result State Refusal) → EndsRow used h.class (rows pooled (type h (numbers_at widths 8 d))) (ended h end used pooled) r t t' → Ends h d lim used pooled t p r t' p
+    block-ends =
+        leaf-ends h d asked (type h (numbers_at widths 8 d)) end pooled
+        (block-go b h d (lim.rows - (used + 1)) (lim.pool - pooled) long) (b.leaf h pooled (numbers_at widths 8 d)) (omega arith) asked.0.0.0.room (omega arith) refl
 
 pub fixed_points : Block (is_leaf isFixedPoint) bit_widths 12 (λ h x. leaf h.size (fixed_point (bit_at 0 h.f0) (bit_at 3 h.f0) (get_or x 0 0) (get_or x 1 0)))
 unfolding read_properties leaf_properties total_width type_size_of row_count pool_bytes leaf_pool
@@ -141,36 +144,36 @@ one_byte zero (b ∷ d) = omega arith
 one_byte (suc at) [] = refl
 one_byte (suc at) (b ∷ d) = one_byte at d
 
-module _ (h : Header) (d : List ℕ) {lim : Limits} {used pooled : ℕ} {t t' p : List ℕ} where
-  pub fixed_point_lands : (o s f q : ℕ) → Asked (is_leaf isFixedPoint) h d lim used pooled t p → 12 ≤ length d → (h.size ≡ 0 → ⊥)
+module _ (h : Header) (d : List ℕ) {lim : Limits} {used pooled : ℕ} {r : Result State Refusal} {t t' p : List ℕ} where
+  pub fixed_point_ends : (o s f q : ℕ) → Asked (is_leaf isFixedPoint) h d lim used pooled t p → 12 ≤ length d
       → (o ≡ bit_at 0 h.f0) × (o < 2) → (s ≡ bit_at 3 h.f0) × (s < 2) → f ≡ number_from (take 2 (drop 8 d)) → q ≡ number_from (take 2 (drop 10 d))
-      → t' ≡ sets t (used * 16) (1 ∷ h.size ∷ 0 ∷ 0 ∷ 0 ∷ o ∷ s ∷ f ∷ q ∷ 0 ∷ 0 ∷ 0 ∷ 0 ∷ 0 ∷ 0 ∷ 0 ∷ [])
-      → Ends h d lim used pooled t p (Ok (ended h 12 used pooled)) t' p
+      → EndsRow used h.class (1 ∷ h.size ∷ 0 ∷ 0 ∷ 0 ∷ o ∷ s ∷ f ∷ q ∷ 0 ∷ 0 ∷ 0 ∷ 0 ∷ 0 ∷ 0 ∷ 0 ∷ []) (ended h 12 used pooled) r t t'
+      → Ends h d lim used pooled t p r t' p
   unfolding rows leaf_row leaf_class leaf_pool columns_of row float_layout numbers_at
-  fixed_point_lands o s f q asked long z eo es ef eq et = block-lands fixed_points h d asked long z (rw (eo.0, es.0, ef, eq) at et)
+  fixed_point_ends o s f q asked long eo es ef eq et = block-ends fixed_points h d asked long r (rw (eo.0, es.0, ef, eq) at et)
 
-  pub floating_point_lands : (o f q el es ml ms x : ℕ) → Asked (is_leaf isFloatingPoint) h d lim used pooled t p → 20 ≤ length d → (h.size ≡ 0 → ⊥)
+  pub floating_point_ends : (o f q el es ml ms x : ℕ) → Asked (is_leaf isFloatingPoint) h d lim used pooled t p → 20 ≤ length d
       → (o ≡ float_order_of h.f0) × (o < 3) → f ≡ number_from (take 2 (drop 8 d)) → q ≡ number_from (take 2 (drop 10 d))
       → el ≡ get_or d 12 0 → es ≡ get_or d 13 0 → ml ≡ get_or d 14 0 → ms ≡ get_or d 15 0 → x ≡ number_from (take 4 (drop 16 d))
-      → t' ≡ sets t (used * 16) (2 ∷ h.size ∷ 0 ∷ 0 ∷ 0 ∷ o ∷ 0 ∷ f ∷ q ∷ el ∷ es ∷ ml ∷ ms ∷ x ∷ 0 ∷ 0 ∷ [])
-      → Ends h d lim used pooled t p (Ok (ended h 20 used pooled)) t' p
+      → EndsRow used h.class (2 ∷ h.size ∷ 0 ∷ 0 ∷ 0 ∷ o ∷ 0 ∷ f ∷ q ∷ el ∷ es ∷ ml ∷ ms ∷ x ∷ 0 ∷ 0 ∷ []) (ended h 20 used pooled) r t t'
+      → Ends h d lim used pooled t p r t' p
   unfolding rows leaf_row leaf_class leaf_pool columns_of row float_layout numbers_at
-  floating_point_lands o f q el es ml ms x asked long z eo ef eq a b c e ex et =
-      block-lands floating_points h d asked long z (rw (eo.0, ef, eq, a ∙ sym (one_byte 12 d), b ∙ sym (one_byte 13 d), c ∙ sym (one_byte 14 d), e ∙ sym (one_byte 15 d), ex) at et)
+  floating_point_ends o f q el es ml ms x asked long eo ef eq a b c e ex et =
+      block-ends floating_points h d asked long r (rw (eo.0, ef, eq, a ∙ sym (one_byte 12 d), b ∙ sym (one_byte 13 d), c ∙ sym (one_byte 14 d), e ∙ sym (one_byte 15 d), ex) at et)
 
-  pub time-lands : (o q : ℕ) → Asked (is_leaf isTime) h d lim used pooled t p → 10 ≤ length d → (h.size ≡ 0 → ⊥)
+  pub time-ends : (o q : ℕ) → Asked (is_leaf isTime) h d lim used pooled t p → 10 ≤ length d
       → (o ≡ bit_at 0 h.f0) × (o < 2) → q ≡ number_from (take 2 (drop 8 d))
-      → t' ≡ sets t (used * 16) (3 ∷ h.size ∷ 0 ∷ 0 ∷ 0 ∷ o ∷ 0 ∷ 0 ∷ q ∷ 0 ∷ 0 ∷ 0 ∷ 0 ∷ 0 ∷ 0 ∷ 0 ∷ [])
-      → Ends h d lim used pooled t p (Ok (ended h 10 used pooled)) t' p
+      → EndsRow used h.class (3 ∷ h.size ∷ 0 ∷ 0 ∷ 0 ∷ o ∷ 0 ∷ 0 ∷ q ∷ 0 ∷ 0 ∷ 0 ∷ 0 ∷ 0 ∷ 0 ∷ 0 ∷ []) (ended h 10 used pooled) r t t'
+      → Ends h d lim used pooled t p r t' p
   unfolding rows leaf_row leaf_class leaf_pool columns_of row float_layout numbers_at
-  time-lands o q asked long z eo eq et = block-lands times h d asked long z (rw (eo.0, eq) at et)
+  time-ends o q asked long eo eq et = block-ends times h d asked long r (rw (eo.0, eq) at et)
 
-  pub bit_field-lands : (o f q : ℕ) → Asked (is_leaf isBitField) h d lim used pooled t p → 12 ≤ length d → (h.size ≡ 0 → ⊥)
+  pub bit_field-ends : (o f q : ℕ) → Asked (is_leaf isBitField) h d lim used pooled t p → 12 ≤ length d
       → (o ≡ bit_at 0 h.f0) × (o < 2) → f ≡ number_from (take 2 (drop 8 d)) → q ≡ number_from (take 2 (drop 10 d))
-      → t' ≡ sets t (used * 16) (5 ∷ h.size ∷ 0 ∷ 0 ∷ 0 ∷ o ∷ 0 ∷ f ∷ q ∷ 0 ∷ 0 ∷ 0 ∷ 0 ∷ 0 ∷ 0 ∷ 0 ∷ [])
-      → Ends h d lim used pooled t p (Ok (ended h 12 used pooled)) t' p
+      → EndsRow used h.class (5 ∷ h.size ∷ 0 ∷ 0 ∷ 0 ∷ o ∷ 0 ∷ f ∷ q ∷ 0 ∷ 0 ∷ 0 ∷ 0 ∷ 0 ∷ 0 ∷ 0 ∷ []) (ended h 12 used pooled) r t t'
+      → Ends h d lim used pooled t p r t' p
   unfolding rows leaf_row leaf_class leaf_pool columns_of row float_layout numbers_at
-  bit_field-lands o f q asked long z eo ef eq et = block-lands bit_fields h d asked long z (rw (eo.0, ef, eq) at et)
+  bit_field-ends o f q asked long eo ef eq et = block-ends bit_fields h d asked long r (rw (eo.0, ef, eq) at et)
 
 -- ---- strings and references: codes alone
 
@@ -199,14 +202,11 @@ module _ (h : Header) (d : List ℕ) {lim : Limits} {used pooled : ℕ} {t p : L
         unfolding read_properties leaf_properties then require
         string-is = rw (← ea.0, ← ec.0, le-leb a 2 (omega arith), le-leb c 1 (omega arith))
 
-        pub string-zero : {t' p' : List ℕ} → h.size ≡ 0 → Ends h d lim used pooled t p (Err (ZeroSize h.class)) t' p'
-        string-zero z = leaf-zero h d asked _ (ended h 8 used pooled) string-is (string-leaf h pooled a c) z
-
-        pub string-lands : {t' : List ℕ} (x y : ℕ) → x ≡ a → y ≡ c → (h.size ≡ 0 → ⊥)
-            → t' ≡ sets t (used * 16) (4 ∷ h.size ∷ 0 ∷ 0 ∷ 0 ∷ x ∷ y ∷ 0 ∷ 0 ∷ 0 ∷ 0 ∷ 0 ∷ 0 ∷ 0 ∷ 0 ∷ 0 ∷ [])
-            → Ends h d lim used pooled t p (Ok (ended h 8 used pooled)) t' p
-        string-lands x y ex ey z et =
-            leaf-lands h d asked _ _ string-is (string-leaf h pooled a c) z refl refl (omega arith) asked.0.0.0.room (omega arith) (rw (ex, ey) at et) refl
+        pub string-ends : {r : Result State Refusal} {t' : List ℕ} (x y : ℕ) → x ≡ a → y ≡ c
+            → EndsRow used h.class (4 ∷ h.size ∷ 0 ∷ 0 ∷ 0 ∷ x ∷ y ∷ 0 ∷ 0 ∷ 0 ∷ 0 ∷ 0 ∷ 0 ∷ 0 ∷ 0 ∷ 0 ∷ []) (ended h 8 used pooled) r t t'
+            → Ends h d lim used pooled t p r t' p
+        string-ends {r} x y ex ey w =
+            leaf-ends h d asked _ 8 pooled string-is (string-leaf h pooled a c) (omega arith) asked.0.0.0.room (omega arith) refl r (rw (ex, ey) at w)
 
   module _ (c : ℕ) (asked : Asked (is_leaf isReference) h d lim used pooled t p) (ec : (c ≡ low_bits 4 h.f0) × (c < 16)) where
     pub reference-kind : {t' p' : List ℕ} → 1 < c → Ends h d lim used pooled t p (Err (BadReferenceKind c)) t' p'
@@ -219,14 +219,11 @@ module _ (h : Header) (d : List ℕ) {lim : Limits} {used pooled : ℕ} {t p : L
       unfolding read_properties leaf_properties then require
       reference-is = rw (← ec.0, le-leb c 1 (omega arith))
 
-      pub reference-zero : {t' p' : List ℕ} → h.size ≡ 0 → Ends h d lim used pooled t p (Err (ZeroSize h.class)) t' p'
-      reference-zero z = leaf-zero h d asked _ (ended h 8 used pooled) reference-is (reference-leaf h pooled c) z
-
-      pub reference-lands : {t' : List ℕ} (x : ℕ) → x ≡ c → (h.size ≡ 0 → ⊥)
-          → t' ≡ sets t (used * 16) (8 ∷ h.size ∷ 0 ∷ 0 ∷ 0 ∷ x ∷ 0 ∷ 0 ∷ 0 ∷ 0 ∷ 0 ∷ 0 ∷ 0 ∷ 0 ∷ 0 ∷ 0 ∷ [])
-          → Ends h d lim used pooled t p (Ok (ended h 8 used pooled)) t' p
-      reference-lands x ex z et =
-          leaf-lands h d asked _ _ reference-is (reference-leaf h pooled c) z refl refl (omega arith) asked.0.0.0.room (omega arith) (rw ex at et) refl
+      pub reference-ends : {r : Result State Refusal} {t' : List ℕ} (x : ℕ) → x ≡ c
+          → EndsRow used h.class (8 ∷ h.size ∷ 0 ∷ 0 ∷ 0 ∷ x ∷ 0 ∷ 0 ∷ 0 ∷ 0 ∷ 0 ∷ 0 ∷ 0 ∷ 0 ∷ 0 ∷ 0 ∷ []) (ended h 8 used pooled) r t t'
+          → Ends h d lim used pooled t p r t' p
+      reference-ends {r} x ex w =
+          leaf-ends h d asked _ 8 pooled reference-is (reference-leaf h pooled c) (omega arith) asked.0.0.0.room (omega arith) refl r (rw ex at w)
 
 -- ---- opaque: a tag, and its padding
 
@@ -267,15 +264,12 @@ module _ (h : Header) (d : List ℕ) {lim : Limits} {used pooled : ℕ} {t p : L
               skip-go (padding_to8 n) (8 + n) d (lim.rows - (used + 1)) (lim.pool - (pooled + n)) (length d),
             )
 
-        pub opaque-zero : {t' p' : List ℕ} → h.size ≡ 0 → Ends h d lim used pooled t p (Err (ZeroSize h.class)) t' p'
-        opaque-zero z = leaf-zero h d asked _ (ended h (8 + n + padding_to8 n) used (pooled + n)) opaque-is (opaque-leaf h pooled n d long) z
-
-        pub opaque-lands : {t' p' : List ℕ} (pad : ℕ) → (pad ≡ padding_to8 n) × (pad < 8) → (h.size ≡ 0 → ⊥) → p' ≡ sets p pooled (take n (drop 8 d))
-            → t' ≡ sets t (used * 16) (6 ∷ h.size ∷ pooled ∷ n ∷ 0 ∷ 0 ∷ 0 ∷ 0 ∷ 0 ∷ 0 ∷ 0 ∷ 0 ∷ 0 ∷ 0 ∷ 0 ∷ 0 ∷ [])
-            → Ends h d lim used pooled t p (Ok (ended h (8 + n + pad) used (pooled + n))) t' p'
-        opaque-lands pad e z ep et =
+        pub opaque-ends : {r : Result State Refusal} {t' p' : List ℕ} (pad : ℕ) → (pad ≡ padding_to8 n) × (pad < 8) → p' ≡ sets p pooled (take n (drop 8 d))
+            → EndsRow used h.class (6 ∷ h.size ∷ pooled ∷ n ∷ 0 ∷ 0 ∷ 0 ∷ 0 ∷ 0 ∷ 0 ∷ 0 ∷ 0 ∷ 0 ∷ 0 ∷ 0 ∷ 0 ∷ []) (ended h (8 + n + pad) used (pooled + n)) r t t'
+            → Ends h d lim used pooled t p r t' p'
+        opaque-ends {r} pad e ep w =
             let place = asked.0.0.0.room in
-            leaf-lands h d asked _ _ (rw e.0 opaque-is) (opaque-leaf h pooled n d long) z refl refl (omega (arith, length_part d 8 n long)) (omega arith) (omega arith) et ep
+            leaf-ends h d asked _ (8 + n + pad) (pooled + n) (rw e.0 opaque-is) (opaque-leaf h pooled n d long) (omega (arith, length_part d 8 n long)) (omega arith) (omega arith) ep r w
 
 -- ---- the class's number
 

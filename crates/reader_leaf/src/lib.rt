@@ -7,8 +7,8 @@ ghost use Rattle.format.specs.Table.{is_leaf, isFixedPoint, isFloatingPoint, isT
 ghost use Rattle.reading.specs.Contract.{run, Ready, AfterType, leaf_kind, read_leaf_of};
 
 use format::Header;
-use primitives::{bit, copy_bytes, float_order, high4, low4, padding_to_8, put_row, read_uint};
-use reading::{Limits, State};
+use primitives::{bit, copy_bytes, float_order, high4, low4, padding_to_8, read_uint};
+use reading::{Limits, State, end_row};
 use refusal::Refusal;
 
 fn read_fixed_point(
@@ -27,16 +27,14 @@ fn read_fixed_point(
     if data.len() < 12 {
         return Err(Refusal::Short(12, data.len()));
     }
-    if header.size == 0 {
-        return Err(Refusal::ZeroSize(header.class));
-    }
     let order = bit(header.f0, 0);
     let signed = bit(header.f0, 3);
     let offset = read_uint(data, 8, 2);
     let precision = read_uint(data, 10, 2);
-    put_row(
+    end_row(
         table,
         used,
+        header.class,
         [
             1,
             header.size,
@@ -55,13 +53,13 @@ fn read_fixed_point(
             0,
             0,
         ],
-    );
-    Ok(State {
-        at: 12,
-        rows: used + 1,
-        pooled: pooled,
-        size: header.size,
-    })
+        State {
+            at: 12,
+            rows: used + 1,
+            pooled: pooled,
+            size: header.size,
+        },
+    )
 }
 
 fn read_floating_point(
@@ -80,9 +78,6 @@ fn read_floating_point(
     if data.len() < 20 {
         return Err(Refusal::Short(20, data.len()));
     }
-    if header.size == 0 {
-        return Err(Refusal::ZeroSize(header.class));
-    }
     let order = float_order(header.f0);
     let offset = read_uint(data, 8, 2);
     let precision = read_uint(data, 10, 2);
@@ -91,9 +86,10 @@ fn read_floating_point(
     let mantissa_location = u32::from(data[14]);
     let mantissa_size = u32::from(data[15]);
     let bias = read_uint(data, 16, 4);
-    put_row(
+    end_row(
         table,
         used,
+        header.class,
         [
             2,
             header.size,
@@ -112,13 +108,13 @@ fn read_floating_point(
             0,
             0,
         ],
-    );
-    Ok(State {
-        at: 20,
-        rows: used + 1,
-        pooled: pooled,
-        size: header.size,
-    })
+        State {
+            at: 20,
+            rows: used + 1,
+            pooled: pooled,
+            size: header.size,
+        },
+    )
 }
 
 fn read_time(
@@ -137,14 +133,12 @@ fn read_time(
     if data.len() < 10 {
         return Err(Refusal::Short(10, data.len()));
     }
-    if header.size == 0 {
-        return Err(Refusal::ZeroSize(header.class));
-    }
     let order = bit(header.f0, 0);
     let precision = read_uint(data, 8, 2);
-    put_row(
+    end_row(
         table,
         used,
+        header.class,
         [
             3,
             header.size,
@@ -163,13 +157,13 @@ fn read_time(
             0,
             0,
         ],
-    );
-    Ok(State {
-        at: 10,
-        rows: used + 1,
-        pooled: pooled,
-        size: header.size,
-    })
+        State {
+            at: 10,
+            rows: used + 1,
+            pooled: pooled,
+            size: header.size,
+        },
+    )
 }
 
 fn read_string(
@@ -199,12 +193,10 @@ fn read_string(
             return Err(Refusal::BadCharset(charset));
         }
     }
-    if header.size == 0 {
-        return Err(Refusal::ZeroSize(header.class));
-    }
-    put_row(
+    end_row(
         table,
         used,
+        header.class,
         [
             4,
             header.size,
@@ -223,13 +215,13 @@ fn read_string(
             0,
             0,
         ],
-    );
-    Ok(State {
-        at: 8,
-        rows: used + 1,
-        pooled: pooled,
-        size: header.size,
-    })
+        State {
+            at: 8,
+            rows: used + 1,
+            pooled: pooled,
+            size: header.size,
+        },
+    )
 }
 
 fn read_bit_field(
@@ -248,15 +240,13 @@ fn read_bit_field(
     if data.len() < 12 {
         return Err(Refusal::Short(12, data.len()));
     }
-    if header.size == 0 {
-        return Err(Refusal::ZeroSize(header.class));
-    }
     let order = bit(header.f0, 0);
     let offset = read_uint(data, 8, 2);
     let precision = read_uint(data, 10, 2);
-    put_row(
+    end_row(
         table,
         used,
+        header.class,
         [
             5,
             header.size,
@@ -275,13 +265,13 @@ fn read_bit_field(
             0,
             0,
         ],
-    );
-    Ok(State {
-        at: 12,
-        rows: used + 1,
-        pooled: pooled,
-        size: header.size,
-    })
+        State {
+            at: 12,
+            rows: used + 1,
+            pooled: pooled,
+            size: header.size,
+        },
+    )
 }
 
 // The tag's padding is counted, and need not be there.
@@ -305,13 +295,11 @@ fn read_opaque(
     if limits.pool - pooled < n {
         return Err(Refusal::PoolFull);
     }
-    if header.size == 0 {
-        return Err(Refusal::ZeroSize(header.class));
-    }
     copy_bytes(data, 8, n, pool, pooled);
-    put_row(
+    end_row(
         table,
         used,
+        header.class,
         [
             6,
             header.size,
@@ -330,13 +318,13 @@ fn read_opaque(
             0,
             0,
         ],
-    );
-    Ok(State {
-        at: 8 + n + padding_to_8(n),
-        rows: used + 1,
-        pooled: pooled + n,
-        size: header.size,
-    })
+        State {
+            at: 8 + n + padding_to_8(n),
+            rows: used + 1,
+            pooled: pooled + n,
+            size: header.size,
+        },
+    )
 }
 
 fn read_reference(
@@ -359,12 +347,10 @@ fn read_reference(
             return Err(Refusal::BadReferenceKind(kind));
         }
     }
-    if header.size == 0 {
-        return Err(Refusal::ZeroSize(header.class));
-    }
-    put_row(
+    end_row(
         table,
         used,
+        header.class,
         [
             8,
             header.size,
@@ -383,13 +369,13 @@ fn read_reference(
             0,
             0,
         ],
-    );
-    Ok(State {
-        at: 8,
-        rows: used + 1,
-        pooled: pooled,
-        size: header.size,
-    })
+        State {
+            at: 8,
+            rows: used + 1,
+            pooled: pooled,
+            size: header.size,
+        },
+    )
 }
 
 // A type with no type inside, behind its header.

@@ -9,13 +9,14 @@ use lib.Seq.{sets, length-sets, set_comm}
 use Rattle.std.specs.Result.{IsErr, IsErrAnd}
 use Rattle.std.proofs.lemmas.Result.{err_from_is_err_and}
 use Rattle.refusal.specs.declared.Refusal.{Refusal}
+use Rattle.refusal.specs.declared.Refusal.TheVariants.{ZeroSize}
 use Rattle.format.specs.Datatype.{Datatype, type_size_of, row_count, pool_bytes}
 use Rattle.format.specs.Reading.{Answer, refused}
 use Rattle.format.specs.Table.{rows}
 use Rattle.format.proofs.Lists.{part-all}
 use Rattle.reading.specs.declared.Limits.{Limits}
 use Rattle.reading.specs.declared.State.{State}
-use Rattle.reading.specs.Contract.{here, Ready, Landed, After}
+use Rattle.reading.specs.Contract.{here, Ready, Landed, After, EndsRow}
 
 -- a property of what is returned, by cases: a result, or a refusal
 module _ {A : Type 0} (P : A → Type 0) where
@@ -72,6 +73,12 @@ one-row tree w b {used = used} {pooled = pooled} {s = s} {t = t} {p = p} is ew e
       ready = ready_at s.rows s.pooled ready (omega arith) room (ap length et ∙ length-sets t (used * 16) w) (ap length ep ∙ length-sets p pooled b);
       near = near;
     }
+
+-- what holds of both ways out of a type's own row holds of the answer
+pub by_row : (P : Result State Refusal → Type 0) {used class : ℕ} {words : List ℕ} {end : State} {t t' : List ℕ} (r : Result State Refusal) → EndsRow used class words end r t t'
+    → (0 < end.size → t' ≡ sets t (used * 16) words → P (Ok end)) → (end.size ≡ 0 → P (Err (ZeroSize class))) → P r
+by_row P (Ok s) x f g = let e = x.done s refl in rw e.0 (f e.1 e.2)
+by_row P (Err k) x f g = let e = x.denied k refl in rw e.0 (g e.1)
 
 -- ---- facts in the form in which the code has or needs them
 

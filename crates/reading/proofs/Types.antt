@@ -8,7 +8,7 @@ use native.Mathlib.Omega.{arith}
 use lib.ListN.{length, take, drop}
 use lib.Seq.{sets, length-sets}
 use Rattle.refusal.specs.declared.Refusal.{Refusal}
-use Rattle.refusal.specs.declared.Refusal.TheVariants.{TooDeep, ZeroSize}
+use Rattle.refusal.specs.declared.Refusal.TheVariants.{TooDeep}
 use Rattle.format.specs.declared.Header.{Header}
 use Rattle.format.specs.Datatype.{Datatype, compound, Members, member_count_of, row_count, pool_bytes, type_size_of}
 use Rattle.format.specs.Reading.{Answer, refused, then, count_of, read_members_of, read_type_of, sized, class_kind}
@@ -21,26 +21,10 @@ use Rattle.reading.specs.declared.Limits.{Limits}
 use Rattle.reading.specs.declared.State.{State}
 use Rattle.reading.specs.declared.Opened.{Opened}
 use Rattle.reading.specs.declared.Opened.TheVariants.{Leaf, Compound, Based}
-use Rattle.reading.specs.Contract.{run, here, Ready, AfterType, AfterMembers, Heads, Opens, leaf_kind, read_leaf_of, read_compound, read_based, behind, dimensions_of_lem, OpensBased, BaseRead, Ended, Ends}
-use Rattle.reading.specs.Members.{CompoundEnds}
-use Rattle.reading.proofs.Contracts.{same, refuses, ready_at, sets-before, by_done, by_refused, not_done, not-refused}
+use Rattle.reading.specs.Contract.{run, here, Ready, AfterType, AfterMembers, Heads, Opens, leaf_kind, read_leaf_of, read_compound, read_based, behind, dimensions_of_lem, OpensBased, BaseRead, Ended, Ends, EndsRow}
+use Rattle.reading.proofs.Contracts.{same, refuses, ready_at, sets-before}
 use Rattle.reading.proofs.Members.{LandedType}
 use Rattle.reading.proofs.Steps.{type-deep, sized_no, sized-go, sized-zero, inner-go, inner_no}
-
--- ---- a compound's own row
-
-module _ {used : ℕ} {h : Header} {count : ℕ} {inner : State} {t : List ℕ} where
-  pub compound_empty : h.size ≡ 0 → CompoundEnds used h count inner (Err (ZeroSize h.class)) t t
-  compound_empty z =
-      record { done = not_done _; denied = by_refused (λ e. (e ≡ ZeroSize h.class) × (h.size ≡ 0)) (refl, z) }
-
-  pub compound-stored : {t' : List ℕ} → (h.size ≡ 0 → ⊥) → t' ≡ sets t (used * 16) (compound_row h.size count)
-      → CompoundEnds used h count inner (Ok (record { at = inner.at; rows = inner.rows; pooled = inner.pooled; size = h.size })) t t'
-  compound-stored {t'} z e =
-      record {
-        done = by_done (λ s. (s ≡ record { at = inner.at; rows = inner.rows; pooled = inner.pooled; size = h.size }) × (0 < h.size) × (t' ≡ sets t (used * 16) (compound_row h.size count))) (refl, omega arith, e);
-        denied = not-refused _;
-      }
 
 -- ---- what is known of an opened type, whatever the levels left
 
@@ -147,7 +131,7 @@ module _ {d : List ℕ} {lim : Limits} {used pooled levels : ℕ} where
             refuses (at_level more w ((w.compound v (ap Ok q)).is (levels - 1) ∙ sized_no h (read_compound (read_type_of lim.version (levels - 1)) h v) _ _ _ _ _ e (compound_no e (m.denied e k))))
 
         module _ {s : State} (k : r ≡ Ok s) where
-          module _ {y : Result State Refusal} {t₃ : List ℕ} (c : CompoundEnds used h count s y t₂ t₃) where
+          module _ {y : Result State Refusal} {t₃ : List ℕ} (c : EndsRow used h.class (compound_row h.size count) (record { at = s.at; rows = s.rows; pooled = s.pooled; size = h.size }) y t₂ t₃) where
             compound_landed : (z : State) → y ≡ Ok z → LandedType (run (read_type_of lim.version levels) d lim 0 used pooled) d lim used pooled z t t₃ p p₂
             unfolding type_size_of rows pool_bytes row_count
             compound_landed z e =

@@ -2,7 +2,7 @@
 use Rattle.std.specs.Prelude.{◌≡◌, Bool, true, false, List, [], ◌∷◌, ◌++◌, ℕ, suc, ◌+◌, ◌-◌, ◌*◌, ◌≤◌, ◌<◌, eqb, length, take, drop, Err, Ok, Result}
 use Rattle.std.proofs.lemmas.List.Edits.{sets}
 use Rattle.refusal.specs.declared.Refusal.{Refusal}
-use Rattle.refusal.specs.declared.Refusal.TheVariants.{TooDeep}
+use Rattle.refusal.specs.declared.Refusal.TheVariants.{TooDeep, ZeroSize}
 use Rattle.format.specs.declared.Header.{Header}
 use Rattle.format.specs.Bits.{low_bits, high_bits}
 use Rattle.format.specs.Bytes.{dimensions_from}
@@ -56,6 +56,11 @@ AfterType = After rows pool_bytes row_count (λ t s. (s.size ≡ type_size_of t)
 -- so many members
 abbrev pub AfterMembers : (count : ℕ) → Answer Members → List ℕ → Limits → (used pooled : ℕ) → Result State Refusal → (t t' p p' : List ℕ) → Type 0
 AfterMembers k = After member_rows member_pool member_row_count (λ ms s. member_count_of ms ≡ k)
+
+-- a type's own row is stored and ends it, or its size is 0
+pub record EndsRow (used class : ℕ) (words : List ℕ) (end : State) (r : Result State Refusal) (t t' : List ℕ) : Type 0 where
+  pub done : (s : State) → r ≡ Ok s → (s ≡ end) × (0 < end.size) × (t' ≡ sets t (used * 16) words)
+  pub denied : (e : Refusal) → r ≡ Err e → (e ≡ ZeroSize class) × (end.size ≡ 0) × (t' ≡ t)
 
 -- ---- before a nested message
 

@@ -1,20 +1,11 @@
--- A compound's members and its own row.
-use Rattle.std.specs.Prelude.{◌≡◌, List, ℕ, ◌+◌, ◌-◌, ◌*◌, ◌≤◌, ◌<◌, length, Err, Ok, Result}
+-- A compound's members.
+use Rattle.std.specs.Prelude.{◌≡◌, List, ℕ, ◌+◌, ◌-◌, ◌*◌, ◌≤◌, ◌<◌, length}
 use Rattle.std.proofs.lemmas.List.Edits.{sets}
-use Rattle.refusal.specs.declared.Refusal.{Refusal}
-use Rattle.refusal.specs.declared.Refusal.TheVariants.{ZeroSize}
-use Rattle.format.specs.declared.Header.{Header}
 use Rattle.format.specs.Datatype.{Members, no_members, member, member_count_of, member_row_count, member_pool, Datatype}
 use Rattle.format.specs.Reading.{Reader, got, then, read_members_of}
-use Rattle.format.specs.Table.{compound_row, member_rows}
+use Rattle.format.specs.Table.{member_rows}
 use Rattle.reading.specs.declared.Limits.{Limits}
-use Rattle.reading.specs.declared.State.{State}
 use Rattle.reading.specs.Contract.{run, Ready}
-
--- a compound's own row is stored, or its size is 0
-pub record CompoundEnds (used : ℕ) (h : Header) (count : ℕ) (inner : State) (r : Result State Refusal) (t t' : List ℕ) : Type 0 where
-  pub done : (s : State) → r ≡ Ok s → (s ≡ record { at = inner.at; rows = inner.rows; pooled = inner.pooled; size = h.size }) × (0 < h.size) × (t' ≡ sets t (used * 16) (compound_row h.size count))
-  pub denied : (e : Refusal) → r ≡ Err e → (e ≡ ZeroSize h.class) × (h.size ≡ 0)
 
 -- members behind members
 unfoldable pub join_members : Members → Members → Members

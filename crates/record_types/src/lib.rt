@@ -1,7 +1,24 @@
-// For the programs that run cases of blocks of records: messages of the types that the records are of, and a type read behind the label of a case.
+// For the programs that run cases: messages of types that several cases are about, and a type read behind the label of a case.
 #![tactic(auto)]
 
 use show::{refusal_line, text};
+
+// Document 01's U1: a fixed type of a byte.
+pub const U1: [u8; 12] = *b"\x10\x00\x00\x00\x01\x00\x00\x00\x00\x00\x08\x00";
+
+// Document 01's R: an object reference of 8 bytes.
+pub const R: [u8; 8] = *b"\x17\x00\x00\x00\x08\x00\x00\x00";
+
+// An array of two R.
+pub const TWO_R: [u8; 21] =
+    *b"\x3a\x00\x00\x00\x00\x00\x00\x00\x01\x02\x00\x00\x00\x17\x00\x00\x00\x08\x00\x00\x00";
+
+// A region reference of 12 bytes.
+pub const REGION: [u8; 8] = *b"\x17\x01\x00\x00\x0c\x00\x00\x00";
+
+// A float of 4 bytes, as IEEE 754 has it.
+pub const FLOAT: [u8; 20] =
+    *b"\x11\x20\x1f\x00\x04\x00\x00\x00\x00\x00\x20\x00\x17\x08\x00\x17\x7f\x00\x00\x00";
 
 // Document 01's P: a U1, a byte that no field owns, and a U2.
 pub const P: [u8; 38] =

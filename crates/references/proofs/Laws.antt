@@ -12,7 +12,6 @@ use lib.ListN.{length, get_or, take, drop, set, length-take, length-drop}
 use lib.Seq.{sets, drop-cons, take_all}
 use lib.Dec.{leb}
 use mir.Syntax.{w64}
-use mir.Val.{Fits}
 use borrow.Author.Tests.{lt-ltb, le-ltb, le-leb, lt-leb}
 use Rattle.refusal.specs.declared.Refusal.{Refusal}
 use Rattle.refusal.specs.declared.Refusal.TheVariants.{SlotOutside, NoRoom}
@@ -72,9 +71,6 @@ eight-at s block place r q e h =
 module _ (start : ℕ) (ss : List ℕ) (m i : ℕ) (inside : (j : ℕ) → j < length ss → start + get_or ss j 0 + 8 ≤ m) (h : i < length ss) where
   pub slot_lies : start + get_or ss i 0 + 8 ≤ m
   slot_lies = inside i h
-
-  pub slot-fits : m < 18446744073709551616 → Fits w64 (start + get_or ss i 0)
-  slot-fits k = record { fits = omega (arith, slot_lies) }
 
 module _ (l l₁ : List ℕ) (at start : ℕ) (ss : List ℕ) (i : ℕ) (h : i < length ss) where
   pub place-more : l₁ ≡ sets l at (take i (shifted start ss)) → set l₁ (at + i) (start + get_or ss i 0) ≡ sets l at (take (i + 1) (shifted start ss))
@@ -145,9 +141,6 @@ all-records l l₁ m m₁ size ss block r n h e g =
 pub record_within : (r n s m : ℕ) → r < n → n * s ≤ m → r * s + s ≤ m
 record_within r n s m h g = let p : suc r * s ≤ n * s = mul-le-mul_right s h in omega (arith, suc-mul r s)
 
-pub record_fits : (r n s m : ℕ) → r < n → n * s ≤ m → m < 18446744073709551616 → Fits w64 (r * s)
-record_fits r n s m h g k = record { fits = omega (arith, record_within r n s m h g) }
-
 -- the same of a slice whose length has not changed
 pub record_room : (r n s m m' : ℕ) → r < n → n * s ≤ m → m' ≡ m → r * s + s ≤ m'
 record_room r n s m m' h g e = omega (arith, record_within r n s m h g)
@@ -157,10 +150,6 @@ pub slot_in_block : (r n size m : ℕ) (ss : List ℕ) → r < n → n * size �
 slot_in_block r n size m ss h g o i k = omega (arith, record_within r n size m h g, slot-inside size ss o i k)
 
 -- ---- the ways out of `stored_object_references`
-
--- what `store_records` requires of the slots
-pub none-outside : (size : ℕ) (ss : List ℕ) (flag : Bool) → flag ≡ some_outside_of size ss → flag ≡ false → some_outside_of size ss ≡ false
-none-outside size ss flag o f = sym o ∙ f
 
 refused : (block ss p v : List ℕ) (n : ℕ) (e : Refusal) → referencing block n ss (min (length p) (length v)) ≡ refuses e → ReferencesAre block n ss (Err e) p p v v
 unfolding places_after values_after

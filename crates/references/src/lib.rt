@@ -9,7 +9,7 @@ ghost use Rattle.references.specs.References.{ReferencesAre};
 
 use refusal::Refusal;
 
-// Whether a slot + 8 exceeds the size.
+// Whether a slot + 8 exceeds the size. A `for`, since with `any` it is not proved.
 fn some_outside(slots: &[u64], size: u64) -> bool
     ensures { result ≡ some_outside_of size slots.now }
 {

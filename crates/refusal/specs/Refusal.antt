@@ -1,5 +1,5 @@
 -- Document 01, "The numbered refusals": the number and the values of each.
-use Rattle.std.specs.Prelude.{ℕ, List, [], ◌∷◌, length, get_or, Result, Ok, Err}
+use Rattle.std.specs.Prelude.{ℕ, List, [], ◌∷◌, slice_get, Result, Ok, Err}
 use Rattle.refusal.specs.declared.Refusal.{Refusal}
 use Rattle.refusal.specs.declared.Refusal.TheVariants.{BadTable, TooDeep, TooMany, Short, TooNew, BadClass, BadVersion, BadPadding, BadCharset, BadReferenceKind, PoolFull, ZeroSize, NoSuchEdition, Unstorable, NotInEdition, OutsideRecord, HeapHeld, WrongLength, Unmapped, SlotOutside, NoRoom}
 use Rattle.refusal.specs.declared.RefusalValues.{RefusalValues}
@@ -52,9 +52,9 @@ values_of Unmapped = []
 values_of SlotOutside = []
 values_of (NoRoom needed) = needed ∷ []
 
--- how many values there are, and 0 for each that is not there
+-- the first and the second of the values, where there are so many
 abbrev pub values_from : Refusal → RefusalValues
-values_from e = record { count = length (values_of e); first = get_or (values_of e) 0 0; second = get_or (values_of e) 1 0 }
+values_from e = record { first = slice_get (values_of e) 0; second = slice_get (values_of e) 1 }
 
 -- the number of an answer: 0 for a result, or the refusal's; and its values
 unfoldable pub answer_number : {A : Type 0} → Result A Refusal → ℕ

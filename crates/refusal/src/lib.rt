@@ -1,7 +1,7 @@
 // The refusals of document 01, with their numbers and values.
 #![tactic(auto)]
 
-ghost use Rattle.std.specs.Prelude.{◌≡◌};
+ghost use Rattle.std.specs.Prelude.{◌≡◌, Some, None};
 ghost use Rattle.refusal.specs.Refusal.{number_of, values_from};
 
 // Why a call gives no result. The comment names the Rust's `FormatError` that the case stands for, where there is one.
@@ -51,12 +51,11 @@ pub enum Refusal {
     NoRoom(u64),
 }
 
-// The values of a refusal: how many there are, and 0 for each that is not there.
+// The values of a refusal.
 #[derive(Clone, Copy)]
 pub struct RefusalValues {
-    pub count: u32,
-    pub first: u64,
-    pub second: u64,
+    pub first: Option<u64>,
+    pub second: Option<u64>,
 }
 
 // Document 01's number of a refusal.
@@ -94,13 +93,13 @@ pub fn values(refusal: Refusal) -> RefusalValues
 {
     match refusal {
         Refusal::Short(expected, available) => two(expected as u64, available as u64),
-        Refusal::TooNew(version) => one(version as u64),
-        Refusal::BadClass(class) => one(class as u64),
-        Refusal::BadVersion(class, version) => two(class as u64, version as u64),
-        Refusal::BadPadding(code) => one(code as u64),
-        Refusal::BadCharset(code) => one(code as u64),
-        Refusal::BadReferenceKind(code) => one(code as u64),
-        Refusal::ZeroSize(class) => one(class as u64),
+        Refusal::TooNew(version) => one(u64::from(version)),
+        Refusal::BadClass(class) => one(u64::from(class)),
+        Refusal::BadVersion(class, version) => two(u64::from(class), u64::from(version)),
+        Refusal::BadPadding(code) => one(u64::from(code)),
+        Refusal::BadCharset(code) => one(u64::from(code)),
+        Refusal::BadReferenceKind(code) => one(u64::from(code)),
+        Refusal::ZeroSize(class) => one(u64::from(class)),
         Refusal::NoRoom(needed) => one(needed),
         Refusal::BadTable => none(),
         Refusal::TooDeep => none(),
@@ -118,31 +117,28 @@ pub fn values(refusal: Refusal) -> RefusalValues
 }
 
 fn none() -> RefusalValues
-    ensures { result ≡ record { count = 0; first = 0; second = 0 } }
+    ensures { result ≡ record { first = None; second = None } }
 {
     RefusalValues {
-        count: 0,
-        first: 0,
-        second: 0,
+        first: None,
+        second: None,
     }
 }
 
 fn one(first: u64) -> RefusalValues
-    ensures { result ≡ record { count = 1; first = first; second = 0 } }
+    ensures { result ≡ record { first = Some first; second = None } }
 {
     RefusalValues {
-        count: 1,
-        first: first,
-        second: 0,
+        first: Some(first),
+        second: None,
     }
 }
 
 fn two(first: u64, second: u64) -> RefusalValues
-    ensures { result ≡ record { count = 2; first = first; second = second } }
+    ensures { result ≡ record { first = Some first; second = Some second } }
 {
     RefusalValues {
-        count: 2,
-        first: first,
-        second: second,
+        first: Some(first),
+        second: Some(second),
     }
 }

@@ -51,8 +51,8 @@ fn is_answered(got: Result<usize, Refusal>, answer: Answer) -> bool {
             let values = refusal::values(e);
             Answer {
                 number: refusal::number(e),
-                first: values.first,
-                second: values.second,
+                first: values.first.unwrap_or(0),
+                second: values.second.unwrap_or(0),
             }
         }
     };

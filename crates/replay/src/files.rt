@@ -16,7 +16,7 @@ fn entries(name: &[u8], bytes: &[u8]) {
     let mut rest = Rest { bytes };
     let mut count: u64 = 0;
     let mut lines: u64 = 0;
-    // No `for`: an entry says itself how long it is.
+    // A `while`, since each entry says how long it is.
     while !rest.bytes.is_empty() && lines < 10 {
         count += 1;
         let Some(entry) = rest.entry() else {

@@ -91,9 +91,9 @@ module _ (table pool : List ℕ) (edition limit : ℕ) (buffer t p : List ℕ) w
         }
 
     -- what was written is read, or refused
-    pub read_back : Back table pool edition limit r buffer buffer' t t' p p'
+    answered : Back table pool edition limit r buffer buffer' t t' p p'
     unfolding answer_of output_after table_of pool_of answer_number answer_values
-    read_back =
+    answered =
         record {
           refused = λ e g. absurd (went e g);
           written = λ m g.
@@ -128,3 +128,6 @@ module _ (table pool : List ℕ) (edition limit : ℕ) (buffer t p : List ℕ) w
               table_is = x.table_is ∙ ap (padded (length t)) (sym (front-rows o));
               pool-is = x.pool-is ∙ ap (padded (length p)) (sym (front-pool o));
             }
+
+    pub read_back : {x : Result ℕ Refusal} → r ≡ x → Back table pool edition limit x buffer buffer' t t' p p'
+    read_back i = rw i at answered

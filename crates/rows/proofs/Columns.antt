@@ -7,8 +7,6 @@ use native.Mathlib.Omega.{arith}
 use native.Mathlib.Nat.{mul-one, mul-le-mul_left}
 use lib.ListN.{length, get_or}
 use lib.Dec.{ltb, eqb}
-use mir.Syntax.{w64}
-use mir.Val.{Fits}
 use borrow.Author.Tests.{eq-eqb}
 use Rattle.format.specs.Bytes.{all_zero}
 use Rattle.format.specs.Table.{word_at, row, compound_row, enumeration_row, variable_length_row, array_row, member_row, enum_member_row, same_words, isUnknown, kind_of}
@@ -148,9 +146,3 @@ module _ (table pool : List ℕ) (r p : ℕ) where
 -- a piece's length in bytes and the place behind it do not wrap
 pub product_small : (n width : ℕ) → n < 4294967296 → width ≤ 4 → n * width ≤ 17179869180
 product_small n width h k = let a : n * width ≤ n * 4 = mul-le-mul_left n k in omega arith
-
-pub product-fits : (n width : ℕ) → n < 4294967296 → width ≤ 4 → Fits w64 (n * width)
-product-fits n width h k = let a = product_small n width h k in record { fits = omega arith }
-
-pub behind-fits : (place x n width : ℕ) → x ≡ place → x < 4294967296 → n < 4294967296 → width ≤ 4 → Fits w64 (place + n * width)
-behind-fits place x n width e b h k = let a = product_small n width h k in record { fits = omega arith }

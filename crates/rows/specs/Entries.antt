@@ -57,7 +57,7 @@ enum_member_at_of table pool r p =
     then_some (row_is_of table r (enum_member_row p (word_at table r length_column) (word_at table r value_length_column)) && leb (p + word_at table r length_column) (length pool))
     (member_in table r value_length_column)
 
--- a row that was known lies in the table, and its piece in the pool
+-- an entry's piece, at p, lies in a pool of so many bytes; a leaf's may be empty, and then begins anywhere
 unfoldable pub PieceInside : Entry → (bytes p : ℕ) → Type 0
 PieceInside (Leaf c n l x) bytes p = p + l ≤ max bytes p
 PieceInside (Compound n k) bytes p = Unit {0}
@@ -65,6 +65,7 @@ PieceInside (Enumeration n k) bytes p = Unit {0}
 PieceInside (VariableLength i a c) bytes p = Unit {0}
 PieceInside (Array k) bytes p = p + k * 4 ≤ bytes
 
+-- the row of an entry or a member lies in the table, and its piece in the pool
 unfoldable pub EntryInside : Option Entry → (words bytes r p : ℕ) → Type 0
 EntryInside (Some e) words bytes r p = (r * 16 + 16 ≤ words) × PieceInside e bytes p
 EntryInside None words bytes r p = Unit {0}

@@ -58,11 +58,11 @@ pub fn shown_text(s: &[u8], count: usize) {
 pub fn refusal_line(e: Refusal) {
     let values = refusal::values(e);
     out!("refused {}", refusal::number(e));
-    if values.count >= 1 {
-        out!(" {}", values.first);
+    if let Some(first) = values.first {
+        out!(" {first}");
     }
-    if values.count >= 2 {
-        out!(" {}", values.second);
+    if let Some(second) = values.second {
+        out!(" {second}");
     }
     out!("\n");
 }

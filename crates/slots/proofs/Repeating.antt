@@ -1,5 +1,5 @@
 -- An array's further entries: each slot is a stride more than that of the entry before it.
-use Rattle.std.proofs.Common.{◌≡◌, ℕ, zero, suc, ◌+◌, ◌-◌, ◌*◌, ◌/◌, ◌%◌, ◌^◌, ◌<◌, ◌≤◌, min, max, List, [], ◌∷◌, ◌++◌, length, get_or, set, sym, refl, ap, ◌∙◌, append_assoc, append-nil, add-zero, mul-le-mul_right, mod-eq_of_lt, mul_comm, mul-le-mul, suc-add, mul-le-mul_left, one-mul, le-div_iff_mul-le, zero-add, mul-one, mul-add, le-mul_of_pos_right, add-one, arith, length-append, length-set, get_or-set_other, get_or-set_same}
+use Rattle.std.proofs.Common.{◌≡◌, ℕ, zero, suc, ◌+◌, ◌-◌, ◌*◌, ◌/◌, ◌%◌, ◌^◌, ◌<◌, ◌≤◌, min, max, List, [], ◌∷◌, ◌++◌, length, get_or, set, sym, refl, ap, ◌∙◌, append_assoc, append-nil, add-zero, mul-le-mul_right, mod-eq_of_lt, mul_comm, suc-add, mul-le-mul_left, one-mul, le-div_iff_mul-le, zero-add, mul-one, mul-add, le-mul_of_pos_right, add-one, arith, length-append, length-set, get_or-set_other, get_or-set_same}
 use lib.Seq.{sets, length-sets}
 use Rattle.format.specs.Slots.{shifted, entries}
 use Rattle.format.proofs.Slots.{length-shifted}
@@ -16,9 +16,6 @@ pub record Moving (stride n from end : ℕ) (out₀ : List ℕ) (k : ℕ) (out :
   pub goes : moved_on stride n k (end - k) out ≡ moved_on stride n from (end - from) out₀
 
 module _ (stride n from end : ℕ) (out₀ : List ℕ) where
-  pub moving_start : end ≤ length out₀ → n ≤ from → Moving stride n from end out₀ from out₀
-  moving_start h b = record { same = refl; fits = h; behind = b; goes = refl }
-
   module _ (k : ℕ) (out : List ℕ) (inv : Moving stride n from end out₀ k out) where
     pub moving_next : {v : ℕ} → k < end → v ≡ (get_or out (k - n) 0 + stride) % 2 ^ 64 → Moving stride n from end out₀ (k + 1) (set out k v)
     unfolding moved_on
@@ -193,18 +190,6 @@ module _ (stride count at next : ℕ) (out : List ℕ) where
           let l : done + more ≤ count = omega arith in
           let g : (next - at) * (done + more) ≤ (next - at) * count = mul-le-mul_left (next - at) l in
           omega (arith, inv.room, inv.reached, inv.same, mul-add (next - at) done more)
-
-      pub doubling_product : length out < 18446744073709551616 → (next - at) * more < 18446744073709551616
-      doubling_product h = omega (arith, doubling_room, inv.same)
-
-      pub doubling_sum : length out < 18446744073709551616 → k + (next - at) * more < 18446744073709551616
-      doubling_sum h = omega (arith, doubling_room, inv.same)
-
-      pub doubling_by : count ≤ 4294967296 → stride < 4294967296 → done * stride < 18446744073709551616
-      doubling_by h i =
-          let a : done ≤ 4294967296 = omega arith in
-          let b : stride ≤ 4294967295 = omega arith in
-          omega (arith, mul-le-mul a b)
 
       pub doubling_next : (out'' : List ℕ) {wide : ℕ} → at < next → wide ≡ stride → out'' ≡ moved_on (done * wide) (k - at) k (k + (next - at) * more - k) out' → length out'' ≡ length out'
           → Doubling stride count at next out (done + more) (k + (next - at) * more) out''

@@ -1,12 +1,11 @@
 -- The type at the end of a path, by its row, which is not tested again.
-use Rattle.std.proofs.Common.{◌≡◌, ℕ, suc, ◌+◌, ◌-◌, ◌*◌, ◌<◌, ◌≤◌, List, length, sym, refl, ◌∙◌, arith, w64, Fits}
+use Rattle.std.proofs.Common.{◌≡◌, ℕ, suc, ◌-◌, ◌≤◌, List, sym, ◌∙◌, arith}
 use Rattle.format.specs.Datatype.{Datatype}
 use Rattle.format.specs.Table.{Found, bad, type_at}
-use Rattle.std.specs.Prelude.{Option, Some}
+use Rattle.std.specs.Prelude.{Option}
 use Rattle.rows.specs.Entries.{entry_at, from_entry, RowSays}
 use Rattle.rows.specs.declared.Entry.{Entry}
-use Rattle.rows.specs.declared.Entry.TheVariants.{Array}
-use Rattle.rows.proofs.Known.{claim_of-type, says-row, says-next}
+use Rattle.rows.proofs.Known.{claim_of-type}
 
 -- a path of so many levels leaves others
 level : (depth : ℕ) → depth ≤ 32 → 33 - depth ≡ suc (32 - depth)
@@ -23,11 +22,3 @@ pub by_row : (table pool : List ℕ) (depth row : ℕ) {e : Option Entry} → de
     → (f ≡ entry_at table pool row p → C (from_entry (type_at (32 - depth) table pool) table pool row p f)) → C (type_at (33 - depth) table pool row p)
 by_row table pool depth row {e = e} h s C n p i v =
     rw (level depth h) (claim_of-type table pool row p C n (32 - depth) e (s.is pool p) (λ q. rw i (v (sym i ∙ q))))
-
--- a row that says an array lies in the table
-module _ (table : List ℕ) (row : ℕ) {k : ℕ} (s : RowSays table row (Some (Array k))) where
-  pub array-row : row * 16 + 16 ≤ length table
-  array-row = says-row table row s refl
-
-  pub array-next : length table < 18446744073709551616 → Fits w64 (row + 1)
-  array-next = says-next table row s refl

@@ -238,8 +238,8 @@ fn move_on(out: &mut [u64], from: usize, to: usize, back: usize, by: u64)
 }
 
 // Lists the slots of all entries of an array, a stride apart, whose first entry's stand from `at` up to `next`; the answer is where the next
-// slot would go. Each turn moves all that is listed so far, or as much of it as is left: `move_on` then reads nothing that it writes, and is
-// compiled to steps of several numbers. A `while`, since its steps differ.
+// slot would go. Each turn moves all that is listed so far, or as much of it as is left, so that `move_on` reads nothing that it writes and
+// can take several numbers in a step. A `while`, since its steps differ.
 fn repeat_slots(out: &mut [u64], at: usize, next: usize, stride: u32, count: u64) -> usize
     requires { count ≤ 4294967296 }
     ensures { Repeats stride count at next out.old result out.new }

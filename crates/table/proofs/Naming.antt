@@ -221,9 +221,6 @@ module _ (table pool : List ℕ) (row : ℕ) {r : core.Option Survey} (h : Check
       name-first-inside = let i = name-inside in omega arith
 
       module _ (j : ℕ) (w : j < 16) where
-        pub name-word : Fits w64 (row * 16 + j)
-        name-word = let i = name-inside in record { fits = omega arith }
-
         pub name-word-bytes : Fits w64 ((row * 16 + j) * 4)
         name-word-bytes = let i = name-inside in record { fits = omega arith }
 

@@ -19,7 +19,8 @@ use rows::{
     Entry, clear_bytes, clear_words, entry_at, enum_member_at, member_at, row_entry, row_member,
 };
 
-// What a walk over a type finds: the next row and pool place, the size, the class of the first row of size 0, whether something reaches outside (refusal 16), whether it holds what refusal 17 names, and the two address predicates.
+// What a walk over a type finds: the next row and pool place, the size, the class of the first row of size 0, whether something reaches
+// outside (refusal 16), whether it holds what refusal 17 names, and the two address predicates.
 #[derive(Clone, Copy)]
 pub struct Survey {
     pub row: usize,
@@ -53,7 +54,8 @@ pub struct NamePart {
     pub length: usize,
 }
 
-// The rows of the open levels, outermost first: its top is the row at hand. A buffer with its length, since there is no heap.
+// The rows of the open levels, outermost first: its top is the row at hand. Document 01 has the path as a struct of 32 row numbers and a
+// depth, passed by value.
 #[derive(Clone, Copy)]
 pub struct Path {
     pub rows: [usize; 32],

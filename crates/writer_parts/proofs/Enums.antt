@@ -9,8 +9,6 @@ use native.Mathlib.Omega.{arith}
 use native.Mathlib.Nat.{add-zero, zero-add}
 use lib.ListN.{length, take, drop}
 use lib.Dec.{leb}
-use mir.Syntax.{w64}
-use mir.Val.{Fits}
 use lib.Seq.{take-add, drop-drop}
 use borrow.Author.Tests.{leb-true}
 use Rattle.format.specs.Datatype.{EnumMember, enum_values}
@@ -144,10 +142,6 @@ module _ {e : ℕ} {table pool : List ℕ} {count row place at : ℕ} {out₀ : 
   module _ {j r p a v : ℕ} {out : List ℕ} (i : EnumLeft e table pool count row place at out₀ j r p a v out) where
     abbrev k : ℕ
     k = count - j
-
-    -- the place behind the values that are stored does not wrap
-    pub values-fit : {s out₁ out₂ : List ℕ} {b c : ℕ} {x : Option ℕ} → PlacesFrom pool p v s b x out₁ out₂ → x ≡ Some c → length pool < 18446744073709551616 → place < 18446744073709551616 → Fits w64 (p + v)
-    values-fit f g l m = record { fits = omega (arith, i.near, f.inside _ g) }
 
     module _ (more : j < count) {m : Option Member} (h : IfKnown (enum_member_at_of table pool r p) m) where
       known : (x : Option Written) (out' : List ℕ) → (m ≡ enum_member_at_of table pool r p → Rest e pool v a (enum_names_at table pool k r p) x out out') → PutsEnum e at table pool count row place x out₀ out'

@@ -134,9 +134,6 @@ pub record ColumnsLeft (table : List ℕ) (r from to at : ℕ) (out₀ : List �
   pub rest : {x : Option ℕ} {out' : List ℕ} → Places (column_bytes table r c (to - c)) a x out out' → Places (column_bytes table r from (to - from)) at x out₀ out'
 
 module _ {table : List ℕ} {r from to at : ℕ} {out₀ : List ℕ} where
-  pub columns-begun : from ≤ to → ColumnsLeft table r from to at out₀ from at out₀
-  columns-begun h = record { left = h; long = refl; rest = λ p. p }
-
   module _ {c a : ℕ} {out : List ℕ} (i : ColumnsLeft table r from to at out₀ c a out) where
     pub columns-ended : to ≤ c → Places (column_bytes table r from (to - from)) at (Some a) out₀ out
     unfolding column_bytes

@@ -23,7 +23,8 @@ pub struct Written {
     pub at: usize,
 }
 
-// Each `put_` function answers the place behind what it stored, or None where that does not fit or cannot be stored.
+// Each `put_` function answers the place behind what it stored, or None where that does not fit or cannot be stored. Those that pass rows
+// answer the next row and pool place with it, as `Written`.
 
 // n zeros. One, as behind every name in edition 3, is stored without `fill`, which is compiled to a call.
 pub fn put_zeros(out: &mut [u8], at: usize, n: usize) -> Option<usize>
@@ -128,6 +129,7 @@ pub fn put_group_header(
 }
 
 // The header of a variable-length type.
+#[tactic(auto, using(crate::proofs::Placing::variable_laws))]
 pub fn put_variable_header(
     out: &mut [u8],
     at: usize,
@@ -281,6 +283,7 @@ pub fn put_array_head(
 }
 
 // The first flag byte of a leaf, by the codes in columns 5 and 6 or the length of its tag; None for codes that no message can store.
+#[tactic(auto, using(crate::proofs::Leaves::flag_laws))]
 fn leaf_flags(class: u32, code: u32, second: u32, length: u32) -> Option<u8>
     ensures { leaf_codes class code second length ≡ true → result ≡ Some (leaf_flags_of class code second length) }
 {

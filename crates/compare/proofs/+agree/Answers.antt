@@ -1,8 +1,6 @@
-use borrow.Author.Rules.{rules}
 use Rattle.std.proofs.lemmas.Result.{err_from_is_err_and}
-use Rattle.rows.proofs.Known.{says-row, says-next, names-next}
-use Rattle.compare.proofs.Types.{type-variable_length, type-leaf, type-enumeration, type-array, type-compound, array-deep, array-lost, array-unknown, array-of-field, array-entries, standing-entered, says-entered, member-leaf, member-enumeration, member_unknown}
-use Rattle.compare.proofs.Inside.{leads-same, members_end, members-deep, members_unnamed, members-past, members-stop, members-next, entries_end, entries-start, entries-past, entries_stop, entries_next}
+use Rattle.compare.proofs.Types.{type-variable_length, type-leaf, type-enumeration, type-array, type-compound, array-deep, array-lost, array-unknown, array-of-field, array-entries, member-leaf, member-enumeration, member_unknown}
+use Rattle.compare.proofs.Inside.{members_end, members-deep, members_unnamed, members-past, members-stop, members-next, entries_end, entries-start, entries-past, entries_stop, entries_next}
 use Rattle.compare.proofs.+agree.Goals as goal
 
 pub agree_array-returns-then-depth-ge32 : goal.agree_array-returns-then-depth-ge32
@@ -10,9 +8,6 @@ agree_array-returns-then-depth-ge32 t c = search array-deep
 
 pub agree_array-returns-then-is_field : goal.agree_array-returns-then-is_field
 agree_array-returns-then-is_field t c = search array-of-field
-
-pub agree_array-agree_entries-requires : goal.agree_array-agree_entries-requires
-agree_array-agree_entries-requires t c = search (standing-entered, says-entered, rules)
 
 pub agree_array-returns-in_default : goal.agree_array-returns-in_default
 agree_array-returns-in_default t c = search array-lost
@@ -38,12 +33,6 @@ agree_entries-loop-preserved t c = search (entries_next, c.in_ok-next.was)
 pub agree_entries-returns : goal.agree_entries-returns
 agree_entries-returns t c = search entries_end
 
-pub agree_member-overflow_add-row : goal.agree_member-overflow_add-row
-agree_member-overflow_add-row t c = search (says-next, rules)
-
-pub agree_member-agree_type-requires : goal.agree_member-agree_type-requires
-agree_member-agree_type-requires t c = search (standing-entered, says-entered, rules)
-
 pub agree_member-returns-in-Leaf : goal.agree_member-returns-in-Leaf
 agree_member-returns-in-Leaf t c = search member-leaf
 
@@ -52,9 +41,6 @@ agree_member-returns-in-Enumeration t c = search member-enumeration
 
 pub agree_member-returns-in_default : goal.agree_member-returns-in_default
 agree_member-returns-in_default t c = search member_unknown
-
-pub agree_members-loop-init : goal.agree_members-loop-init
-agree_members-loop-init t c = search leads-same
 
 pub agree_members-returns-then-depth-ge32 : goal.agree_members-returns-then-depth-ge32
 agree_members-returns-then-depth-ge32 t c = search members-deep
@@ -65,9 +51,6 @@ agree_members-returns-in_default t c = search members_unnamed
 pub agree_members-returns-then-a-at : goal.agree_members-returns-then-a-at
 agree_members-returns-then-a-at t c = search members-past
 
-pub agree_members-overflow_add-r : goal.agree_members-overflow_add-r
-agree_members-overflow_add-r t c = search (names-next, rules)
-
 pub agree_members-returns-in_err-r : goal.agree_members-returns-in_err-r
 agree_members-returns-in_err-r t c = let p = err_from_is_err_and c.from_residual.result c.from_residual.ensures.1 in rw (p.1, p.2) (search (members-stop, c.in_err-r.was))
 
@@ -76,15 +59,6 @@ agree_members-loop-preserved t c = search (members-next, c.in_ok-r.was)
 
 pub agree_members-returns : goal.agree_members-returns
 agree_members-returns t c = search members_end
-
-pub agree_type-overflow_add-row : goal.agree_type-overflow_add-row
-agree_type-overflow_add-row t c = search (says-next, rules)
-
-pub agree_type-overflow_add-row-in-Compound : goal.agree_type-overflow_add-row-in-Compound
-agree_type-overflow_add-row-in-Compound t c = search (says-next, rules)
-
-pub agree_type-agree_array-requires : goal.agree_type-agree_array-requires
-agree_type-agree_array-requires t c = search (says-row, rules)
 
 pub agree_type-returns-in-VariableLength : goal.agree_type-returns-in-VariableLength
 agree_type-returns-in-VariableLength t c = search type-variable_length

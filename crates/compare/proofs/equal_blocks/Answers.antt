@@ -1,8 +1,5 @@
-use Rattle.compare.proofs.Ranges.{equal-none, blocks-more, blocks_end}
+use Rattle.compare.proofs.Ranges.{blocks-more, blocks_end}
 use Rattle.compare.proofs.equal_blocks.Goals as goal
-
-pub loop-i-init : goal.loop-i-init
-loop-i-init c = search equal-none
 
 pub loop-i-preserved : goal.loop-i-preserved
 loop-i-preserved c = search blocks-more

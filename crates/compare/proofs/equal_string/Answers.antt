@@ -4,5 +4,5 @@ use Rattle.compare.proofs.equal_string.Goals as goal
 pub returns-then-equal-n : goal.returns-then-equal-n
 returns-then-equal-n c = search string-equal
 
-pub returns : goal.returns
-returns c = search string_by_nul
+pub returns-else-equal-n : goal.returns-else-equal-n
+returns-else-equal-n c = search string_by_nul

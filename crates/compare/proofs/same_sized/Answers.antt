@@ -1,5 +1,4 @@
-use borrow.Author.Rules.{rules}
-use Rattle.compare.proofs.Comparing.{wrong_length, wrong-length_b, same-admitted, same-compared}
+use Rattle.compare.proofs.Comparing.{wrong_length, wrong-length_b, same-compared}
 use Rattle.compare.proofs.same_sized.Goals as goal
 use Rattle.compare.proofs.same_sized.Goals.{then-a-size-via-then-a-size, then-a-size-via-else-a-size+then-b-size}
 
@@ -9,9 +8,6 @@ returns-then-a-size c =
       | then-a-size-via-then-a-size w ↦ search wrong_length
       | then-a-size-via-else-a-size+then-b-size w ↦ search wrong-length_b
     ]
-
-pub same_records-requires : goal.same_records-requires
-same_records-requires c = search (same-admitted, rules)
 
 pub returns : goal.returns
 returns c = search same-compared

@@ -5,9 +5,6 @@ use Rattle.duplicates.proofs.list_groups.Goals as goal
 pub returns-then-sizes-d : goal.returns-then-sizes-d
 returns-then-sizes-d c = search plain-full
 
-pub put_numbers-requires : goal.put_numbers-requires
-put_numbers-requires c = record { comparable = search rules; n_value = search rules; known = search rules; n_in_bounds = search rules }
-
 pub list_sizes-requires : goal.list_sizes-requires
 list_sizes-requires c = let e = c.put_numbers.ensures in
     let p = c.requires in

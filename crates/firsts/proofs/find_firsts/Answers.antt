@@ -9,4 +9,4 @@ pub returns-in-None : goal.returns-in-None
 returns-in-None c = search plain-firsts
 
 pub returns-in-Some : goal.returns-in-Some
-returns-in-Some c = search compiled-firsts
+returns-in-Some c = compiled-firsts _ _ _ _ c.requires.comparable _ c.list_type-buckets.ensures c.in-Some.is _ _ c.count_all-distinct.ensures

@@ -1,5 +1,5 @@
 use Rattle.firsts.proofs.KeyLaws.{admits-some}
-use Rattle.join.proofs.Calls.{sized-first, sized-second, records-fit, both_comparable, both_count, both_answered}
+use Rattle.join.proofs.Calls.{sized-first, sized-second, both_comparable, both_count, both_answered}
 use borrow.Author.Rules.{rules}
 use Rattle.join.proofs.sized.Goals as goal
 
@@ -20,9 +20,6 @@ nonzero_div-n c = search (admits-some, rules)
 
 pub nonzero_div-n-2 : goal.nonzero_div-n-2
 nonzero_div-n-2 c = search (admits-some, rules)
-
-pub overflow_add-n : goal.overflow_add-n
-overflow_add-n c = search records-fit
 
 pub joined-requires : goal.joined-requires
 joined-requires c = record { comparable = search both_comparable; n_value = search both_count }

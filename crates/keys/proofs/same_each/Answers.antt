@@ -1,10 +1,7 @@
 use native.Mathlib.Omega.{arith}
-use Rattle.keys.proofs.Walking.{same-begun, same_here, same_next, same-apart, same-all}
+use Rattle.keys.proofs.Walking.{same_here, same_next, same-apart, same-all}
 use borrow.Author.Rules.{rules}
 use Rattle.keys.proofs.same_each.Goals as goal
-
-pub loop-i-init : goal.loop-i-init
-loop-i-init c = search same-begun
 
 pub same_run-requires : goal.same_run-requires
 same_run-requires c = (same_here _ _ _ _ c.loop-i.invariant (omega arith), search rules)

@@ -1,9 +1,6 @@
-use Rattle.keys.proofs.Strings.{string-begun, string-whole, string-nul, string-more}
+use Rattle.keys.proofs.Strings.{string-whole, string-nul, string-more}
 use borrow.Author.Rules.{rules}
 use Rattle.keys.proofs.string_size.Goals as goal
-
-pub loop-i-init : goal.loop-i-init
-loop-i-init c = search string-begun
 
 pub returns-then-x-at-eq0 : goal.returns-then-x-at-eq0
 returns-then-x-at-eq0 c = search string-nul

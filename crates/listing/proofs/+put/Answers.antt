@@ -1,16 +1,12 @@
 use Prim.Native.Nat.{◌-◌}
-use mathlib.Core.Path.{◌≡◌}
 use Rattle.listing.proofs.Pieces.{name_in}
 use native.Mathlib.Omega.{arith}
 use Rattle.listing.specs.Puts.{NameInside}
 use Rattle.rows.proofs.Decode.{named-inside, named-behind, named-next}
 use Rattle.listing.proofs.Shapes.{members-row, base-row}
-use Rattle.listing.proofs.Lines.{members-begun, members-ended, members_unnamed, members_unsurveyed, members-next, type-shallow, type-plain, type-members, type-base}
+use Rattle.listing.proofs.Lines.{members-ended, members_unnamed, members_unsurveyed, members-next, type-shallow, type-plain, type-members, type-base}
 use borrow.Author.Rules.{rules}
 use Rattle.listing.proofs.+put.Goals as goal
-
-pub put_members-loop-init : goal.put_members-loop-init
-put_members-loop-init t c = let e : c.args.count - 0 ≡ c.args.count = omega arith in rw e members-begun
 
 pub put_members-returns-in_default : goal.put_members-returns-in_default
 put_members-returns-in_default t c = members_unnamed c.loop.invariant (omega arith) c.member_at.ensures.is c.in_default.is

@@ -68,9 +68,6 @@ measure_type-overflow_add-row-in-VariableLength t c = search (row-next, c.in_ok-
 pub measure_type-overflow_add-row-in-Array : goal.measure_type-overflow_add-row-in-Array
 measure_type-overflow_add-row-in-Array t c = search (row-next, c.in_ok-entry.was, rules)
 
-pub measure_type-overflow_mul-rank : goal.measure_type-overflow_mul-rank
-measure_type-overflow_mul-rank t c = search (array_behind, c.in_ok-entry.was, rules)
-
 pub measure_type-overflow_add-place : goal.measure_type-overflow_add-place
 measure_type-overflow_add-place t c = search (array_behind, c.in_ok-entry.was, rules)
 

@@ -1,5 +1,5 @@
 use borrow.Author.Tests.{eqb-true}
-use Rattle.names.proofs.Passing.{begun, passed-plain, passed-step, ends-full, ends-whole, ends-behind, ends-missing}
+use Rattle.names.proofs.Passing.{begun, passed-plain, passed-step, ends-full, ends-whole, ends-missing}
 use Rattle.names.proofs.read_name.Goals as goal
 
 pub loop-i-init : goal.loop-i-init
@@ -7,9 +7,6 @@ loop-i-init c = search begun
 
 pub returns-then-room-end : goal.returns-then-room-end
 returns-then-room-end c = search ends-full
-
-pub overflow_sub-result-then-b-eq0 : goal.overflow_sub-result-then-b-eq0
-overflow_sub-result-then-b-eq0 c = search ends-behind
 
 pub returns-then-b-eq0 : goal.returns-then-b-eq0
 returns-then-b-eq0 c = search ends-whole

@@ -4,8 +4,7 @@ use mathlib.Core.Path.{refl, ap, ◌∙◌}
 use mathlib.Core.List.{List}
 use Prim.Native.Nat.{ℕ, ◌+◌}
 use native.Mathlib.Omega.{arith}
-use lib.ListN.{length, take, set, get_or}
-use lib.Seq.{length-sets}
+use lib.ListN.{set, get_or}
 use Rattle.names.proofs.store.Goals as goal
 
 pub returns-then-room-pos : goal.returns-then-room-pos
@@ -14,16 +13,10 @@ returns-then-room-pos c = search all_past
 pub loop-i-init : goal.loop-i-init
 loop-i-init c = refl
 
-pub bounds-pool-pos : goal.bounds-pool-pos
-bounds-pool-pos c = let a = c.args in omega (arith, ap length c.loop-i.invariant, length-sets a.pool.now a.pos (take c.loop-i.i a.bytes))
-
 pub loop-i-preserved : goal.loop-i-preserved
 loop-i-preserved c = let l = c.loop-i in
     let a = c.args in
     ap (λ (p : List ℕ). set p (a.pos + l.i) (get_or a.bytes l.i 0)) l.invariant ∙ sets-take a.bytes a.pool.now a.pos l.i (omega arith)
-
-pub shape_of-pool : goal.shape_of-pool
-shape_of-pool c = ap length c.loop-i.invariant ∙ simp length-sets
 
 pub returns : goal.returns
 returns c = search all_in

@@ -13,8 +13,5 @@ loop-i-preserved c = let a = c.args in
     let l = c.loop-i in
     (omega arith, (simp length-set l.invariant.1.0, sym (little_more l.out a.offset a.width l.i l.rest (omega arith)) ∙ l.invariant.1.1))
 
-pub shape_of-out : goal.shape_of-out
-shape_of-out c = c.loop-i.invariant.1.0
-
 pub returns : goal.returns
 returns c = let a = c.args in let l = c.loop-i in sym (little_ended l.out a.offset a.width l.i l.rest (omega arith)) ∙ l.invariant.1.1

@@ -1,19 +1,14 @@
 use native.Mathlib.Omega.{arith}
 use borrow.Author.Rules.{rules}
 use mathlib.Core.Path.{refl}
-use Rattle.reading.proofs.Members.{members-begun, members-ended, members-stopped, entered-ready, entered-within, members-refused, members-turned, entered-behind, progress_table, progress_pool, table-entered, pool-entered, table-turned, pool-turned}
+use Rattle.format.specs.Table.{row, compound_row}
+use Rattle.reading.proofs.Members.{members-begun, members-ended, members-stopped, entered-ready, entered-within, members-refused, members-turned, entered-behind, table-turned, pool-turned}
 use Rattle.reading.proofs.Contracts.{ready_any_version, passed_on}
-use Rattle.reading.proofs.Types.{type-ends, type-headless, type-shuts, leaf-free, leaf-long, leaf-kind, type-leaf, compound-free, compound-long, compound-ready, compound-refuses, compound-filled, compound-ends, based-free, based-within, based-ready, based-refuses, based_opened, based_read, based-ends}
+use Rattle.reading.proofs.Types.{type-ends, type-headless, type-shuts, type-leaf, compound-refuses, compound-ends, based-within, based-ready, based-refuses, based_opened, based_read, based-ends}
 use Rattle.reader.proofs.+read.Goals as goal
 
 pub read_members-loop-i-init : goal.read_members-loop-i-init
 read_members-loop-i-init t c = search members-begun
-
-pub read_members-shape_of-table-in_err-next : goal.read_members-shape_of-table-in_err-next
-read_members-shape_of-table-in_err-next t c = search table-entered
-
-pub read_members-shape_of-pool-in_err-next : goal.read_members-shape_of-pool-in_err-next
-read_members-shape_of-pool-in_err-next t c = search pool-entered
 
 pub read_members-returns-in_err-next : goal.read_members-returns-in_err-next
 read_members-returns-in_err-next t c = rw (passed_on c.from_residual.result c.from_residual.ensures) (search (members-stopped, c.in_err-next.was))
@@ -44,38 +39,17 @@ read_members-overflow_add-at t c =
 pub read_members-loop-i-preserved : goal.read_members-loop-i-preserved
 read_members-loop-i-preserved t c = search (members-turned, c.in_ok-next.was, c.in_ok-inner.was)
 
-pub read_members-shape_of-table : goal.read_members-shape_of-table
-read_members-shape_of-table t c = search progress_table
-
-pub read_members-shape_of-pool : goal.read_members-shape_of-pool
-read_members-shape_of-pool t c = search progress_pool
-
 pub read_members-returns : goal.read_members-returns
 read_members-returns t c = search members-ended
 
 pub read_type-returns-then-levels-eq0 : goal.read_type-returns-then-levels-eq0
 read_type-returns-then-levels-eq0 t c = search type-ends
 
-pub read_type-read_leaf-requires : goal.read_type-read_leaf-requires
-read_type-read_leaf-requires t c = search (leaf-free, leaf-long, leaf-kind, c.in_ok-opened.ensures)
-
-pub read_type-overflow_add-used : goal.read_type-overflow_add-used
-read_type-overflow_add-used t c = search (rules, compound-free, c.in_ok-opened.ensures)
-
-pub read_type-read_members-requires : goal.read_type-read_members-requires
-read_type-read_members-requires t c = (search rules, ((search (compound-ready, c.in_ok-opened.ensures), search (compound-long, c.in_ok-opened.ensures)), search rules))
-
-pub read_type-end_compound-requires : goal.read_type-end_compound-requires
-read_type-end_compound-requires t c = search (compound-filled, c.in_ok-members-in-Compound.was)
-
 pub read_type-slice_bounds-part-count : goal.read_type-slice_bounds-part-count
 read_type-slice_bounds-part-count t c = search (rules, based-within, c.in_ok-opened.ensures)
 
 pub read_type-slice_bounds-part-start : goal.read_type-slice_bounds-part-start
 read_type-slice_bounds-part-start t c = search (rules, based-within, c.in_ok-opened.ensures)
-
-pub read_type-overflow_add-used-in-Based : goal.read_type-overflow_add-used-in-Based
-read_type-overflow_add-used-in-Based t c = search (rules, based-free, c.in_ok-opened.ensures)
 
 pub read_type-read_type-requires : goal.read_type-read_type-requires
 read_type-read_type-requires t c = (search rules, search (based-ready, c.in_ok-opened.ensures))
@@ -96,6 +70,7 @@ pub read_type-returns-in_err-members-in-Compound : goal.read_type-returns-in_err
 read_type-returns-in_err-members-in-Compound t c = rw (passed_on c.from_residual-in_err-members-in-Compound.result c.from_residual-in_err-members-in-Compound.ensures) (search (compound-refuses, c.in_ok-opened.ensures, c.in_err-members-in-Compound.was))
 
 pub read_type-returns-in_ok-members-in-Compound : goal.read_type-returns-in_ok-members-in-Compound
+unfolding row compound_row
 read_type-returns-in_ok-members-in-Compound t c = search (compound-ends, c.in_ok-opened.ensures, c.in_ok-members-in-Compound.was)
 
 pub read_type-returns-in_err-inner-in-Based : goal.read_type-returns-in_err-inner-in-Based

@@ -1,9 +1,6 @@
 use native.Mathlib.Omega.{arith}
-use Rattle.reader_behind.proofs.Ending.{base-near, base-fits, base-sought, base-place, enumeration-class, variable_class, array-class}
+use Rattle.reader_behind.proofs.Ending.{base-near, base-sought, base-place, enumeration-class, variable_class, array-class}
 use Rattle.reader_behind.proofs.end_based.Goals as goal
-
-pub overflow_add-outer : goal.overflow_add-outer
-overflow_add-outer c = search base-fits
 
 pub end_enumeration-requires : goal.end_enumeration-requires
 end_enumeration-requires c = (search base-near, enumeration-class _ _ (search) (search))

@@ -1,9 +1,6 @@
 use Rattle.reading.proofs.Contracts.{passed_on}
-use Rattle.reader_behind.proofs.Ending.{enum_stops, enum_empty, enum_ends}
+use Rattle.reader_behind.proofs.Ending.{enum_stops, enum_ends}
 use Rattle.reader_behind.proofs.end_enumeration.Goals as goal
-
-pub returns-then-header-eq0 : goal.returns-then-header-eq0
-returns-then-header-eq0 c = search (enum_empty, c.in_ok-members.was)
 
 pub returns-in_err-members : goal.returns-in_err-members
 returns-in_err-members c = rw (passed_on c.from_residual.result c.from_residual.ensures) (search (enum_stops, c.in_err-members.was))

@@ -7,26 +7,14 @@ use Rattle.reader_behind.proofs.read_values.Goals as goal
 pub loop-i-init : goal.loop-i-init
 loop-i-init c = ((omega arith, omega arith), ((omega arith, omega arith), (refl, onward_start _ _ _ _ _ _ _ _)))
 
-pub shape_of-pool-then-data-at : goal.shape_of-pool-then-data-at
-shape_of-pool-then-data-at c = c.loop-i.invariant.1.1.0
-
 pub returns-then-data-at : goal.returns-then-data-at
 returns-then-data-at c = onward_short _ _ _ _ _ _ _ _ _ _ _ _ c.loop-i.invariant.1.1.1 (omega arith) (omega arith) (omega arith)
-
-pub shape_of-pool-then-limits-pooled : goal.shape_of-pool-then-limits-pooled
-shape_of-pool-then-limits-pooled c = c.loop-i.invariant.1.1.0
 
 pub returns-then-limits-pooled : goal.returns-then-limits-pooled
 returns-then-limits-pooled c = search (onward_full, rules)
 
-pub copy_bytes-requires : goal.copy_bytes-requires
-copy_bytes-requires c = (omega arith, omega arith)
-
 pub loop-i-preserved : goal.loop-i-preserved
 loop-i-preserved c = ((omega arith, omega arith), ((omega arith, omega arith), (omega arith, search (onward_more, rules))))
-
-pub shape_of-pool : goal.shape_of-pool
-shape_of-pool c = c.loop-i.invariant.1.1.0
 
 pub returns : goal.returns
 returns c = onward_end _ _ _ _ _ _ _ _ _ _ _ _ c.loop-i.invariant.1.1.1 (omega arith) (omega arith) (omega arith)

@@ -1,11 +1,8 @@
-use Rattle.reader_leaf.proofs.Leaves.{block_cut, block-zero, bit_fields, bit_field-lands}
+use Rattle.reader_leaf.proofs.Leaves.{block_cut, bit_fields, bit_field-ends}
 use Rattle.reader_leaf.proofs.read_bit_field.Goals as goal
 
 pub returns-then-data-lt12 : goal.returns-then-data-lt12
 returns-then-data-lt12 c = search (block_cut bit_fields)
 
-pub returns-then-header-eq0 : goal.returns-then-header-eq0
-returns-then-header-eq0 c = search (block-zero bit_fields)
-
 pub returns : goal.returns
-returns c = search bit_field-lands
+returns c = search bit_field-ends

@@ -1,11 +1,8 @@
-use Rattle.reader_leaf.proofs.Leaves.{block_cut, block-zero, floating_points, floating_point_lands}
+use Rattle.reader_leaf.proofs.Leaves.{block_cut, floating_points, floating_point_ends}
 use Rattle.reader_leaf.proofs.read_floating_point.Goals as goal
 
 pub returns-then-data-lt20 : goal.returns-then-data-lt20
 returns-then-data-lt20 c = search (block_cut floating_points)
 
-pub returns-then-header-eq0 : goal.returns-then-header-eq0
-returns-then-header-eq0 c = search (block-zero floating_points)
-
 pub returns : goal.returns
-returns c = search floating_point_lands
+returns c = search floating_point_ends

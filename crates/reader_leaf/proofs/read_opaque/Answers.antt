@@ -1,4 +1,4 @@
-use Rattle.reader_leaf.proofs.Leaves.{opaque_cut, opaque-full, opaque-zero, opaque-lands}
+use Rattle.reader_leaf.proofs.Leaves.{opaque_cut, opaque-full, opaque-ends}
 use Rattle.reader_leaf.proofs.read_opaque.Goals as goal
 
 pub returns-then-data-n : goal.returns-then-data-n
@@ -7,8 +7,5 @@ returns-then-data-n c = search opaque_cut
 pub returns-then-limits-pooled : goal.returns-then-limits-pooled
 returns-then-limits-pooled c = search opaque-full
 
-pub returns-then-header-eq0 : goal.returns-then-header-eq0
-returns-then-header-eq0 c = search opaque-zero
-
 pub returns : goal.returns
-returns c = search opaque-lands
+returns c = search opaque-ends

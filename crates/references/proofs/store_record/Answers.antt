@@ -1,14 +1,6 @@
-use mathlib.Core.Path.{refl}
 use native.Mathlib.Omega.{arith}
-use Rattle.references.proofs.Laws.{slot_lies, slot-fits, place-more, value-more, all-stored}
-use borrow.Author.Rules.{rules}
+use Rattle.references.proofs.Laws.{place-more, value-more, all-stored}
 use Rattle.references.proofs.store_record.Goals as goal
-
-pub overflow_add-place : goal.overflow_add-place
-overflow_add-place c = search (slot-fits, rules)
-
-pub read_u64-requires : goal.read_u64-requires
-read_u64-requires c = search slot_lies
 
 pub loop-i-preserved : goal.loop-i-preserved
 loop-i-preserved c = let l = c.loop-i in (

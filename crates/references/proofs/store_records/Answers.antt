@@ -1,16 +1,10 @@
 use native.Mathlib.Omega.{arith}
-use Rattle.references.proofs.Laws.{record_fits, record_room, slot_in_block, places-more, values-more, none-stored, all-records}
+use Rattle.references.proofs.Laws.{record_room, slot_in_block, places-more, values-more, none-stored, all-records}
 use borrow.Author.Rules.{rules}
 use Rattle.references.proofs.store_records.Goals as goal
 
 pub loop-i-init : goal.loop-i-init
 loop-i-init c = search (none-stored, rules)
-
-pub overflow_mul-i : goal.overflow_mul-i
-overflow_mul-i c = search (record_fits, rules)
-
-pub overflow_mul-i-in-loop-i : goal.overflow_mul-i-in-loop-i
-overflow_mul-i-in-loop-i c = search (record_fits, rules)
 
 pub store_record-requires : goal.store_record-requires
 store_record-requires c = search (slot_in_block, record_room)

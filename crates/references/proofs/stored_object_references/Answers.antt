@@ -1,6 +1,5 @@
-use native.Mathlib.Nat.{div-mul-le_self}
 use native.Mathlib.Omega.{arith}
-use Rattle.references.proofs.Laws.{none-outside, is-outside, is_no_room, is_found}
+use Rattle.references.proofs.Laws.{is-outside, is_no_room, is_found}
 use Rattle.references.proofs.stored_object_references.Goals as goal
 
 pub returns-then-some_outside : goal.returns-then-some_outside
@@ -8,9 +7,6 @@ returns-then-some_outside c = search is-outside
 
 pub returns-then-room-needed : goal.returns-then-room-needed
 returns-then-room-needed c = search (is_no_room, arith)
-
-pub store_records-requires : goal.store_records-requires
-store_records-requires c = search (div-mul-le_self, none-outside, arith)
 
 pub returns : goal.returns
 returns c = search is_found

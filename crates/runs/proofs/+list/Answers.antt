@@ -1,9 +1,6 @@
-use borrow.Author.Rules.{rules}
-use Rattle.rows.proofs.Known.{says-row, says-next, names-next}
-use Rattle.compare.proofs.Types.{says-entered}
 use Rattle.runs.proofs.Storing.{grows_same}
-use Rattle.runs.proofs.Types.{type-variable_length, type-leaf, type-enumeration, type-array, type-compound, array-deep, array-none, array-unknown, array-of-field, array-entries, standing-entered, member-entered, member_unknown}
-use Rattle.runs.proofs.Inside.{members-start, members_end, members-stopped, members-deep, members_unnamed, members-past, members-next, entries-start, entries_end, entries-stopped, entries-past, entries_next}
+use Rattle.runs.proofs.Types.{type-variable_length, type-leaf, type-enumeration, type-array, type-compound, array-deep, array-none, array-unknown, array-of-field, array-entries, member-entered, member_unknown}
+use Rattle.runs.proofs.Inside.{members_end, members-stopped, members-deep, members_unnamed, members-past, members-next, entries-start, entries_end, entries-stopped, entries-past, entries_next}
 use Rattle.runs.proofs.+list.Goals as goal
 
 pub list_array-returns-then-depth-ge32 : goal.list_array-returns-then-depth-ge32
@@ -14,9 +11,6 @@ list_array-returns-then-stride-eq0 t c = search (array-none, grows_same)
 
 pub list_array-returns-then-is_whole : goal.list_array-returns-then-is_whole
 list_array-returns-then-is_whole t c = search array-of-field
-
-pub list_array-list_entries-requires : goal.list_array-list_entries-requires
-list_array-list_entries-requires t c = search (standing-entered, says-entered, rules)
 
 pub list_array-returns-in_default : goal.list_array-returns-in_default
 list_array-returns-in_default t c = search (array-unknown, grows_same)
@@ -39,17 +33,11 @@ list_entries-loop-preserved t c = search entries_next
 pub list_entries-returns : goal.list_entries-returns
 list_entries-returns t c = search entries_end
 
-pub list_member-list_type-requires : goal.list_member-list_type-requires
-list_member-list_type-requires t c = search (standing-entered, says-entered, rules)
-
 pub list_member-returns-in_default : goal.list_member-returns-in_default
 list_member-returns-in_default t c = search (member_unknown, grows_same)
 
 pub list_member-returns : goal.list_member-returns
 list_member-returns t c = search member-entered
-
-pub list_members-loop-init : goal.list_members-loop-init
-list_members-loop-init t c = search members-start
 
 pub list_members-returns-then-state-most : goal.list_members-returns-then-state-most
 list_members-returns-then-state-most t c = search members-stopped
@@ -63,23 +51,11 @@ list_members-returns-in_default t c = search members_unnamed
 pub list_members-returns-then-limit-at : goal.list_members-returns-then-limit-at
 list_members-returns-then-limit-at t c = search members-past
 
-pub list_members-overflow_add-r : goal.list_members-overflow_add-r
-list_members-overflow_add-r t c = search (names-next, rules)
-
 pub list_members-loop-preserved : goal.list_members-loop-preserved
 list_members-loop-preserved t c = search members-next
 
 pub list_members-returns : goal.list_members-returns
 list_members-returns t c = search members_end
-
-pub list_type-overflow_add-row : goal.list_type-overflow_add-row
-list_type-overflow_add-row t c = search (says-next, rules)
-
-pub list_type-overflow_add-row-in-Compound : goal.list_type-overflow_add-row-in-Compound
-list_type-overflow_add-row-in-Compound t c = search (says-next, rules)
-
-pub list_type-list_array-requires : goal.list_type-list_array-requires
-list_type-list_array-requires t c = search (says-row, rules)
 
 pub list_type-returns-in-VariableLength : goal.list_type-returns-in-VariableLength
 list_type-returns-in-VariableLength t c = search (type-variable_length, grows_same)

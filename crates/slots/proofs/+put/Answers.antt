@@ -1,18 +1,7 @@
-use Rattle.std.proofs.Common.{◌≡◌, ◌-◌, rules, arith}
-use Rattle.rows.proofs.Known.{says-next, names-next}
-use Rattle.slots.proofs.Rows.{array-row, array-next}
-use Rattle.slots.proofs.Listing.{type_unknown, type-enumeration, type-variable_length, type-leaf, type-compound, row_is, type-array, inner_far, inner-none, inner-leaf, inner_type}
-use Rattle.slots.proofs.ListingInside.{members-start, members_unnamed, members-next, members_end}
+use Rattle.std.proofs.Common.{◌-◌, rules, arith}
+use Rattle.slots.proofs.Listing.{type_unknown, type-enumeration, type-variable_length, type-leaf, type-compound, type-array, inner_far, inner-none, inner-leaf}
+use Rattle.slots.proofs.ListingInside.{members_unnamed, members-next, members_end}
 use Rattle.slots.proofs.+put.Goals as goal
-
-pub put_array-overflow_add-row : goal.put_array-overflow_add-row
-put_array-overflow_add-row t c = search (array-next, rules)
-
-pub put_array-overflow_add-row-2 : goal.put_array-overflow_add-row-2
-put_array-overflow_add-row-2 t c = search (array-next, rules)
-
-pub put_array-entry_count-count-requires : goal.put_array-entry_count-count-requires
-put_array-entry_count-count-requires t c = search (array-row, rules)
 
 pub put_array-returns : goal.put_array-returns
 put_array-returns t c = search type-array
@@ -23,38 +12,17 @@ put_inner-returns-then-base-ge4294967296 t c = search inner_far
 pub put_inner-returns-then-depth-eq32 : goal.put_inner-returns-then-depth-eq32
 put_inner-returns-then-depth-eq32 t c = search inner-none
 
-pub put_inner-overflow_add-row : goal.put_inner-overflow_add-row
-put_inner-overflow_add-row t c = search (says-next, rules)
-
 pub put_inner-returns-in-Some-Leaf : goal.put_inner-returns-in-Some-Leaf
 put_inner-returns-in-Some-Leaf t c = search inner-leaf
 
-pub put_inner-returns-in_default : goal.put_inner-returns-in_default
-put_inner-returns-in_default t c = search inner_type
-
-pub put_members-loop-init : goal.put_members-loop-init
-put_members-loop-init t c = let e : c.args.count - 0 ≡ c.args.count = omega arith in rw e (members-start _ _ _ _ _ _ _ _)
-
 pub put_members-returns-in_default : goal.put_members-returns-in_default
 put_members-returns-in_default t c = members_unnamed _ _ _ _ _ _ _ _ c.loop.invariant (omega arith) c.row_member.ensures c.in_default.is
-
-pub put_members-overflow_add-r : goal.put_members-overflow_add-r
-put_members-overflow_add-r t c = search (names-next, rules)
 
 pub put_members-loop-preserved : goal.put_members-loop-preserved
 put_members-loop-preserved t c = members-next _ _ _ _ _ _ _ _ c.loop.invariant (omega arith) c.row_member.ensures _ c.in-Some.is c.from.ensures c.put_inner-put.ensures (search rules) (omega arith)
 
 pub put_members-returns : goal.put_members-returns
 put_members-returns t c = members_end _ _ _ _ _ _ _ _ c.loop.invariant (omega arith)
-
-pub put_type-overflow_add-row : goal.put_type-overflow_add-row
-put_type-overflow_add-row t c = search (says-next, rules)
-
-pub put_type-overflow_add-row-in-Compound : goal.put_type-overflow_add-row-in-Compound
-put_type-overflow_add-row-in-Compound t c = search (says-next, rules)
-
-pub put_type-put_array-requires : goal.put_type-put_array-requires
-put_type-put_array-requires t c = search (row_is, rules)
 
 pub put_type-returns-in_default : goal.put_type-returns-in_default
 put_type-returns-in_default t c = search type_unknown

@@ -1,19 +1,12 @@
-use Rattle.std.proofs.Common.{◌≡◌, ◌-◌, rules, arith}
-use Rattle.rows.proofs.Known.{says-next, says-row, names-next}
-use Rattle.slots.proofs.Tallying.{type_unknown, type-leaf, type-compound, type-enumeration, type-variable_length, type-array, inner-none, inner-leaf, inner_type, members-start, members_end, members_unnamed, members-next}
+use Rattle.std.proofs.Common.{◌≡◌, ◌-◌, arith}
+use Rattle.slots.proofs.Tallying.{type_unknown, type-leaf, type-compound, type-enumeration, type-variable_length, type-array, inner-none, inner-leaf, members-start, members_end, members_unnamed, members-next}
 use Rattle.slots.proofs.+tally.Goals as goal
 
 pub tally_inner-returns-then-path-eq32 : goal.tally_inner-returns-then-path-eq32
 tally_inner-returns-then-path-eq32 t c = search inner-none
 
-pub tally_inner-overflow_add-row : goal.tally_inner-overflow_add-row
-tally_inner-overflow_add-row t c = search (says-next, rules)
-
 pub tally_inner-returns-in-Some-Leaf : goal.tally_inner-returns-in-Some-Leaf
 tally_inner-returns-in-Some-Leaf t c = search inner-leaf
-
-pub tally_inner-returns-in_default : goal.tally_inner-returns-in_default
-tally_inner-returns-in_default t c = search inner_type
 
 pub tally_members-loop-init : goal.tally_members-loop-init
 tally_members-loop-init t c = let e : c.args.count - 0 ≡ c.args.count = omega arith in rw e (members-start _ _ _ _ _)
@@ -21,35 +14,11 @@ tally_members-loop-init t c = let e : c.args.count - 0 ≡ c.args.count = omega 
 pub tally_members-returns-in_default : goal.tally_members-returns-in_default
 tally_members-returns-in_default t c = members_unnamed _ _ _ _ _ _ _ _ _ _ c.loop.invariant (omega arith) c.row_member.ensures _ c.in_default.is
 
-pub tally_members-overflow_add-r : goal.tally_members-overflow_add-r
-tally_members-overflow_add-r t c = search (names-next, rules)
-
 pub tally_members-loop-preserved : goal.tally_members-loop-preserved
 tally_members-loop-preserved t c = members-next _ _ _ _ _ _ _ _ _ _ c.loop.invariant (omega arith) c.row_member.ensures c.in-Some.is c.tally_inner-t.ensures c.sum_slots-slots.ensures c.further_end-end.ensures (omega arith)
 
 pub tally_members-returns : goal.tally_members-returns
 tally_members-returns t c = members_end _ _ _ _ _ _ _ _ _ _ c.loop.invariant (omega arith)
-
-pub tally_type-overflow_add-row : goal.tally_type-overflow_add-row
-tally_type-overflow_add-row t c = search (says-next, rules)
-
-pub tally_type-overflow_add-row-in-Compound : goal.tally_type-overflow_add-row-in-Compound
-tally_type-overflow_add-row-in-Compound t c = search (says-next, rules)
-
-pub tally_type-overflow_add-row-in-Enumeration : goal.tally_type-overflow_add-row-in-Enumeration
-tally_type-overflow_add-row-in-Enumeration t c = search (says-next, rules)
-
-pub tally_type-overflow_add-row-in-VariableLength : goal.tally_type-overflow_add-row-in-VariableLength
-tally_type-overflow_add-row-in-VariableLength t c = search (says-next, rules)
-
-pub tally_type-overflow_add-row-in-Array : goal.tally_type-overflow_add-row-in-Array
-tally_type-overflow_add-row-in-Array t c = search (says-next, rules)
-
-pub tally_type-overflow_add-row-in-Array-2 : goal.tally_type-overflow_add-row-in-Array-2
-tally_type-overflow_add-row-in-Array-2 t c = search (says-next, rules)
-
-pub tally_type-entry_count-requires : goal.tally_type-entry_count-requires
-tally_type-entry_count-requires t c = search (says-row, rules)
 
 pub tally_type-returns-in_default : goal.tally_type-returns-in_default
 tally_type-returns-in_default t c = search type_unknown

@@ -1,9 +1,5 @@
-use Rattle.std.proofs.Common.{rules}
-use Rattle.slots.proofs.Repeating.{moving_start, moving_next, moving_end}
+use Rattle.slots.proofs.Repeating.{moving_next, moving_end}
 use Rattle.slots.proofs.move_on.Goals as goal
-
-pub loop-k-init : goal.loop-k-init
-loop-k-init c = search (moving_start, rules)
 
 pub loop-k-preserved : goal.loop-k-preserved
 loop-k-preserved c = search moving_next

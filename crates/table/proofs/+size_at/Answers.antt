@@ -1,16 +1,8 @@
-use borrow.Author.Rules.{rules}
-use Rattle.rows.proofs.Known.{says-next, says-row}
 use Rattle.table.proofs.Passing.{sized-none, sized_unknown, sized-leaf, sized-compound, sized-enumeration, sized-variable_length, sized-array}
 use Rattle.table.proofs.+size_at.Goals as goal
 
 pub returns-then-levels-eq0 : goal.returns-then-levels-eq0
 returns-then-levels-eq0 t c = search sized-none
-
-pub overflow_add-row : goal.overflow_add-row
-overflow_add-row t c = search (says-next, rules)
-
-pub array_total-requires : goal.array_total-requires
-array_total-requires t c = search (says-row, rules)
 
 pub returns-in_default : goal.returns-in_default
 returns-in_default t c = search sized_unknown

@@ -20,9 +20,6 @@ survey_inner-leaf_survey-requires t c = let i = leaf-inside _ _ _ _ c.entry_at.e
 pub survey_inner-returns-in-Leaf : goal.survey_inner-returns-in-Leaf
 survey_inner-returns-in-Leaf t c = search (type-leaf, c.in_ok-entry.was)
 
-pub survey_inner-returns-in_default : goal.survey_inner-returns-in_default
-survey_inner-returns-in_default t c = c.survey_type.ensures
-
 pub survey_members-loop-init : goal.survey_members-loop-init
 survey_members-loop-init t c = let e : c.args.count - 0 ≡ c.args.count = omega arith in rw e (members-start _ _ c.then_some-zero.ensures)
 

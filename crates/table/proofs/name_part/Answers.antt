@@ -1,6 +1,6 @@
 use Rattle.format.proofs.Bytes.{byte_below}
 use lib.Dec.{lit<}
-use Rattle.table.proofs.Naming.{name-bad, name-behind, name-first, name-first-bytes, name-first-inside, name-none, name-some, name-word, name-word-bytes, name-word-inside}
+use Rattle.table.proofs.Naming.{name-bad, name-behind, name-first, name-first-bytes, name-first-inside, name-none, name-some, name-word-bytes, name-word-inside}
 use Rattle.table.proofs.name_part.Goals as goal
 
 pub returns-then-s-row : goal.returns-then-s-row
@@ -18,17 +18,11 @@ bounds-table-at c = search (name-first-inside, byte_below)
 pub returns-then-kind-lt12 : goal.returns-then-kind-lt12
 returns-then-kind-lt12 c = search (name-none, byte_below)
 
-pub overflow_add-place : goal.overflow_add-place
-overflow_add-place c = search (name-word, byte_below, lit<)
-
 pub offset_bounds-table-at-2 : goal.offset_bounds-table-at-2
 offset_bounds-table-at-2 c = search (name-word-bytes, byte_below, lit<)
 
 pub bounds-table-at-2 : goal.bounds-table-at-2
 bounds-table-at-2 c = search (name-word-inside, byte_below, lit<)
-
-pub overflow_add-length : goal.overflow_add-length
-overflow_add-length c = search (name-word, byte_below, lit<)
 
 pub offset_bounds-table-at-3 : goal.offset_bounds-table-at-3
 offset_bounds-table-at-3 c = search (name-word-bytes, byte_below, lit<)

@@ -1,14 +1,11 @@
 use mathlib.Core.Path.{refl, ◌∙◌}
 use native.Mathlib.Nat.{mul_comm}
 use native.Mathlib.Omega.{arith}
-use Rattle.format.proofs.Scaling.{cap_room, scale_start, scale_next, scale_end}
+use Rattle.format.proofs.Scaling.{scale_start, scale_next, scale_end}
 use Rattle.table.proofs.scaled.Goals as goal
 
 pub loop-i-init : goal.loop-i-init
 loop-i-init c = rw c.from-total.ensures (omega arith, scale_start _ _ _ _ _ _ _ (mul_comm _ 4) refl)
-
-pub overflow_mul-total : goal.overflow_mul-total
-overflow_mul-total c = omega (arith, cap_room c.loop-i.total c.from-dimension.result (omega arith) (omega arith))
 
 pub loop-i-preserved : goal.loop-i-preserved
 loop-i-preserved c = let l = c.loop-i in

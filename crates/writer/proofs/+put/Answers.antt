@@ -1,7 +1,7 @@
 use borrow.Author.Rules.{rules}
 use Rattle.format.proofs.Bytes.{byte_below}
-use Rattle.rows.proofs.Decode.{leaf-inside, row-inside, row-next, array_behind, named-behind, named-next}
-use Rattle.writer.proofs.Compounds.{members-begun, members-ended, members_unnamed, members-full, members-lost, members-next}
+use Rattle.rows.proofs.Decode.{leaf-inside, row-inside, row-next, array_behind, named-next}
+use Rattle.writer.proofs.Compounds.{members-ended, members_unnamed, members-full, members-lost, members-next}
 use Rattle.writer.proofs.Types.{type-shallow, type_unknown, type-leaf, type-compound-full, type-compound, type-enumeration, enumeration-full, enumeration-lost, enumeration-put, type_variable_full, type_variable, type-array-full, type-array}
 use Rattle.writer.proofs.+put.Goals as goal
 
@@ -26,17 +26,11 @@ put_inner-returns-in_err-entry t c = rw c.from_residual.ensures (search (type_un
 pub put_inner-returns-in-Leaf : goal.put_inner-returns-in-Leaf
 put_inner-returns-in-Leaf t c = search (type-leaf, c.in_ok-entry.was)
 
-pub put_members-loop-init : goal.put_members-loop-init
-put_members-loop-init t c = search members-begun
-
 pub put_members-returns-in_err-member : goal.put_members-returns-in_err-member
 put_members-returns-in_err-member t c = rw c.from_residual.ensures (search (members_unnamed, c.in_err-member.was))
 
 pub put_members-returns-in_err-behind : goal.put_members-returns-in_err-behind
 put_members-returns-in_err-behind t c = rw c.from_residual-in_err-behind.ensures (search (members-full, c.in_ok-member.was, c.in_err-behind.was))
-
-pub put_members-overflow_add-from : goal.put_members-overflow_add-from
-put_members-overflow_add-from t c = search (named-behind, c.in_ok-member.was, rules)
 
 pub put_members-overflow_add-last : goal.put_members-overflow_add-last
 put_members-overflow_add-last t c = search (named-next, c.in_ok-member.was, rules)

@@ -1,8 +1,5 @@
-use Rattle.writer_parts.proofs.Leaves.{columns-begun, columns-ended, columns-full, columns-next}
+use Rattle.writer_parts.proofs.Leaves.{columns-ended, columns-full, columns-next}
 use Rattle.writer_parts.proofs.put_columns.Goals as goal
-
-pub loop-c-init : goal.loop-c-init
-loop-c-init c = search columns-begun
 
 pub returns-in_err-a : goal.returns-in_err-a
 returns-in_err-a c = rw c.from_residual.ensures (search (columns-full, c.in_err-a.was))

@@ -1,6 +1,6 @@
 use borrow.Author.Rules.{rules}
-use Rattle.rows.proofs.Decode.{named-behind, named-next}
-use Rattle.writer_parts.proofs.Enums.{enum_begun, enum_unnamed, enum_full, enum_past, enum_next, enum_cut, enum_ended, values-fit}
+use Rattle.rows.proofs.Decode.{named-next}
+use Rattle.writer_parts.proofs.Enums.{enum_begun, enum_unnamed, enum_full, enum_past, enum_next, enum_cut, enum_ended}
 use Rattle.writer_parts.proofs.put_enum_members.Goals as goal
 
 pub loop-init : goal.loop-init
@@ -18,14 +18,8 @@ returns-then-pool-values c = search (enum_past, c.in_ok-member.was)
 pub overflow_add-r : goal.overflow_add-r
 overflow_add-r c = search (named-next, c.in_ok-member.was, rules)
 
-pub overflow_add-p : goal.overflow_add-p
-overflow_add-p c = search (named-behind, c.in_ok-member.was, rules)
-
 pub loop-preserved : goal.loop-preserved
 loop-preserved c = search (enum_next, c.in_ok-member.was, c.in_ok-a.was)
-
-pub overflow_add-result : goal.overflow_add-result
-overflow_add-result c = search (values-fit, c.in_ok-end.was)
 
 pub returns-in_err-end : goal.returns-in_err-end
 returns-in_err-end c = rw c.from_residual-in_err-end.ensures (search (enum_cut, c.in_err-end.was))

@@ -1,8 +1,0 @@
-use Rattle.firsts.proofs.Chaining.{zeroed, none-placed, all_placed}
-use Rattle.firsts.proofs.chains.chain_all.Goals as goal
-
-pub build-requires : goal.build-requires
-build-requires c = none-placed _ _ _ _ _ c.requires (zeroed _ _ _ c.requires.room (c.fill.ensures.after (λ y e. e)))
-
-pub returns : goal.returns
-returns c = all_placed _ _ _ _ _ c.requires (zeroed _ _ _ c.requires.room (c.fill.ensures.after (λ y e. e))) c.build.ensures
