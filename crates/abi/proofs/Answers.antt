@@ -1,9 +1,10 @@
 -- What a host is told, by an answer's number and values.
 use Rattle.std.specs.Prelude.{ℕ, ◌≡◌, Bool, true, false, List, Result, get_or}
-use Rattle.std.proofs.Common.{ap, ◌∙◌, sym}
+use Rattle.std.specs.Int.{from_bool}
+use Rattle.std.proofs.Common.{ap, ◌∙◌}
 use Rattle.refusal.specs.Refusal.{answer_number, answer_values}
 use Rattle.refusal.specs.declared.Refusal.{Refusal}
-use Rattle.format.specs.Outcome.{Outcome, outcome_number, outcome_values, Answers}
+use Rattle.format.specs.Outcome.{Outcome, Answers}
 use Rattle.table.specs.Survey.{yes_or_no}
 use Rattle.abi.specs.Answers.{Tells}
 
@@ -13,10 +14,7 @@ tells a k h w =
     record { number_is = k ∙ a.number; first-is = h ∙ ap (λ (l : List ℕ). get_or l 0 0) a.values; second_is = w ∙ ap (λ (l : List ℕ). get_or l 1 0) a.values }
 
 -- yes and no
-pub yes_is : {r b : Bool} → r ≡ b → r ≡ true → 1 ≡ yes_or_no b
+pub yes_or_no_is : {r b : Bool} {n : ℕ} → r ≡ b → n ≡ from_bool r → n ≡ yes_or_no b
 unfolding yes_or_no
-yes_is e h = rw (sym e ∙ h)
-
-pub no_is : {r b : Bool} → r ≡ b → r ≡ false → 0 ≡ yes_or_no b
-unfolding yes_or_no
-no_is e h = rw (sym e ∙ h)
+yes_or_no_is {b = true} e h = h ∙ rw e
+yes_or_no_is {b = false} e h = h ∙ rw e

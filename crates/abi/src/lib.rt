@@ -273,9 +273,5 @@ pub extern "C" fn datatype_holds_file_address(
 pub extern "C" fn class_may_hold_object_address(byte: u8) -> u32
     ensures { result ≡ yes_or_no (class_may_hold_object_address_of byte) }
 {
-    if table::class_may_hold_object_address(byte) {
-        1
-    } else {
-        0
-    }
+    u32::from(table::class_may_hold_object_address(byte))
 }

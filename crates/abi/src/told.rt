@@ -52,7 +52,7 @@ impl Told for bool {
 
     #[tactic(auto, unfolding(table::specs::Survey::held_values, table::specs::Survey::yes_or_no))]
     fn told(self) -> (u64, u64) {
-        if self { (1, 0) } else { (0, 0) }
+        (u64::from(self), 0)
     }
 }
 
@@ -66,7 +66,7 @@ impl Told for Sameness {
 
     #[tactic(auto, unfolding(compare::specs::Agreeing::same_or_differs))]
     fn told(self) -> (u64, u64) {
-        if self.0 { (0, 0) } else { (1, 0) }
+        (u64::from(!self.0), 0)
     }
 }
 
@@ -103,7 +103,7 @@ pub fn comparison(answer: Result<bool, Refusal>) -> Result<Sameness, Refusal>
     ensures number { answer_number result ≡ answer_number answer }
     ensures values { answer_values (λ s. same_or_differs s.0) result ≡ answer_values same_or_differs answer }
 {
-    Ok(Sameness(answer?))
+    answer.map(Sameness)
 }
 
 // Puts an answer's values, the result's or the refusal's, where a host finds them, and returns its number.

@@ -1,5 +1,4 @@
-// A view of a record block: its bytes with the record size. The functions over the view are thin; the work is in those over a plain slice and
-// numbers.
+// A view of a record block: its bytes with the record size. The functions over the view call those over a plain slice and numbers.
 #![tactic(auto)]
 
 ghost use Rattle.std.specs.Prelude.{◌≡◌};
@@ -34,10 +33,9 @@ pub fn record_bytes<'a>(bytes: &'a [u8], record_size: u64, number: u64) -> &'a [
     ensures is { result.now ≡ record_of_lem bytes.now record_size number }
     ensures begins { result.ref_ptr ≡ further bytes.entry.ref_ptr (record_place bytes.now record_size number) }
 {
-    let none: usize = 0;
     let count = record_count(bytes, record_size);
     if count <= number {
-        return &bytes[none..none];
+        return &bytes[..0];
     }
     let size = at_least_one(record_size) as usize;
     let from = number as usize * size;
@@ -52,7 +50,7 @@ pub fn view<'a>(bytes: &'a [u8], record_size: u64) -> Block<'a>
     Block { bytes, record_size }
 }
 
-// How many whole records a block has.
+// How many whole records a block has, as `record_count` says it: a number for every block, since record size 0 counts as 1.
 pub fn count<'a>(block: Block<'a>) -> u64
     ensures { result ≡ record_count_of block.entry.bytes.now block.entry.record_size }
 {

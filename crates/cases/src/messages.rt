@@ -1,8 +1,20 @@
-// The messages of the cases. U1, U2, R and P are document 01's.
+// The messages of the cases. U1, R and P are document 01's.
 ghost use Rattle.std.specs.Prelude.{◌≡◌, ◌+◌, ◌*◌, length};
 
-use record_types::{FLOAT, P, R, TWO_R, U1};
+use record_types::{FLOAT, NO_U1, ON_OFF, P, R, SQUARE_OF_U1, TWO_R, U1, put_sequences};
 use show::reading;
+
+// An opaque type with a tag of 3 bytes, without the padding.
+const TAG: [u8; 11] = *b"\x15\x03\x00\x00\x05\x00\x00\x00abc";
+
+// A compound that ends before its member.
+const MEMBER_CUT_OFF: [u8; 8] = *b"\x36\x01\x00\x00\x04\x00\x00\x00";
+
+// A compound that ends in the name of its member.
+const NAME_WITHOUT_NUL: [u8; 11] = *b"\x36\x01\x00\x00\x04\x00\x00\x00abc";
+
+// A header of class 12 and version 15.
+const CLASS_12: [u8; 8] = *b"\xfc\x00\x00\x00\x00\x00\x00\x00";
 
 // At limit 15, with 64 rows and 256 pool bytes.
 fn plain(label: &[u8], message: &[u8]) {
@@ -13,10 +25,7 @@ fn plain(label: &[u8], message: &[u8]) {
 pub fn document_cases() {
     plain(b"empty", b"");
     plain(b"U1", &U1);
-    plain(
-        b"a tag without its padding",
-        b"\x15\x03\x00\x00\x05\x00\x00\x00abc",
-    );
+    plain(b"a tag without its padding", &TAG);
     plain(b"class 12", b"\x1c\x00\x00\x00\x00\x00\x00\x00");
     plain(
         b"compound of version 0",
@@ -26,15 +35,9 @@ pub fn document_cases() {
     plain(b"charset 2", b"\x13\x20\x00\x00\x01\x00\x00\x00");
     plain(b"P", &P);
     reading(b"P at limit 2", &P, 2, 64, 256);
-    plain(
-        b"array with dimension 0",
-        b"\x3a\x00\x00\x00\x00\x00\x00\x00\x01\x00\x00\x00\x00\x10\x00\x00\x00\x01\x00\x00\x00\x00\x00\x08\x00",
-    );
+    plain(b"array with dimension 0", &NO_U1);
     plain(b"array of two R", &TWO_R);
-    plain(
-        b"dimensions 65536 and 65536 over U1",
-        b"\x3a\x00\x00\x00\x00\x00\x00\x00\x02\x00\x00\x01\x00\x00\x00\x01\x00\x10\x00\x00\x00\x01\x00\x00\x00\x00\x00\x08\x00",
-    );
+    plain(b"dimensions 65536 and 65536 over U1", &SQUARE_OF_U1);
     sequences(b"31 sequences round R", 31, &R);
     sequences(b"32 sequences round R", 32, &R);
 }
@@ -55,35 +58,16 @@ fn fill(message: &mut [u8], start: usize, inner: &[u8])
     requires { start + length inner.now ≡ length message.old }
 {
     let (headers, rest) = message.split_at_mut(start);
-    for header in headers.chunks_exact_mut(8) {
-        header[0] = 0x19;
-        header[4] = 16;
-    }
+    put_sequences(headers);
     rest.copy_from_slice(inner);
 }
 
 // Too few rows, and too many levels.
 pub fn row_and_level_cases() {
     reading(b"empty, no row", b"", 15, 0, 256);
-    reading(
-        b"one member cut off, 1 row",
-        b"\x36\x01\x00\x00\x04\x00\x00\x00",
-        15,
-        1,
-        256,
-    );
-    reading(
-        b"one member cut off, 2 rows",
-        b"\x36\x01\x00\x00\x04\x00\x00\x00",
-        15,
-        2,
-        256,
-    );
-    sequences(
-        b"31 sequences round a member cut off",
-        31,
-        b"\x36\x01\x00\x00\x04\x00\x00\x00",
-    );
+    reading(b"one member cut off, 1 row", &MEMBER_CUT_OFF, 15, 1, 256);
+    reading(b"one member cut off, 2 rows", &MEMBER_CUT_OFF, 15, 2, 256);
+    sequences(b"31 sequences round a member cut off", 31, &MEMBER_CUT_OFF);
     sequences(
         b"31 sequences round a member's start",
         31,
@@ -100,10 +84,7 @@ pub fn row_and_level_cases() {
 
 // Messages that end too early, by the message that the count begins in.
 pub fn short_cases() {
-    plain(
-        b"a name without NUL",
-        b"\x36\x01\x00\x00\x04\x00\x00\x00abc",
-    );
+    plain(b"a name without NUL", &NAME_WITHOUT_NUL);
     plain(
         b"nested header cut off",
         b"\x19\x00\x00\x00\x10\x00\x00\x00\x10\x00\x00",
@@ -150,7 +131,7 @@ pub fn name_cases() {
     );
     reading(
         b"a name too long, without NUL",
-        b"\x36\x01\x00\x00\x04\x00\x00\x00abc",
+        &NAME_WITHOUT_NUL,
         15,
         64,
         2,
@@ -181,13 +162,7 @@ pub fn piece_cases() {
         b"a tag is not mended",
         b"\x15\x01\x00\x00\x01\x00\x00\x00\xff",
     );
-    reading(
-        b"a tag too long for the pool",
-        b"\x15\x03\x00\x00\x05\x00\x00\x00abc",
-        15,
-        64,
-        2,
-    );
+    reading(b"a tag too long for the pool", &TAG, 15, 64, 2);
     reading(
         b"a value too long for the pool",
         b"\x38\x01\x00\x00\x02\x00\x00\x00\x10\x00\x00\x00\x02\x00\x00\x00\x00\x00\x10\x00a\x00\x01\x02",
@@ -202,15 +177,12 @@ pub fn piece_cases() {
 pub fn size_and_version_cases() {
     reading(
         b"class 12 of version 15 at limit 14",
-        b"\xfc\x00\x00\x00\x00\x00\x00\x00",
+        &CLASS_12,
         14,
         64,
         256,
     );
-    plain(
-        b"class 12 of version 15 at limit 15",
-        b"\xfc\x00\x00\x00\x00\x00\x00\x00",
-    );
+    plain(b"class 12 of version 15 at limit 15", &CLASS_12);
     plain(
         b"class 11 of version 1 is read as version 3",
         b"\x1b\x01\x00\x00\x08\x00\x00\x00a\x00\x00\x17\x00\x00\x00\x08\x00\x00\x00",
@@ -271,10 +243,7 @@ pub fn class_cases() {
         b"bit field",
         b"\x14\x01\x00\x00\x02\x00\x00\x00\x03\x00\x05\x00",
     );
-    plain(
-        b"enumeration",
-        b"\x38\x02\x00\x00\x01\x00\x00\x00\x10\x00\x00\x00\x01\x00\x00\x00\x00\x00\x08\x00on\x00off\x00\x01\x02",
-    );
+    plain(b"enumeration", &ON_OFF);
     plain(
         b"variable-length string",
         b"\x19\x21\x01\x00\x10\x00\x00\x00\x10\x00\x00\x00\x01\x00\x00\x00\x00\x00\x08\x00",

@@ -1,16 +1,15 @@
 // The groups of a block of records of a type that is read first into 64 rows and 256 pool bytes. What is lent for numbers and sizes and as workspace
 // is all 7 before the call and shown whole after it.
 use duplicates::{Groups, duplicates, duplicates_words};
-use record_types::read_labelled;
+use record_types::{with_bad_tables, with_type};
 use refusal::Refusal;
-use show::{out, refusal_line, text};
+use show::{answer_line, out, text};
 use show_lent::list_line;
 
 fn groups_line(answer: Result<Groups, Refusal>) {
-    match answer {
-        Err(e) => refusal_line(e),
-        Ok(groups) => out!("records {} distinct {}\n", groups.records, groups.distinct),
-    }
+    answer_line(answer, |groups| {
+        out!("records {} distinct {}\n", groups.records, groups.distinct)
+    });
 }
 
 fn group_and_show(
@@ -55,27 +54,20 @@ pub fn grouping(
     groups: usize,
     words: usize,
 ) {
-    let mut table = [7u32; 1024];
-    let mut pool = [7u8; 256];
-    if read_labelled(label, message, &mut table, &mut pool) {
-        group_in(&table, &pool, block, places, groups, words);
-    }
+    with_type(label, message, |table, pool| {
+        group_in(table, pool, block, places, groups, words);
+    });
 }
 
 fn words_line(answer: Result<u64, Refusal>) {
-    match answer {
-        Err(e) => refusal_line(e),
-        Ok(n) => out!("{n} words\n"),
-    }
+    answer_line(answer, |n| out!("{n} words\n"));
 }
 
 // The words of workspace for so many records of the type of a message.
 pub fn words(label: &[u8], message: &[u8], records: u64) {
-    let mut table = [7u32; 1024];
-    let mut pool = [7u8; 256];
-    if read_labelled(label, message, &mut table, &mut pool) {
-        words_line(duplicates_words(&table, &pool, records));
-    }
+    with_type(label, message, |table, pool| {
+        words_line(duplicates_words(table, pool, records));
+    });
 }
 
 fn refused_table(label: &[u8], table: &[u32], pool: &[u8]) {
@@ -86,11 +78,7 @@ fn refused_table(label: &[u8], table: &[u32], pool: &[u8]) {
     words_line(duplicates_words(table, pool, 1));
 }
 
-// By a table that sets out no type, and of a fixed type of size 0, which no message gives.
+// By tables whose types are not admitted.
 pub fn bad_tables() {
-    let mut table = [0u32; 16];
-    let pool = [0u8; 8];
-    refused_table(b"no type", &table, &pool);
-    table[0] = 1;
-    refused_table(b"a fixed type of size 0", &table, &pool);
+    with_bad_tables(|label, table, pool| refused_table(label, table, pool));
 }

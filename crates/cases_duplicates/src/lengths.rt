@@ -1,8 +1,8 @@
 // Six records of P with a workspace of every length, up to one word more than `duplicates_words` tells.
 use crate::types::SIX_OF_P;
 use duplicates::{Groups, duplicates, duplicates_words};
-use record_types::P;
-use show::{out, refusal_line};
+use record_types::{P, with_read};
+use show::{answer_line, out};
 use show_lent::{cleared_to, workspaces_line};
 
 // Whether the lists are those of the six records, the lent words are 0 and those behind them as before.
@@ -48,17 +48,12 @@ fn lengths_line(table: &[u32], pool: &[u8], needed: u64) {
 }
 
 fn needed_and_more(table: &[u32], pool: &[u8]) {
-    match duplicates_words(table, pool, 6) {
-        Err(e) => refusal_line(e),
-        Ok(n) => lengths_line(table, pool, n),
-    }
+    answer_line(
+        duplicates_words(table, pool, 6),
+        |n| lengths_line(table, pool, n),
+    );
 }
 
 pub fn workspace_case() {
-    let mut table = [7u32; 1024];
-    let mut pool = [7u8; 256];
-    match reader::read(&P, 15, &mut table, &mut pool) {
-        Err(e) => refusal_line(e),
-        Ok(_) => needed_and_more(&table, &pool),
-    }
+    with_read(&P, |table, pool| needed_and_more(table, pool));
 }

@@ -1,6 +1,6 @@
 // Document 02's cases of records that are the same as an earlier one.
 use crate::calls::{grouping, words};
-use record_types::{NAME, NO_MEMBER, OUTSIDE, P, SEQUENCE};
+use record_types::{NAME, NO_MEMBER, P, with_refused_types};
 
 // Six records of P, of three kinds.
 pub const SIX_OF_P: [u8; 24] =
@@ -92,14 +92,5 @@ fn refused(label: &[u8], message: &[u8], block: &[u8]) {
 
 // Types whose records are not compared.
 pub fn refused_cases() {
-    refused(
-        b"a member past the end of its compound",
-        &OUTSIDE,
-        b"\x00\x00\x00\x00",
-    );
-    refused(
-        b"a sequence",
-        &SEQUENCE,
-        b"\x00\x00\x00\x00\x00\x00\x00\x00\x00\x00\x00\x00\x00\x00\x00\x00",
-    );
+    with_refused_types(|label, message, block| refused(label, message, block));
 }

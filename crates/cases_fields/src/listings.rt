@@ -1,22 +1,16 @@
-// Listings of types. U1, U2 and P are document 01's.
+// Listings of types. U1, R and P are document 01's.
 use listing::list_fields;
-use record_types::{P, U1};
+use record_types::{P, SQUARE_OF_U1, U1, WIDE_ENUMERATION, put_sequences, with_type};
 use refusal::Refusal;
-use show::{out, refusal_line, shown_text, text};
+use show::{answer_line, out, shown_text, text};
 use show_lent::lent_line;
 
 fn listing_lines(answer: Result<usize, Refusal>, out: &[u8]) {
-    match answer {
-        Err(e) => {
-            refusal_line(e);
-            lent_line(out, 0);
-        }
-        Ok(n) => {
-            out!("{n} bytes\n");
-            shown_text(out, n);
-            lent_line(out, n);
-        }
-    }
+    answer_line(answer, |n| {
+        out!("{n} bytes\n");
+        shown_text(out, n);
+    });
+    lent_line(out, answer.unwrap_or(0));
 }
 
 fn list_and_show(table: &[u32], pool: &[u8], out: &mut [u8]) {
@@ -26,18 +20,13 @@ fn list_and_show(table: &[u32], pool: &[u8], out: &mut [u8]) {
 
 // The listing of the type of a message, into so many bytes, at most 1,024.
 fn listed(label: &[u8], message: &[u8], room: usize) {
-    let mut table = [7u32; 1024];
-    let mut pool = [7u8; 256];
-    let mut out = [7u8; 1024];
-    text(label);
-    text(b": ");
     if room > 1024 {
         return;
     }
-    match reader::read(message, 15, &mut table, &mut pool) {
-        Err(e) => refusal_line(e),
-        Ok(_) => list_and_show(&table, &pool, &mut out[..room]),
-    }
+    with_type(label, message, |table, pool| {
+        let mut out = [7u8; 1024];
+        list_and_show(table, pool, &mut out[..room]);
+    });
 }
 
 // The lines of whole types.
@@ -50,7 +39,7 @@ pub fn type_cases() {
     );
     listed(
         b"an enumeration over U1 with one member",
-        b"\x38\x01\x00\x00\x02\x00\x00\x00\x10\x00\x00\x00\x01\x00\x00\x00\x00\x00\x08\x00\x61\x00\x05",
+        &WIDE_ENUMERATION,
         1024,
     );
     listed(
@@ -58,20 +47,13 @@ pub fn type_cases() {
         b"\x36\x01\x00\x00\x28\x00\x00\x00\x61\x00\x08\x3a\x00\x00\x00\x00\x00\x00\x00\x01\x02\x00\x00\x00\x19\x00\x00\x00\x10\x00\x00\x00\x10\x00\x00\x00\x01\x00\x00\x00\x00\x00\x08\x00",
         1024,
     );
-    listed(
-        b"dimensions 65536 and 65536 over U1",
-        b"\x3a\x00\x00\x00\x00\x00\x00\x00\x02\x00\x00\x01\x00\x00\x00\x01\x00\x10\x00\x00\x00\x01\x00\x00\x00\x00\x00\x08\x00",
-        1024,
-    );
+    listed(b"dimensions 65536 and 65536 over U1", &SQUARE_OF_U1, 1024);
 }
 
 // 31 sequences round R: 32 levels.
 pub fn depth_case() {
     let mut message = [0u8; 256];
-    for header in message.chunks_exact_mut(8) {
-        header[0] = 0x19;
-        header[4] = 16;
-    }
+    put_sequences(&mut message);
     message[248] = 0x17;
     message[252] = 8;
     listed(b"31 sequences round R", &message, 1024);

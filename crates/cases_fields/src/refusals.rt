@@ -1,16 +1,13 @@
 // The line of each refusal.
 use listing::list_refusal;
 use refusal::Refusal;
-use show::{refusal_line, shown_text, text};
+use show::{answer_line, shown_text, text};
 use show_lent::lent_line;
 
 fn shown(answer: Result<usize, Refusal>, out: &[u8]) {
-    match answer {
-        Err(e) => {
-            refusal_line(e);
-            lent_line(out, 0);
-        }
-        Ok(n) => shown_text(out, n),
+    answer_line(answer, |n| shown_text(out, n));
+    if answer.is_err() {
+        lent_line(out, 0);
     }
 }
 

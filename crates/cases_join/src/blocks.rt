@@ -1,7 +1,7 @@
 // Document 02's cases of two blocks made one. A and B are of document 01's P: A's first two records are the same, and so are B's last two, and
 // A's last and B's first.
 use crate::calls::joining;
-use record_types::{NAME, NO_MEMBER, OUTSIDE, P, SEQUENCE};
+use record_types::{NAME, NO_MEMBER, P, with_refused_types};
 
 pub const A: [u8; 12] = *b"\x01\xff\x05\x00\x01\x00\x05\x00\x02\x00\x05\x00";
 
@@ -108,14 +108,5 @@ fn refused(label: &[u8], message: &[u8], record: &[u8]) {
 }
 
 pub fn refused_cases() {
-    refused(
-        b"a member past the end of its compound",
-        &OUTSIDE,
-        b"\x00\x00\x00\x00",
-    );
-    refused(
-        b"a sequence",
-        &SEQUENCE,
-        b"\x00\x00\x00\x00\x00\x00\x00\x00\x00\x00\x00\x00\x00\x00\x00\x00",
-    );
+    with_refused_types(|label, message, record| refused(label, message, record));
 }

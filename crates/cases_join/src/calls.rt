@@ -1,16 +1,15 @@
 // Two blocks of records made one, of a type that is read first into 64 rows and 256 pool bytes. What is lent for the result and as workspace is all
 // 7 before the call and shown whole after it.
 use join::{Joint, join};
-use record_types::read_labelled;
+use record_types::{with_bad_tables, with_type};
 use refusal::Refusal;
-use show::{out, refusal_line, shown_bytes, text};
+use show::{answer_line, out, shown_bytes, text};
 use show_lent::list_line;
 
 fn joined_line(answer: Result<Joint, Refusal>) {
-    match answer {
-        Err(e) => refusal_line(e),
-        Ok(joint) => out!("bytes {} records {}\n", joint.bytes, joint.records),
-    }
+    answer_line(answer, |joint| {
+        out!("bytes {} records {}\n", joint.bytes, joint.records)
+    });
 }
 
 fn out_line(out: &[u8]) {
@@ -55,11 +54,9 @@ pub fn joining<'a>(
     room: usize,
     words: usize,
 ) {
-    let mut table = [7u32; 1024];
-    let mut pool = [7u8; 256];
-    if read_labelled(label, message, &mut table, &mut pool) {
-        join_in(&table, &pool, a, b, room, words);
-    }
+    with_type(label, message, |table, pool| {
+        join_in(table, pool, a, b, room, words);
+    });
 }
 
 fn refused_table(label: &[u8], table: &[u32], pool: &[u8]) {
@@ -70,11 +67,7 @@ fn refused_table(label: &[u8], table: &[u32], pool: &[u8]) {
     join_in(table, pool, b"\x01", b"\x01", 0, 3);
 }
 
-// By a table that sets out no type, and of a fixed type of size 0, which no message gives.
+// By tables whose types are not admitted.
 pub fn bad_tables() {
-    let mut table = [0u32; 16];
-    let pool = [0u8; 8];
-    refused_table(b"no type", &table, &pool);
-    table[0] = 1;
-    refused_table(b"a fixed type of size 0", &table, &pool);
+    with_bad_tables(|label, table, pool| refused_table(label, table, pool));
 }

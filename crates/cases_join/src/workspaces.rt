@@ -1,7 +1,7 @@
 // A and B with a workspace of every length, up to one word more than the 22 that six records of P want.
 use crate::blocks::{A, B};
 use join::{Joint, join};
-use record_types::{P, read_labelled};
+use record_types::{P, with_type};
 use show_lent::{cleared_to, workspaces_line};
 
 // Whether the joined block is there, the lent words are 0, and what lies behind each is as before.
@@ -29,14 +29,9 @@ fn given_with(table: &[u32], pool: &[u8], words: usize) -> bool {
 }
 
 pub fn workspace_case() {
-    let mut table = [7u32; 1024];
-    let mut pool = [7u8; 256];
-    if read_labelled(
+    with_type(
         b"A and B, workspaces of 0 to 23 words",
         &P,
-        &mut table,
-        &mut pool,
-    ) {
-        workspaces_line(23, |words| given_with(&table, &pool, words));
-    }
+        |table, pool| workspaces_line(23, |words| given_with(table, pool, words)),
+    );
 }

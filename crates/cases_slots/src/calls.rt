@@ -1,7 +1,8 @@
 // The sizes, extents, predicates, names, slots and references of a type that is read first, at limit 15, into 64 rows and 256 pool bytes; and what
 // each gives.
+use record_types::{with_read, with_type};
 use refusal::Refusal;
-use show::{out, refusal_line, text};
+use show::{answer_line, out, text};
 use show_lent::lent_line;
 use table::Used;
 
@@ -13,53 +14,34 @@ fn list(numbers: &[u64], count: u64) {
 }
 
 fn slots_line(answer: Result<u64, Refusal>, out: &[u64]) {
-    match answer {
-        Err(e) => {
-            refusal_line(e);
-            lent_line(out, 0);
-        }
-        Ok(n) => {
-            out!("slots {n}:");
-            list(out, n);
-            text(b"\n");
-            lent_line(out, n as usize);
-        }
-    }
+    answer_line(answer, |n| {
+        out!("slots {n}:");
+        list(out, n);
+        text(b"\n");
+    });
+    lent_line(out, answer.unwrap_or(0) as usize);
 }
 
 // Lists the slots of the type of a message, at most 4.
 pub fn slots(label: &[u8], message: &[u8]) {
-    let mut table = [7u32; 1024];
-    let mut pool = [7u8; 256];
-    let mut out = [7u64; 4];
-    text(label);
-    text(b": ");
-    match reader::read(message, 15, &mut table, &mut pool) {
-        Err(e) => refusal_line(e),
-        Ok(_) => {
-            let answer = slots::embedded_reference_slots(&table, &pool, &mut out);
-            slots_line(answer, &out);
-        }
-    }
+    with_type(label, message, |table, pool| {
+        let mut out = [7u64; 4];
+        let answer = slots::embedded_reference_slots(table, pool, &mut out);
+        slots_line(answer, &out);
+    });
 }
 
 fn references_line(answer: Result<u64, Refusal>, places: &[u64], values: &[u64]) {
-    match answer {
-        Err(e) => {
-            refusal_line(e);
-            lent_line(places, 0);
-            lent_line(values, 0);
-        }
-        Ok(n) => {
-            out!("references {n} at");
-            list(places, n);
-            out!(" are");
-            list(values, n);
-            text(b"\n");
-            lent_line(places, n as usize);
-            lent_line(values, n as usize);
-        }
-    }
+    answer_line(answer, |n| {
+        out!("references {n} at");
+        list(places, n);
+        out!(" are");
+        list(values, n);
+        text(b"\n");
+    });
+    let given = answer.unwrap_or(0) as usize;
+    lent_line(places, given);
+    lent_line(values, given);
 }
 
 // Collects the references of a block of records, at most 4.
@@ -79,25 +61,17 @@ pub fn references(label: &[u8], block: &[u8], record_size: u64, slots: &[u64]) {
 }
 
 fn size_line(answer: Result<u32, Refusal>) {
-    match answer {
-        Err(e) => refusal_line(e),
-        Ok(n) => out!("size {n}\n"),
-    }
+    answer_line(answer, |n| out!("size {n}\n"));
 }
 
 fn held_line(answer: Result<bool, Refusal>) {
-    match answer {
-        Err(e) => refusal_line(e),
-        Ok(true) => text(b"yes\n"),
-        Ok(false) => text(b"no\n"),
-    }
+    answer_line(answer, |held| out!("{}\n", if held { "yes" } else { "no" }));
 }
 
 fn extent_line(answer: Result<Used, Refusal>) {
-    match answer {
-        Err(e) => refusal_line(e),
-        Ok(used) => out!("{} rows, {} pool bytes\n", used.rows, used.bytes),
-    }
+    answer_line(answer, |used| {
+        out!("{} rows, {} pool bytes\n", used.rows, used.bytes)
+    });
 }
 
 fn size_lines(table: &[u32], pool: &[u8]) {
@@ -114,14 +88,7 @@ fn size_lines(table: &[u32], pool: &[u8]) {
 
 // The sizes, extent and address predicates of the type of a message.
 pub fn sizes(label: &[u8], message: &[u8]) {
-    let mut table = [7u32; 1024];
-    let mut pool = [7u8; 256];
-    text(label);
-    text(b": ");
-    match reader::read(message, 15, &mut table, &mut pool) {
-        Err(e) => refusal_line(e),
-        Ok(_) => size_lines(&table, &pool),
-    }
+    with_type(label, message, |table, pool| size_lines(table, pool));
 }
 
 fn name_line(table: &[u32], pool: &[u8], row: usize) {
@@ -139,14 +106,9 @@ fn name_lines(table: &[u32], pool: &[u8]) {
 
 // The names of the first five rows of the type of a message.
 pub fn names(label: &[u8], message: &[u8]) {
-    let mut table = [7u32; 1024];
-    let mut pool = [7u8; 256];
     text(label);
     text(b":");
-    match reader::read(message, 15, &mut table, &mut pool) {
-        Err(e) => refusal_line(e),
-        Ok(_) => name_lines(&table, &pool),
-    }
+    with_read(message, |table, pool| name_lines(table, pool));
 }
 
 // By a table that sets out no type, and of a fixed type of size 0, which no message gives.

@@ -1,6 +1,6 @@
 // Document 01's cases of sizes, slots and references, members' names, and one for each refusal of them. U1, R and P are document 01's.
 use crate::calls::{first_byte, names, references, sizes, slots};
-use record_types::{OUTSIDE, P, R, REGION, TWO_R, U1};
+use record_types::{ON_OFF, OUTSIDE, P, R, REGION, SQUARE_OF_U1, TWO_R, U1};
 
 // Types with slots and without, and immense arrays.
 pub fn slot_cases() {
@@ -81,10 +81,7 @@ pub fn reference_cases() {
 pub fn size_cases() {
     sizes(b"P", &P);
     sizes(b"array of two R", &TWO_R);
-    sizes(
-        b"dimensions 65536 and 65536 over U1",
-        b"\x3a\x00\x00\x00\x00\x00\x00\x00\x02\x00\x00\x01\x00\x00\x00\x01\x00\x10\x00\x00\x00\x01\x00\x00\x00\x00\x00\x08\x00",
-    );
+    sizes(b"dimensions 65536 and 65536 over U1", &SQUARE_OF_U1);
     sizes(
         b"a sequence of U1",
         b"\x19\x00\x00\x00\x00\x00\x00\x00\x10\x00\x00\x00\x01\x00\x00\x00\x00\x00\x08\x00",
@@ -99,8 +96,5 @@ pub fn size_cases() {
 // Names of members: of a compound, and of an enumeration.
 pub fn name_cases() {
     names(b"names of P", &P);
-    names(
-        b"names of an enumeration over U1",
-        b"\x38\x02\x00\x00\x01\x00\x00\x00\x10\x00\x00\x00\x01\x00\x00\x00\x00\x00\x08\x00on\x00off\x00\x01\x02",
-    );
+    names(b"names of an enumeration over U1", &ON_OFF);
 }

@@ -1,21 +1,16 @@
 // The calls on a type that is read first, at limit 15, into 64 rows and 256 pool bytes; and what each gives.
+use record_types::with_type;
 use refusal::Refusal;
-use show::{out, refusal_line, shown_bytes, text};
+use show::{answer_line, out, refusal_line, shown_bytes, text};
 use show_lent::lent_line;
 
 fn written_line(answer: Result<usize, Refusal>, out: &[u8]) {
-    match answer {
-        Err(e) => {
-            refusal_line(e);
-            lent_line(out, 0);
-        }
-        Ok(n) => {
-            out!("written {n} ");
-            shown_bytes(out, n);
-            out!("\n");
-            lent_line(out, n);
-        }
-    }
+    answer_line(answer, |n| {
+        out!("written {n} ");
+        shown_bytes(out, n);
+        out!("\n");
+    });
+    lent_line(out, answer.unwrap_or(0));
 }
 
 fn write_and_show(table: &[u32], pool: &[u8], edition: u32, out: &mut [u8]) {
@@ -25,15 +20,10 @@ fn write_and_show(table: &[u32], pool: &[u8], edition: u32, out: &mut [u8]) {
 
 // Writes the type of a message in an edition, into 160 bytes.
 pub fn writing(label: &[u8], message: &[u8], edition: u32) {
-    let mut table = [7u32; 1024];
-    let mut pool = [7u8; 256];
-    let mut out = [7u8; 160];
-    text(label);
-    text(b": ");
-    match reader::read(message, 15, &mut table, &mut pool) {
-        Err(e) => refusal_line(e),
-        Ok(_) => write_and_show(&table, &pool, edition, &mut out),
-    }
+    with_type(label, message, |table, pool| {
+        let mut out = [7u8; 160];
+        write_and_show(table, pool, edition, &mut out);
+    });
 }
 
 // Changes an element, if there is one at that place.
@@ -52,19 +42,12 @@ pub fn writing_changed(
     place: usize,
     byte: u8,
 ) {
-    let mut table = [7u32; 1024];
-    let mut pool = [7u8; 256];
-    let mut out = [7u8; 160];
-    text(label);
-    text(b": ");
-    match reader::read(message, 15, &mut table, &mut pool) {
-        Err(e) => refusal_line(e),
-        Ok(_) => {
-            set(&mut table, word, value);
-            set(&mut pool, place, byte);
-            write_and_show(&table, &pool, 3, &mut out);
-        }
-    }
+    with_type(label, message, |table, pool| {
+        let mut out = [7u8; 160];
+        set(table, word, value);
+        set(pool, place, byte);
+        write_and_show(table, pool, 3, &mut out);
+    });
 }
 
 // Writes an opaque type whose tag is a whole pool.
@@ -115,28 +98,21 @@ fn round_trip_lines(answer: Result<usize, Refusal>, buffer: &[u8], table: &[u32]
 
 // Writes the type of a message in an edition into 160 bytes of 7, and reads it back under a limit.
 pub fn written_and_read(label: &[u8], message: &[u8], edition: u32, limit: u32) {
-    let mut table = [7u32; 1024];
-    let mut pool = [7u8; 256];
-    let mut second_table = [7u32; 512];
-    let mut second_pool = [7u8; 128];
-    let mut buffer = [7u8; 160];
-    text(label);
-    text(b": ");
-    match reader::read(message, 15, &mut table, &mut pool) {
-        Err(e) => refusal_line(e),
-        Ok(_) => {
-            let answer = round_trip::write_and_read(
-                &table,
-                &pool,
-                edition,
-                &mut buffer,
-                limit,
-                &mut second_table,
-                &mut second_pool,
-            );
-            round_trip_lines(answer, &buffer, &second_table, &second_pool);
-        }
-    }
+    with_type(label, message, |table, pool| {
+        let mut second_table = [7u32; 512];
+        let mut second_pool = [7u8; 128];
+        let mut buffer = [7u8; 160];
+        let answer = round_trip::write_and_read(
+            table,
+            pool,
+            edition,
+            &mut buffer,
+            limit,
+            &mut second_table,
+            &mut second_pool,
+        );
+        round_trip_lines(answer, &buffer, &second_table, &second_pool);
+    });
 }
 
 // Writing a table that sets out no type.

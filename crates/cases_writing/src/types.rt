@@ -1,4 +1,4 @@
-// Document 01's cases of writing, and one for each refusal of it. U1, U2, R and P are document 01's.
+// Document 01's cases of writing, and one for each refusal of it. U1 and P are document 01's.
 use crate::calls::{
     bad_table, writing, writing_array, writing_changed, writing_tag, written_and_read,
 };

@@ -23,7 +23,9 @@ use Rattle.format.proofs.Ownership.{admitting-zero, admitting-outside, admitting
 use Rattle.format.proofs.Same.{owned-agree}
 use Rattle.format.proofs.Table.{type-found}
 use Rattle.format.proofs.Walking.{moved_none, walked_same, walked_differs}
+use Rattle.std.specs.Option.{ok_or}
 use Rattle.table.specs.Survey.{as_option, Sets, Checks}
+use Rattle.table.proofs.Answers.{bad-table, bad-answer}
 use Rattle.table.specs.declared.Survey.{Survey}
 use Rattle.table.proofs.Surveys.{Says, told, Told}
 use Rattle.compare.specs.Agreeing.{Agreed, equal_range_of, AnswersFields, Agrees, AgreesAt, Admits, same_or_differs, Compares}
@@ -130,9 +132,10 @@ module _ (table pool : List ℕ) {s : Survey} (g : Sets table pool s) where
       unfolding answer_of
       admit_size p = rw (given_is, admitting-given g.type (gives (type_size_of g.type)) (zero-none z) (outside-is o) (heap_is p), size_is)
 
-pub admit_bad : (table pool : List ℕ) {x : Option Survey} → Checks table pool x → x ≡ None → Err BadTable ≡ answer_of (λ (n : ℕ). n) (admission table pool)
+pub admit_bad : (table pool : List ℕ) {x : Option Survey} {o : Result Survey Refusal} {a : Result ℕ Refusal} {e y : Refusal} → Checks table pool x → o ≡ ok_or x BadTable → o ≡ Err e → a ≡ Err y → y ≡ e
+    → a ≡ answer_of (λ (n : ℕ). n) (admission table pool)
 unfolding admission when_given answer_of
-admit_bad table pool h e = rw (h.bad-table e)
+admit_bad table pool h w i d f = bad-answer table pool h w i d f ∙ rw (bad-table table pool h w i)
 
 -- ---- behind the admission
 

@@ -1,5 +1,6 @@
 -- The walk's ways out at a type's row, but for what its members and entries answer.
-use Rattle.std.specs.Prelude.{Option, Some, None}
+use Rattle.std.specs.Prelude.{Option, Some, None, Result, Ok, Err}
+use Rattle.std.specs.Result.{result_ok}
 use Prim.Native.Nat.{ℕ, zero, suc, ◌+◌, ◌-◌, ◌*◌, ◌/◌, ◌<◌, ◌≤◌, min}
 use mathlib.Core.Path.{◌≡◌, refl, sym, ap, ◌∙◌}
 use mathlib.Core.Bool.{Bool, true, false, false≢true}
@@ -25,11 +26,18 @@ use Rattle.rows.specs.declared.Entry.TheVariants.{Leaf, Compound, Enumeration, V
 use Rattle.rows.proofs.Known.{claim_of-type}
 use Rattle.table.specs.Known.{PassesTo, PassesType, TotalAt, SizedTo, SizedAt}
 use Rattle.table.specs.Path.{top_of, Entered}
-use Rattle.table.specs.declared.Path.{Path}
-use Rattle.compare.specs.Agreeing.{Agreed, nul_terminated_of, field_at, is_field_of, is_string_of, Admitted, Agrees, AgreesIn, AgreesEach, AgreesAt, AgreesMembers, AgreesEntries, AgreesArray, AgreesEnumeration, AgreesField, AgreesStrings, AgreesFields, BaseIs, BaseIn, Standing}
+use Rattle.table.specs.declared.path.Path.{Path}
+use Rattle.compare.specs.Agreeing.{Agreed, nul_terminated_of, field_at, is_field_of, is_string_of, Admitted, Agrees, AgreesIn, AgreesEach, AgreesAt, AgreesMembers, AgreesEntries, AgreesArray, AgreesEnumeration, AgreesField, AgreesStrings, AgreesFields, BaseIs, BaseIn}
 use Rattle.compare.specs.declared.Base.{Base}
 use Rattle.compare.proofs.Fields.{IsField, field-agrees, leaf-field, enumeration-field, OneField, type-field}
 use Rattle.compare.proofs.Ranges.{answers_as}
+
+-- what an option was that `ok_or` turned
+pub some_in : {A E : Type 0} {o : Option A} {r : Result A E} {x : A} → o ≡ result_ok r → r ≡ Ok x → o ≡ Some x
+some_in h q = h ∙ ap result_ok q
+
+pub none_in : {A E : Type 0} {o : Option A} {r : Result A E} {e : E} → o ≡ result_ok r → r ≡ Err e → o ≡ None
+none_in h q = h ∙ ap result_ok q
 
 -- ---- an array
 
@@ -238,9 +246,6 @@ module _ (table pool : List ℕ) (depth row k : ℕ) where
           base-is.each a b at x (rw (j, h.top) at z)
 
 -- ---- one level further down
-
-pub standing-entered : {a b : List ℕ} {at row : ℕ} {path : Path} (inner : Path) → Entered path row inner → path.depth < 32 → at ≤ length a → length b ≡ length a → Standing inner a b at
-standing-entered inner e h s l = let d = e.deeper in record { deep = omega arith; shallow = omega arith; begins = s; lengths = l }
 
 pub says-entered : {table : List ℕ} {row : ℕ} {path : Path} {o : Option Entry} {e : Entry} (inner : Path) → Entered path row inner → RowSays table row o → o ≡ Some e → RowSays table (top_of inner) (Some e)
 says-entered inner h s i = rw h.top (rw i at s)

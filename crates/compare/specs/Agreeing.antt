@@ -12,15 +12,12 @@ use Rattle.rows.specs.Entries.{entry_at, RowSays, from_entry}
 use Rattle.rows.specs.declared.Entry.{Entry}
 use Rattle.rows.specs.declared.Entry.TheVariants.{Leaf, Compound, Enumeration, VariableLength, Array}
 use Rattle.table.specs.Known.{PassesType}
-use Rattle.table.specs.declared.Path.{Path}
 use Rattle.compare.specs.declared.Base.{Base}
 use Rattle.compare.specs.declared.Disagreement.{Disagreement}
 use Rattle.compare.specs.declared.Disagreement.TheVariants.{Apart, Lost}
 
--- the path has a row at its end, and a record begins within two of the same length
-pub record Standing (path : Path) (a b : List ℕ) (at : ℕ) : Type 0 where
-  pub deep : 0 < path.depth
-  pub shallow : path.depth ≤ 32
+-- a record begins within two of the same length
+pub record Standing (a b : List ℕ) (at : ℕ) : Type 0 where
   pub begins : at ≤ length a
   pub lengths : length b ≡ length a
 

@@ -1,7 +1,7 @@
 // Whether two records are the same: they agree on each byte that a field owns, as it is taken.
 #![tactic(auto)]
 
-ghost use Rattle.std.specs.Prelude.{◌≡◌, true, false, not, ℕ, ◌+◌, ◌*◌, ◌-◌, ◌≤◌, ◌<◌, length};
+ghost use Rattle.std.specs.Prelude.{◌≡◌, true, false, not, ◌+◌, ◌*◌, ◌-◌, ◌≤◌, ◌<◌, length};
 ghost use Rattle.format.specs.Image.{no_nul_between};
 ghost use Rattle.format.specs.Outcome.{gives, answer_of};
 ghost use Rattle.format.specs.Ownership.{admission, comparing};
@@ -12,7 +12,7 @@ ghost use Rattle.compare.specs.Agreeing.{equal_range_of, Equal, Common, nul_term
 
 use refusal::Refusal;
 use rows::{Entry, row_entry, row_member};
-use table::{Path, Survey, array_total, check, enter, next_row, size_at};
+use table::{Path, Survey, array_total, check, next_row, size_at};
 
 // Why a walk over a type's fields stops: two bytes of a field differ, or the table has no type there, or the records no room for it.
 #[derive(Clone, Copy, Debug, PartialEq, Eq)]
@@ -87,7 +87,7 @@ pub fn equal_string(a: &[u8], b: &[u8], at: usize, n: usize) -> bool
 
 // A field of n bytes from `at` on that counts whole.
 fn agree_field(a: &[u8], b: &[u8], at: usize, n: usize, next: usize) -> Result<usize, Disagreement>
-    requires { (at ≤ length a.now) × (length b.now ≡ length a.now) }
+    requires { Standing a.now b.now at }
     ensures { AgreesField n false a.now b.now at next result }
 {
     if a.len() - at < n {
@@ -117,7 +117,7 @@ fn agree_leaf(
     code: u32,
     next: usize,
 ) -> Result<usize, Disagreement>
-    requires { (at ≤ length a.now) × (length b.now ≡ length a.now) }
+    requires { Standing a.now b.now at }
     ensures { AgreesField size (nul_terminated_of class code) a.now b.now at next result }
 {
     let n = size as usize;
@@ -143,7 +143,7 @@ fn agree_strings(
     count: usize,
     next: usize,
 ) -> Result<usize, Disagreement>
-    requires { (at ≤ length a.now) × (length b.now ≡ length a.now) }
+    requires { Standing a.now b.now at }
     ensures { AgreesStrings n count a.now b.now at next result }
 {
     let mut start = at;
@@ -169,7 +169,7 @@ fn agree_enumeration(
     b: &[u8],
     at: usize,
 ) -> Result<usize, Disagreement>
-    requires { (at ≤ length a.now) × (length b.now ≡ length a.now) }
+    requires { Standing a.now b.now at }
     ensures { AgreesEnumeration levels table.now row size a.now b.now at result }
 {
     let next = next_row(table, row, levels);
@@ -195,7 +195,7 @@ pub fn is_string(entry: Entry) -> bool
     }
 }
 
-// An array of a field, of which `entry` is the row: strings each by itself, every other field as one range.
+// An array of a field, `entry` what its row has: strings each by itself, every other field as one range.
 fn agree_fields(
     a: &[u8],
     b: &[u8],
@@ -204,7 +204,7 @@ fn agree_fields(
     entry: Entry,
     next: usize,
 ) -> Result<usize, Disagreement>
-    requires { (at ≤ length a.now) × (length b.now ≡ length a.now) }
+    requires { Standing a.now b.now at }
     ensures { AgreesFields (is_string_of entry) base a.now b.now at next result }
 {
     if is_string(entry) {
@@ -230,7 +230,7 @@ fn array_base(table: &[u32], pool: &[u8], row: usize, rank: u32, levels: usize) 
     })
 }
 
-// The fields of the type at the top of the path, of which `entry` is the row; its record begins at `at`.
+// The fields of the type at the top of the path, `entry` what its row has; its record begins at `at`.
 #[cycle(agree)]
 fn agree_type(
     table: &[u32],
@@ -241,13 +241,11 @@ fn agree_type(
     b: &[u8],
     at: usize,
 ) -> Result<usize, Disagreement>
-    requires { Standing path a.now b.now at × RowSays table.now (top_of path) (Some entry) }
+    requires { Standing a.now b.now at × RowSays table.now (top_of path) (Some entry) }
     ensures { AgreesAt (33 - path.depth) table.now pool.now (top_of path) a.now b.now at result }
 {
     let depth = path.depth;
-    // In a local of its own: read out of the path, the array is compiled to one copy more.
-    let rows = path.rows;
-    let row = rows[depth - 1];
+    let row = path.top();
     match entry {
         Entry::VariableLength(_, _, _) => Err(Disagreement::Lost),
         Entry::Leaf(class, size, _, code) => agree_leaf(a, b, at, size, class, code, row + 1),
@@ -270,25 +268,21 @@ fn agree_array(
     b: &[u8],
     at: usize,
 ) -> Result<usize, Disagreement>
-    requires { Standing path a.now b.now at × (row * 16 + 16 ≤ length table.now) }
+    requires { Standing a.now b.now at × (row * 16 + 16 ≤ length table.now) }
     ensures { AgreesArray (32 - path.depth) table.now pool.now row rank a.now b.now at result }
 {
     let depth = path.depth;
     if depth >= 32 {
         return Err(Disagreement::Lost);
     }
-    let Some(base) = array_base(table, pool, row, rank, 32 - depth) else {
-        return Err(Disagreement::Lost);
-    };
+    let base = array_base(table, pool, row, rank, 32 - depth).ok_or(Disagreement::Lost)?;
     let below = row + 1;
-    let Some(entry) = row_entry(table, below) else {
-        return Err(Disagreement::Lost);
-    };
+    let entry = row_entry(table, below).ok_or(Disagreement::Lost)?;
     if is_field(entry) {
         let next = next_row(table, below, 32 - depth);
         return agree_fields(a, b, at, base, entry, next);
     }
-    let inner = enter(path, below);
+    let inner = path.enter(below);
     agree_entries(table, pool, inner, entry, a, b, at, base.stride, base.count)
 }
 
@@ -304,7 +298,7 @@ fn agree_members(
     b: &[u8],
     at: usize,
 ) -> Result<usize, Disagreement>
-    requires { Standing path a.now b.now at }
+    requires { Standing a.now b.now at }
     ensures { AgreesMembers (32 - path.depth) table.now pool.now members row a.now b.now at result }
 {
     let depth = path.depth;
@@ -313,9 +307,7 @@ fn agree_members(
         if depth >= 32 {
             return Err(Disagreement::Lost);
         }
-        let Some(member) = row_member(table, r) else {
-            return Err(Disagreement::Lost);
-        };
+        let member = row_member(table, r).ok_or(Disagreement::Lost)?;
         let offset = member.number as usize;
         if a.len() - at < offset {
             return Err(Disagreement::Lost);
@@ -337,17 +329,15 @@ fn agree_member(
     b: &[u8],
     at: usize,
 ) -> Result<usize, Disagreement>
-    requires { (path.depth < 32) × ((at ≤ length a.now) × (length b.now ≡ length a.now)) }
+    requires { (path.depth < 32) × Standing a.now b.now at }
     ensures { AgreesAt (32 - path.depth) table.now pool.now row a.now b.now at result }
 {
     let depth = path.depth;
-    let Some(entry) = row_entry(table, row) else {
-        return Err(Disagreement::Lost);
-    };
+    let entry = row_entry(table, row).ok_or(Disagreement::Lost)?;
     match entry {
         Entry::Leaf(class, size, _, code) => agree_leaf(a, b, at, size, class, code, row + 1),
         Entry::Enumeration(size, _) => agree_enumeration(table, row, 32 - depth, size, a, b, at),
-        _ => agree_type(table, pool, enter(path, row), entry, a, b, at),
+        _ => agree_type(table, pool, path.enter(row), entry, a, b, at),
     }
 }
 
@@ -364,7 +354,7 @@ fn agree_entries(
     stride: usize,
     count: usize,
 ) -> Result<usize, Disagreement>
-    requires { Standing path a.now b.now at × RowSays table.now (top_of path) (Some entry) }
+    requires { Standing a.now b.now at × RowSays table.now (top_of path) (Some entry) }
     ensures { AgreesEntries (33 - path.depth) table.now pool.now (top_of path) stride count a.now b.now at result }
 {
     let mut start = at;
@@ -389,14 +379,10 @@ pub fn same_records(table: &[u32], pool: &[u8], a: &[u8], b: &[u8]) -> bool
     if equal_range(a, b, 0, a.len()) {
         return true;
     }
-    let path = Path {
-        rows: [0; 32],
-        depth: 1,
-    };
     let Some(entry) = row_entry(table, 0) else {
         return false;
     };
-    agree_type(table, pool, path, entry, a, b, 0).is_ok()
+    agree_type(table, pool, Path::outermost(), entry, a, b, 0).is_ok()
 }
 
 // The admission of a type that the check has surveyed.
@@ -421,9 +407,7 @@ fn admit_surveyed(table: &[u32], pool: &[u8], s: Survey) -> Result<u32, Refusal>
 pub fn admit(table: &[u32], pool: &[u8]) -> Result<u32, Refusal>
     ensures { result ≡ answer_of (λ n. n) (admission table.now pool.now) }
 {
-    let Some(s) = check(table, pool) else {
-        return Err(Refusal::BadTable);
-    };
+    let s = check(table, pool).ok_or(Refusal::BadTable)?;
     admit_surveyed(table, pool, s)
 }
 

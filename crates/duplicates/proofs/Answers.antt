@@ -2,26 +2,33 @@
 use Prim.Native.Nat.{ℕ, suc, ◌+◌, ◌<◌, ◌≤◌}
 use mathlib.Core.Path.{◌≡◌, refl, sym, ap, ◌∙◌}
 use mathlib.Core.Bool.{Bool, true, false, cond}
-use mathlib.Core.List.{List, [], ◌∷◌}
+use mathlib.Core.List.{List, [], ◌∷◌, append-nil}
 use native.Mathlib.Omega.{arith}
-use lib.ListN.{length, get_or, take}
-use lib.Seq.{sets, take_at, take_all, length-take-le}
+use lib.ListN.{length, get_or, take, drop_of_length-le}
+use lib.Seq.{sets, take_all}
 use lib.Dec.{ltb, eqb}
 use borrow.Author.Tests.{lt-ltb, le-ltb}
 use Rattle.refusal.specs.declared.Refusal.TheVariants.{NoRoom}
 use Rattle.format.proofs.Lists.{sets-front}
 use Rattle.std.proofs.lemmas.List.Recursion.{is_count_by}
-use Rattle.groups.specs.Groups.{count, numbers_of, firsts_to, sizes_to, firsts_of, distinct_of}
+use Rattle.groups.specs.Groups.{count, firsts_to, sizes_to, firsts_of, distinct_of}
 use Rattle.groups.proofs.Firsts.{length-numbers}
 use Rattle.groups.proofs.Counts.{length-sizes}
-use Rattle.groups.proofs.Ways.{distinct-room}
-use Rattle.firsts.specs.Finding.{Known}
+use Rattle.groups.proofs.Ways.{numbers-all}
+use Rattle.firsts.specs.Found.{Standing, numbers_in}
+use Rattle.firsts.specs.Records.{keys_in}
+use Rattle.firsts.specs.declared.found.Found.{Found}
 use Rattle.duplicates.specs.Answers.{fitting_answer, written, Listed}
+use Rattle.duplicates.specs.Numbering.{Numbered}
 use Rattle.duplicates.specs.declared.Groups.{Groups}
 use Rattle.refusal.specs.declared.Refusal.{Refusal}
-use Rattle.std.specs.Prelude.{Result, Ok, Err, Option, Some, count_by}
+use Rattle.std.specs.Prelude.{Result, Ok, Err, Some, count_by}
 
 -- ---- the records listed
+
+-- a list stored over one as long
+sets-whole : (vs l : List ℕ) → length vs ≡ length l → sets l 0 vs ≡ vs
+sets-whole vs l e = sets-front vs l (omega arith) ∙ rw (drop_of_length-le l {i = length vs} (omega arith)) (append-nil vs)
 
 module _ (ns : List ℕ) (n d : ℕ) (m s : List ℕ) (e : length ns ≡ n) (g : d ≡ length (firsts_to ns n)) where
   groups : d ≡ length (firsts_to ns (length ns))
@@ -44,25 +51,32 @@ module _ (ns : List ℕ) (n d : ℕ) (m s : List ℕ) (e : length ns ≡ n) (g :
         sizes-are = b ∙ rw (← e) (sets-front (sizes_to ns (length ns)) s (omega (arith, groups, length-sizes ns (length ns))));
       }
 
--- by the keys
-groups_of_lem : (keys : List (List ℕ)) (n d : ℕ) → n ≡ length keys → d ≡ distinct_of keys → d ≡ length (firsts_to (numbers_of keys) n)
-unfolding distinct_of firsts_of
-groups_of_lem keys n d e g = g ∙ rw e
+-- by the firsts found
+module _ (f : Found) (g : Standing f) (d : ℕ) (e : d ≡ distinct_of (keys_in f.table.now f.pool.now f.records)) where
+  long : length (numbers_in f) ≡ f.n
+  long = length-numbers (keys_in f.table.now f.pool.now f.records) ∙ sym g.count
 
-pub plain-full : (keys : List (List ℕ)) (n d : ℕ) (m s : List ℕ) → n ≡ length keys → d ≡ distinct_of keys → length s < d → Listed (numbers_of keys) (Err (NoRoom d)) m m s s
-plain-full keys n d m s e g h = listed-full (numbers_of keys) n d m s (length-numbers keys ∙ sym e) (groups_of_lem keys n d e g) h
+  found-groups : d ≡ length (firsts_to (numbers_in f) f.n)
+  unfolding distinct_of firsts_of
+  found-groups = e ∙ rw g.count
 
--- the numbers stored are the first n of what is lent
-numbers-taken : (keys : List (List ℕ)) (n : ℕ) (m m' : List ℕ) → n ≡ length keys → n ≤ length m → m' ≡ sets m 0 (numbers_of keys) → take n m' ≡ numbers_of keys
-numbers-taken keys n m m' e r a =
-    rw (a, sets-front (numbers_of keys) m (omega (arith, length-numbers keys)))
-    (take_at (numbers_of keys) _ n (length-numbers keys ∙ sym e))
+  pub groups-full : (m s : List ℕ) → length s < d → Listed (numbers_in f) (Err (NoRoom d)) m m s s
+  groups-full m s h = listed-full (numbers_in f) f.n d m s long found-groups h
 
-pub plain-found : (keys : List (List ℕ)) (n d : ℕ) (m m' s s' : List ℕ) → n ≡ length keys → d ≡ distinct_of keys → d ≤ length s → n ≤ length m
-    → m' ≡ sets m 0 (numbers_of keys) → s' ≡ sets s 0 (sizes_to (take n m') n) → Listed (numbers_of keys) (Ok (record { records = n; distinct = d })) m m' s s'
-plain-found keys n d m m' s s' e g h r a b =
-    listed_found (numbers_of keys) n d m s (length-numbers keys ∙ sym e) (groups_of_lem keys n d e g) m' s' h r a
-    (b ∙ ap (λ (x : List ℕ). sets s 0 (sizes_to x n)) (numbers-taken keys n m m' e r a))
+  module _ (ns : List ℕ) (q : Numbered f ns) where
+    pub groups-room : (room : ℕ) → d ≤ room → length (firsts_to ns f.n) ≤ room
+    groups-room room h = rw q.numbers (omega (arith, found-groups))
+
+    pub groups-listed : (m s s' : List ℕ) → length m ≡ f.n → d ≤ length s → s' ≡ sets s 0 (sizes_to ns f.n) → Listed (numbers_in f) (Ok (record { records = f.n; distinct = d })) m ns s s'
+    groups-listed m s s' l h b =
+        let a : ns ≡ sets m 0 (numbers_in f) = q.numbers ∙ sym (sets-whole (numbers_in f) m (long ∙ sym l)) in
+        listed_found (numbers_in f) f.n d m s long found-groups ns s' h (omega arith) a (b ∙ ap (λ (x : List ℕ). sets s 0 (sizes_to x f.n)) q.numbers)
+
+-- every number stored
+pub all-numbered : (f : Found) (k : ℕ) (m ns : List ℕ) → Standing f → length m ≡ f.n → f.n ≤ k → ns ≡ sets m 0 (take k (numbers_in f)) → Numbered f ns
+all-numbered f k m ns g l h e =
+    let keys = keys_in f.table.now f.pool.now f.records in
+    record { standing = g; numbers = numbers-all keys m ns f.n k e g.count h ∙ sets-whole (numbers_in f) m (length-numbers keys ∙ sym g.count ∙ sym l) }
 
 -- ---- the sizes, by the numbers stored
 
@@ -83,12 +97,16 @@ pub size-counted : (x c : ℕ) (l : List ℕ) → c ≡ count_by (λ y. eqb y x)
 size-counted x c l e = e ∙ sym (is_count_by (count x) (λ y. eqb y x) (count-none x) (count-next x) l)
 
 -- or as it stands in the workspace
-pub size-known : (n : ℕ) (ms : List ℕ) (r : Option ℕ) (w : List ℕ) → Known (take n ms) n r w → (buckets k : ℕ) → r ≡ Some buckets → k < n → n ≤ length ms → get_or w (buckets + k) 0 ≡ count k (take n ms)
-size-known n ms r w g buckets k q h l = (g.tallied buckets q).counts k h ∙ ap (count k) (take_all n (take n ms) (omega (arith, length-take-le n ms l)))
+module _ (f : Found) (ns : List ℕ) (q : Numbered f ns) (heads : ℕ) (r : f.buckets ≡ Some heads) where
+  numbers-long : length ns ≡ f.n
+  numbers-long = rw q.numbers (length-numbers (keys_in f.table.now f.pool.now f.records) ∙ sym q.standing.count)
 
-module _ (keys : List (List ℕ)) (n : ℕ) (m m' : List ℕ) (a : m' ≡ sets m 0 (numbers_of keys)) (e : n ≡ length keys) (r : n ≤ length m) where
-  pub stored-known : (buckets : Option ℕ) (w : List ℕ) → Known (numbers_of keys) n buckets w → Known (take n m') n buckets w
-  stored-known buckets w g = rw (numbers-taken keys n m m' e r a) g
+  pub size-room : heads + f.n + f.n ≤ length f.work.now
+  size-room = (q.standing.known.tallied heads r).room
 
-  pub stored-room : (d room : ℕ) → d ≡ distinct_of keys → d ≤ room → length (firsts_to (take n m') n) ≤ room
-  stored-room d room g h = distinct-room keys n d room (take n m') e g (numbers-taken keys n m m' e r a) h
+  pub size-known : (k : ℕ) → k < f.n → get_or f.work.now (heads + k) 0 ≡ count k ns
+  size-known k h = (q.standing.known.tallied heads r).counts k h ∙ ap (count k) (rw (← q.numbers) (take_all f.n ns (omega (arith, numbers-long))))
+
+-- a number stands for each record
+pub number-there : (f : Found) (ns : List ℕ) → Numbered f ns → length ns ≡ f.n
+number-there f ns q = rw q.numbers (length-numbers (keys_in f.table.now f.pool.now f.records) ∙ sym q.standing.count)

@@ -7,7 +7,9 @@ use mathlib.Core.Bool.{true, false}
 use mathlib.Core.List.{List, [], ◌++◌, append-nil}
 use native.Mathlib.Omega.{arith}
 use native.Mathlib.Nat.{zero-mod, div-le_self}
-use lib.ListN.{length, drop, replicate}
+use lib.ListN.{length, take, drop, replicate, drop_of_length-le}
+use lib.Seq.{length-take-le}
+use Rattle.std.proofs.lemmas.List.{take-append-drop}
 use lib.Dec.{ltb}
 use borrow.Author.Tests.{ltb-true, ltb-false}
 use Rattle.refusal.specs.declared.Refusal.{Refusal}
@@ -94,9 +96,12 @@ module _ (table pool : List ℕ) (rs : Records) (g : Admits table pool rs.size) 
   unfolding keys_in
   keys-are = ap (λ (x : List ℕ). keys_of (fields_in_of table pool) x rs.size) (sym alone)
 
-  pub keys-count : (n : ℕ) → n ≡ length block / size → n ≡ length keys
+  keys-count : (n : ℕ) → n ≡ length block / size → n ≡ length keys
   unfolding keys_in
   keys-count n e = e ∙ sym (length-keys (fields_in_of table pool) (both rs) size ∙ ap (λ (x : List ℕ). length x / size) alone)
+
+  pub places-count : (n : ℕ) (m : List ℕ) → n ≡ length block / size → n ≤ length m → length (take n m) ≡ length keys
+  places-count n m e l = length-take-le n m l ∙ keys-count n e
 
   pub keys_comparable : length block % size ≡ 0 → Comparable table pool rs
   keys_comparable h = record { admits = g; whole = record { some = admits-some table pool size g; first = h; second = rw z (zero-mod size) } }
@@ -117,7 +122,11 @@ module _ (table pool : List ℕ) (rs : Records) (g : Admits table pool rs.size) 
             let c : min (distinct_of keys) 18446744073709551615 ≡ distinct_of keys = omega (arith, few, low-number table pool block size g m s h n e low) in
             duplicating-sizes table pool block (length m) (length s) size (admits-admission table pool size g) h (omega arith) (rw keys-are q) ∙ rw (keys-are, c)
 
-        module _ (r : Result Groups Refusal) (m' s' : List ℕ) (v : Listed (numbers_of keys) r m m' s s') where
+        -- p' stands in the first n places
+        module _ (r : Result Groups Refusal) (p' s' : List ℕ) (v : Listed (numbers_of keys) r (take n m) p' s s') where
+          abbrev m' : List ℕ
+          m' = p' ++ drop n m
+
           answer-is : r ≡ fitting_answer (length keys) (distinct_of keys) (length s)
           unfolding distinct_of firsts_of
           answer-is = rw (length-numbers keys) at v.answer
@@ -130,10 +139,14 @@ module _ (table pool : List ℕ) (rs : Records) (g : Admits table pool rs.size) 
           unfolding sizes_of distinct_of firsts_of
           sizes-long = length-sizes (numbers_of keys) (length keys)
 
+          numbers-long : length (numbers_of keys) ≡ n
+          numbers-long = length-numbers keys ∙ sym (keys-count n e)
+
           listed-short : ltb (length s) (distinct_of keys) ≡ true → Answered (duplicating table pool block (length m) (length s)) r m m' s s'
           listed-short q =
               let a : r ≡ Err (NoRoom (distinct_of keys)) = answer-is ∙ fits_not (length keys) (distinct_of keys) (length s) q in
-              let u : m' ≡ m = v.numbers-are ∙ written-refused r (NoRoom (distinct_of keys)) (numbers_of keys) m a in
+              let p : p' ≡ take n m = v.numbers-are ∙ written-refused r (NoRoom (distinct_of keys)) (numbers_of keys) (take n m) a in
+              let u : p' ++ drop n m ≡ m = rw p (take-append-drop n m) in
               let x : s' ≡ s = sizes-is ∙ written-refused r (NoRoom (distinct_of keys)) (sizes_of keys) s a in
               rw (a, u, x) (record_refused _ (NoRoom (distinct_of keys)) m s (short (ltb-true (length s) (distinct_of keys) q)))
 
@@ -141,7 +154,9 @@ module _ (table pool : List ℕ) (rs : Records) (g : Admits table pool rs.size) 
           unfolding answer_of groups_told numbers_given sizes_given when_given output_after groups_of
           listed-full q =
               let a : r ≡ Ok (record { records = length keys; distinct = distinct_of keys }) = answer-is ∙ fits_all (length keys) (distinct_of keys) (length s) q in
-              let u : m' ≡ numbers_of keys ++ drop (length (numbers_of keys)) m = v.numbers-are ∙ written-found r (length keys) (distinct_of keys) (numbers_of keys) m a in
+              let z : drop (length (numbers_of keys)) (take n m) ≡ [] = drop_of_length-le (take n m) {i = length (numbers_of keys)} (omega (arith, numbers-long, length-take-le n m l)) in
+              let p : p' ≡ numbers_of keys = v.numbers-are ∙ written-found r (length keys) (distinct_of keys) (numbers_of keys) (take n m) a ∙ rw z (append-nil (numbers_of keys)) in
+              let u : p' ++ drop n m ≡ numbers_of keys ++ drop (length (numbers_of keys)) m = rw (p, numbers-long) in
               let x : s' ≡ sizes_of keys ++ drop (length (sizes_of keys)) s = sizes-is ∙ written-found r (length keys) (distinct_of keys) (sizes_of keys) s a in
               rw (full (ltb-false (length s) (distinct_of keys) q))
               (record { answer = a ∙ rw (length-numbers keys, sizes-long); numbers-are = u; sizes-are = x })

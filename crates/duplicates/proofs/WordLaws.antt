@@ -20,7 +20,7 @@ use Rattle.duplicates.specs.WordCount.{most_words_of, words_needed, one_value, W
 use Rattle.firsts.proofs.KeyLaws.{fields_in}
 
 -- the count of runs may have stopped before their number
-module _ (rs : List Field) (n k : ℕ) (w w' : List ℕ) (g : RunsListed 9223372036854775809 rs k w w') where
+module _ (rs : List Field) (n k : ℕ) (w w' : List ℕ) (g : RunsListed 18446744073709551615 rs k w w') where
   counted : most_words_of n k ≡ most_words_of n (length rs)
   unfolding most_words_of needed
   counted = omega (arith, g.count (omega (arith, g.low)))
@@ -34,7 +34,7 @@ module _ (table pool : List ℕ) (n : ℕ) {x : Result ℕ Refusal} (h : x ≡ a
       unfold words_needed in admission-refused table pool (λ t. gives (most_words_of n (length (runs_of (fields_of t))))) e (refused-admission table pool h e q) in
       answers-refused (λ (i : ℕ). i) one_value (words_needed table pool n) e (Err e) k refl
 
-  pub words-given : (size k : ℕ) (w w' : List ℕ) (r : ℕ) → x ≡ Ok size → RunsListed 9223372036854775809 (runs_of (fields_in_of table pool)) k w w' → r ≡ most_words_of n k → WordsAre (words_needed table pool n) (Ok r)
+  pub words-given : (size k : ℕ) (w w' : List ℕ) (r : ℕ) → x ≡ Ok size → RunsListed 18446744073709551615 (runs_of (fields_in_of table pool)) k w w' → r ≡ most_words_of n k → WordsAre (words_needed table pool n) (Ok r)
   words-given size k w w' r q g e =
       let a = admitted-size table pool h size q in
       let d = a.admitted in

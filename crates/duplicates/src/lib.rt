@@ -3,18 +3,19 @@
 
 mod lists;
 
-ghost use Rattle.std.specs.Prelude.{◌≡◌, [], ◌≤◌, length};
+ghost use Rattle.std.specs.Prelude.{◌≡◌, [], length};
 ghost use Rattle.groups.specs.Duplicates.{duplicating};
-ghost use Rattle.groups.specs.Groups.{numbers_of};
+ghost use Rattle.groups.specs.Groups.{numbers_of, distinct_of};
 ghost use Rattle.compare.specs.Agreeing.{Admits};
 ghost use Rattle.duplicates.specs.Answers.{Listed, Answered, DuplicatesAre};
-ghost use Rattle.firsts.specs.Finding.{FirstsAre};
+ghost use Rattle.firsts.specs.Found.{Standing, numbers_in};
 ghost use Rattle.firsts.specs.Records.{keys_in, Comparable};
 ghost use Rattle.duplicates.specs.WordCount.{words_needed, most_words_of, WordsAre};
 
 use compare::admit;
+use firsts::found::Found;
 use firsts::records::Records;
-use firsts::{Firsts, find_firsts};
+use firsts::search;
 use lists::{list_sizes, put_numbers};
 use refusal::Refusal;
 use runs::list_runs;
@@ -26,49 +27,43 @@ pub struct Groups {
     pub distinct: u64,
 }
 
-// The groups of the n records of two blocks, by their firsts, with room for n numbers.
+// The groups of the records, d of which are firsts, with room for the number of each.
 fn list_groups<'a>(
-    table: &[u32],
-    pool: &[u8],
-    records: Records<'a>,
-    n: usize,
-    found: Firsts,
-    work: &[u64],
+    found: Found<'a>,
+    d: usize,
     numbers: &mut [u64],
     sizes: &mut [u64],
 ) -> Result<Groups, Refusal>
-    requires comparable { Comparable table.now pool.now records }
-    requires n_value { (n ≡ length (keys_in table.now pool.now records)) × (n ≤ length numbers.old) }
-    requires firsts { FirstsAre (keys_in table.now pool.now records) n found work.now }
-    ensures { Listed (numbers_of (keys_in table.now pool.now records.entry)) result numbers.old numbers.new sizes.old sizes.new }
+    requires standing { Standing found × (length numbers.old ≡ found.n) }
+    requires firsts { d ≡ distinct_of (keys_in found.table.now found.pool.now found.records) }
+    ensures { Listed (numbers_in found.entry) result numbers.old numbers.new sizes.old sizes.new }
 {
-    let d = found.distinct;
     if sizes.len() < d {
         return Err(Refusal::NoRoom(d as u64));
     }
-    put_numbers(table, pool, records, n, found.buckets, work, numbers);
-    list_sizes(n, found.buckets, work, numbers, sizes);
+    put_numbers(found, numbers);
+    list_sizes(found, numbers, sizes);
     Ok(Groups {
-        records: n as u64,
+        records: found.n as u64,
         distinct: d as u64,
     })
 }
 
+// The groups of the records of two blocks, with a place for the number of each.
 fn grouped<'a>(
     table: &[u32],
     pool: &[u8],
     records: Records<'a>,
-    n: usize,
     numbers: &mut [u64],
     sizes: &mut [u64],
     work: &mut [u64],
 ) -> Result<Groups, Refusal>
     requires comparable { Comparable table.now pool.now records }
-    requires n_value { (n ≡ length (keys_in table.now pool.now records)) × (n ≤ length numbers.old) }
+    requires places { length numbers.old ≡ length (keys_in table.now pool.now records) }
     ensures { Listed (numbers_of (keys_in table.now pool.now records.entry)) result numbers.old numbers.new sizes.old sizes.new }
 {
-    let found = find_firsts(table, pool, records, n, work);
-    list_groups(table, pool, records, n, found, work, numbers, sizes)
+    let (found, distinct) = search(table, pool, records, work);
+    list_groups(found, distinct, numbers, sizes)
 }
 
 // No bytes of a block.
@@ -103,7 +98,7 @@ fn sized(
         b: no_bytes(block),
         size,
     };
-    grouped(table, pool, records, n, numbers, sizes, work)
+    grouped(table, pool, records, &mut numbers[..n], sizes, work)
 }
 
 fn answer(
@@ -158,8 +153,6 @@ pub fn duplicates_words(table: &[u32], pool: &[u8], records: u64) -> Result<u64,
 {
     let size = admit(table, pool)?;
     let mut none: [u64; 1] = [0; 1];
-    // Above its greatest answer, so that it never stops.
-    let most: usize = 9223372036854775809;
-    let runs = list_runs(table, pool, size, most, &mut none);
+    let runs = list_runs(table, pool, size, usize::MAX, &mut none);
     Ok(most_words(records, runs))
 }

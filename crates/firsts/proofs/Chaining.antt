@@ -119,7 +119,7 @@ module _ (c : Chains) (k : ℕ) (w : List ℕ) (g : Placed (words_behind c w) c 
 module _ (words : List ℕ) (c : Chains) (k : ℕ) (w : List ℕ) (g : Placed words c k w) (l : k < c.n) where
   more : (w' : List ℕ) → words_behind c w' ≡ words_behind c w → Built (hash_by words c) (keys_by words c) c.n c.buckets (k + 1) w'
       → Placed words c (k + 1) w'
-  more w' e v = record { by_runs = g.by_runs; small = g.small; count = g.count; some = g.some; kept = e ∙ g.kept; built = v }
+  more w' e v = record { by_runs = g.by_runs; count = g.count; some = g.some; kept = e ∙ g.kept; built = v }
 
   module _ (s : Spot) (i : SpotIs words c k s) where
     pub placed_first : s.first ≡ None → Placed words c (k + 1) (set (set (set w (c.buckets + k) (get_or w s.bucket 0)) s.bucket (k + 1)) (c.buckets + c.n + k) k)
@@ -183,7 +183,6 @@ module _ (c : Chains) (w : List ℕ) (g : Compiled c w) {w' : List ℕ} (e : w' 
   none-placed =
       rw same-words (record {
         by_runs = g.by_runs;
-        small = g.small;
         count = g.count;
         some = g.some;
         kept = same-words;

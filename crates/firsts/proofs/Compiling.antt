@@ -12,7 +12,6 @@ use Rattle.groups.specs.Duplicates.{record_at_of, key_of, keys_of, fields_in_of}
 use Rattle.groups.specs.Runs.{runs_of, words_of, runs_in, Inside}
 use Rattle.groups.proofs.Firsts.{number_at}
 use Rattle.groups.proofs.Runs.{runs_image, runs_in_words, runs_inside, fields-inside}
-use Rattle.keys.specs.Hash.{Small}
 use Rattle.runs.specs.Listing.{RunsListed}
 use Rattle.firsts.specs.Finding.{Heads, Known, FirstsAre}
 use Rattle.firsts.specs.declared.chains.Chains.{Chains}
@@ -70,19 +69,19 @@ module _ (table pool : List ℕ) (c : Chains) (w : List ℕ) (g : Comparable tab
       let d = g.admits.admitted in
       runs_inside c.records.size (fields_in_of table pool) (rw (fields_in table pool c.records.size g.admits, g.admits.size_is) (fields-inside g.admits.type d.inside d.sized))
 
-  pub compiled : c.n ≡ length (keys_in table pool c.records) → Small c.m → Compiled c w
-  compiled e s =
+  pub compiled : c.n ≡ length (keys_in table pool c.records) → Compiled c w
+  compiled e =
       record {
         by_runs = record { whole = g.whole; inside = rw runs_are all-inside };
-        small = s;
         count = rw keys-are e;
         some = h.some c.buckets q;
         room = h.room c.buckets q;
       }
 
   -- the firsts by the runs are those by the fields
-  pub compiled-firsts : (d : ℕ) (w' : List ℕ) → Counted (words_behind c w) c d w' → FirstsAre (keys_in table pool c.records) c.n (record { buckets = Some c.buckets; distinct = d }) w'
-  compiled-firsts d w' v =
+  pub compiled-firsts : c.n ≡ length (keys_in table pool c.records) → (d : ℕ) (w' : List ℕ) → Counted (words_behind c w) c d w'
+      → FirstsAre (keys_in table pool c.records) (length (keys_in table pool c.records)) (record { buckets = Some c.buckets; distinct = d }) w'
+  compiled-firsts e d w' v = rw (← e)
       record {
         distinct = rw keys-are at v.distinct;
         known = record { tallied = λ k e. let f : c.buckets ≡ k = same_Some c.buckets k e in rw (← f) (rw keys-are at v.tallied) };

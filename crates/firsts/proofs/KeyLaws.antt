@@ -44,6 +44,9 @@ module _ (table pool : List ℕ) (rs : Records) (g : Comparable table pool rs) w
   unfolding keys_in
   length_in = length-keys (fields_in_of table pool) (both rs) rs.size
 
+  pub counted-keys : (n : ℕ) → n ≡ length (both rs) / rs.size → n ≡ length (keys_in table pool rs)
+  counted-keys n e = e ∙ sym length_in
+
   pub key_inside : (k : ℕ) → k < length (keys_in table pool rs) → k < length (both rs) / rs.size
   key_inside k h = omega (arith, length_in)
 

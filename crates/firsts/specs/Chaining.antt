@@ -4,7 +4,7 @@ use Rattle.groups.specs.Groups.{key_at, numbers_of, distinct_of}
 use Rattle.groups.specs.Chains.{bucket_of_lem, Chained, Built, Sought, Tallied}
 use Rattle.groups.specs.Duplicates.{keys_of}
 use Rattle.groups.specs.Runs.{runs_in, Inside}
-use Rattle.keys.specs.Hash.{Small, hash_of}
+use Rattle.keys.specs.Hash.{factors, hash_of}
 use Rattle.firsts.specs.Records.{both, Whole}
 use Rattle.firsts.specs.declared.chains.Chains.{Chains}
 use Rattle.firsts.specs.declared.chains.Spot.{Spot}
@@ -23,7 +23,7 @@ keys_by words c = keys_of (runs_in words) (both c.records) c.records.size
 
 -- the hash of a record's key
 abbrev pub hash_by : (words : List ℕ) → Chains → List ℕ → ℕ
-hash_by words c = hash_of c.m (runs_in words)
+hash_by words c = hash_of (factors c.m) (runs_in words)
 
 -- whole records, and runs that lie in them
 pub record ByRuns (words : List ℕ) (c : Chains) : Type 0 where
@@ -60,7 +60,6 @@ pub record Repeats (keys : List (List ℕ)) (k : ℕ) (r : Bool) : Type 0 where
 -- k records are placed, and the runs stand behind them
 pub record Placed (words : List ℕ) (c : Chains) (k : ℕ) (w : List ℕ) : Type 0 where
   pub by_runs : ByRuns words c
-  pub small : Small c.m
   pub count : c.n ≡ length (keys_by words c)
   pub some : 0 < c.buckets
   pub kept : words_behind c w ≡ words
@@ -69,7 +68,6 @@ pub record Placed (words : List ℕ) (c : Chains) (k : ℕ) (w : List ℕ) : Typ
 -- the runs stand in a workspace that has room for the chains before them
 pub record Compiled (c : Chains) (w : List ℕ) : Type 0 where
   pub by_runs : ByRuns (words_behind c w) c
-  pub small : Small c.m
   pub count : c.n ≡ length (keys_by (words_behind c w) c)
   pub some : 0 < c.buckets
   pub room : runs_at c ≤ length w

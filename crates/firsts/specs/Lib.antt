@@ -1,3 +1,4 @@
 pub mod Chaining
 pub mod Finding
+pub mod Found
 pub mod Records

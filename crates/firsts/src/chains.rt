@@ -3,7 +3,6 @@ ghost use Rattle.std.specs.Prelude.{◌≡◌, ◌+◌, ◌≤◌, ◌<◌, leng
 ghost use Rattle.format.specs.Table.{same_words};
 ghost use Rattle.groups.specs.Groups.{key_at};
 ghost use Rattle.groups.specs.Chains.{Sought};
-ghost use Rattle.keys.specs.Hash.{Small};
 ghost use Rattle.firsts.specs.Chaining.{runs_at, words_behind, keys_by, ByRuns, InBucket, Seeks, SpotIs, Repeats, Placed, Compiled, Counted, link_of};
 
 use crate::counts::tally;
@@ -47,7 +46,7 @@ impl<'a> Chains<'a> {
     }
 
     fn bucket_of(self, runs: &[u64], k: usize) -> usize
-        requires by_runs { ByRuns runs.now self × Small self.m }
+        requires by_runs { ByRuns runs.now self }
         requires k_in_bounds { (k < length (keys_by runs.now self)) × (0 < self.buckets) }
         ensures { InBucket runs.now self.entry k result }
     {

@@ -1,4 +1,4 @@
-// A workspace of heads, then n links, then n firsts: the firsts counted. Nothing here knows what a record is.
+// A workspace of heads, then n links, then n firsts: the firsts counted. The records themselves are not looked at.
 ghost use Rattle.std.specs.Prelude.{◌≡◌, ◌+◌, ◌≤◌, ◌<◌, length, get_or};
 ghost use Rattle.groups.specs.Groups.{firsts_to};
 ghost use Rattle.groups.specs.Chains.{names_in, Named, Tallied};

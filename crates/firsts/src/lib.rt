@@ -3,21 +3,23 @@
 
 mod chains;
 pub mod counts;
+pub mod found;
 mod plain;
 pub mod records;
 
-ghost use Rattle.std.specs.Prelude.{◌≡◌, ◌<◌, length, get_or};
+ghost use Rattle.std.specs.Prelude.{◌≡◌, length, get_or};
 ghost use Rattle.groups.specs.Duplicates.{fields_in_of};
-ghost use Rattle.groups.specs.Groups.{numbers_of};
 ghost use Rattle.groups.specs.Runs.{runs_of};
 ghost use Rattle.compare.specs.Agreeing.{Admits};
-ghost use Rattle.firsts.specs.Finding.{Heads, Known, FirstsAre};
+ghost use Rattle.groups.specs.Groups.{distinct_of};
+ghost use Rattle.firsts.specs.Finding.{Heads, FirstsAre};
+ghost use Rattle.firsts.specs.Found.{Standing};
 ghost use Rattle.firsts.specs.Records.{keys_in, Comparable};
 
 use chains::Chains;
-use counts::name_of;
+use found::Found;
 use keys::seeded;
-use plain::{count_firsts, first_of};
+use plain::count_firsts;
 use records::Records;
 use runs::list_runs;
 
@@ -57,23 +59,17 @@ fn list_type(table: &[u32], pool: &[u8], size: u32, n: usize, work: &mut [u64]) 
     Some(room - 2 * (runs as usize))
 }
 
-// How many of the n records of two blocks are distinct, with the first of each in the workspace where it has the room: by chains there, else each
+// How many of the records of two blocks are distinct, with the first of each in the workspace where it has the room: by chains there, else each
 // record against those before it.
-pub fn find_firsts<'a>(
-    table: &[u32],
-    pool: &[u8],
-    records: Records<'a>,
-    n: usize,
-    work: &mut [u64],
-) -> Firsts
-    requires comparable { Comparable table.now pool.now records }
-    requires n_value { n ≡ length (keys_in table.now pool.now records) }
-    ensures { FirstsAre (keys_in table.now pool.now records.entry) n result work.new }
+pub fn find_firsts<'a>(table: &[u32], pool: &[u8], records: Records<'a>, work: &mut [u64]) -> Firsts
+    requires { Comparable table.now pool.now records }
+    ensures { FirstsAre (keys_in table.now pool.now records.entry) (length (keys_in table.now pool.now records.entry)) result work.new }
 {
+    let n = records.count();
     let m = seeded(first_word(work));
     let buckets = list_type(table, pool, records.size, n, work);
     let distinct = match buckets {
-        None => count_firsts(table, pool, records, n),
+        None => count_firsts(table, pool, records),
         Some(heads) => {
             let chains = Chains {
                 records,
@@ -87,23 +83,27 @@ pub fn find_firsts<'a>(
     Firsts { buckets, distinct }
 }
 
-// The first of record k: out of the workspace, or sought where that has no heads.
-pub fn first_at<'a>(
-    table: &[u32],
-    pool: &[u8],
+// The same search, with all that the steps behind it need in one value, and how many records are distinct.
+pub fn search<'a>(
+    table: &'a [u32],
+    pool: &'a [u8],
     records: Records<'a>,
-    n: usize,
-    buckets: Option<usize>,
-    work: &[u64],
-    k: usize,
-) -> usize
-    requires comparable { Comparable table.now pool.now records }
-    requires n_value { (n ≡ length (keys_in table.now pool.now records)) × (k < n) }
-    requires known { Known (numbers_of (keys_in table.now pool.now records)) n buckets work.now }
-    ensures { result ≡ get_or (numbers_of (keys_in table.now pool.now records.entry)) k 0 }
+    work: &'a mut [u64],
+) -> (Found<'a>, usize)
+    requires { Comparable table.now pool.now records }
+    ensures standing { Standing result.0 }
+    ensures given { (result.0.table.now ≡ table.now) × (result.0.pool.now ≡ pool.now) × (result.0.records ≡ records.entry) }
+    ensures distinct { result.1 ≡ distinct_of (keys_in table.now pool.now records.entry) }
 {
-    match buckets {
-        None => first_of(table, pool, records, k),
-        Some(heads) => name_of(n, heads, k, work),
-    }
+    let n = records.count();
+    let firsts = find_firsts(table, pool, records, work);
+    let found = Found {
+        table,
+        pool,
+        records,
+        n,
+        buckets: firsts.buckets,
+        work,
+    };
+    (found, firsts.distinct)
 }

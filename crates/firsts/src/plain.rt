@@ -1,22 +1,10 @@
 // The plain path: each record of two blocks against those before it, with no workspace.
 ghost use Rattle.std.specs.Prelude.{◌≡◌, ◌<◌, length};
-ghost use Rattle.format.specs.Table.{same_words};
-ghost use Rattle.groups.specs.Groups.{key_at, first_of, distinct_of};
+ghost use Rattle.groups.specs.Groups.{first_of, distinct_of};
 ghost use Rattle.firsts.specs.Records.{keys_in, Comparable};
 
 use crate::records::Records;
 use compare::same_records;
-
-// Whether two records are the same. A trait over this and `Chains::same_key`, which goes by runs, would be longer than both.
-fn same_key<'a>(table: &[u32], pool: &[u8], records: Records<'a>, j: usize, k: usize) -> bool
-    requires comparable { Comparable table.now pool.now records }
-    requires j_in_bounds { (j < length (keys_in table.now pool.now records)) × (k < length (keys_in table.now pool.now records)) }
-    ensures { result ≡ same_words (key_at (keys_in table.now pool.now records.entry) j) (key_at (keys_in table.now pool.now records.entry) k) }
-{
-    let x = records.get(j);
-    let y = records.get(k);
-    same_records(table, pool, x, y)
-}
 
 // The number of the first record that is the same as record k.
 pub fn first_of<'a>(table: &[u32], pool: &[u8], records: Records<'a>, k: usize) -> usize
@@ -25,7 +13,7 @@ pub fn first_of<'a>(table: &[u32], pool: &[u8], records: Records<'a>, k: usize) 
     ensures { result ≡ first_of (keys_in table.now pool.now records.entry) k }
 {
     for j in 0..k {
-        if same_key(table, pool, records, j, k) {
+        if same_records(table, pool, records.get(j), records.get(k)) {
             return j;
         }
     }
@@ -33,13 +21,12 @@ pub fn first_of<'a>(table: &[u32], pool: &[u8], records: Records<'a>, k: usize) 
 }
 
 // How many records have no earlier one that is the same.
-pub fn count_firsts<'a>(table: &[u32], pool: &[u8], records: Records<'a>, n: usize) -> usize
-    requires comparable { Comparable table.now pool.now records }
-    requires n_value { n ≡ length (keys_in table.now pool.now records) }
+pub fn count_firsts<'a>(table: &[u32], pool: &[u8], records: Records<'a>) -> usize
+    requires { Comparable table.now pool.now records }
     ensures { result ≡ distinct_of (keys_in table.now pool.now records.entry) }
 {
     let mut d = 0;
-    for k in 0..n {
+    for k in 0..records.count() {
         if first_of(table, pool, records, k) == k {
             d += 1;
         }

@@ -33,6 +33,15 @@ pub fn record_of<'a>(a: &'a [u8], b: &'a [u8], size: usize, k: usize) -> &'a [u8
 }
 
 impl<'a> Records<'a> {
+    // How many records both blocks have.
+    pub fn count(self) -> usize
+        requires { Whole self.a.now self.b.now self.size }
+        ensures { result ≡ length (both self.entry) / self.entry.size }
+    {
+        let size = self.size as usize;
+        self.a.len() / size + self.b.len() / size
+    }
+
     // Record k.
     pub fn get(self, k: usize) -> &'a [u8]
         requires { Whole self.a.now self.b.now self.size × (k < length (both self) / self.size) }

@@ -5,7 +5,7 @@ use mathlib.Core.Logic.{⊎_elim}
 use mathlib.Core.List.{List}
 use native.Mathlib.Omega.{arith}
 use lib.ListN.{length, get_or, take, drop, set, length-set, length-drop}
-use lib.Seq.{get_or-set_same, get_or-set_other, get_or-take, get_or-drop, drop-set-lt, length-take-le, take_all, ext_get_or}
+use lib.Seq.{get_or-set_same, get_or-set_other, get_or-take, get_or-drop, drop-set-lt, length-take-le, ext_get_or}
 use mir.Syntax.{w64}
 use mir.Val.{Fits}
 use Rattle.groups.specs.Groups.{key_at, first_of, numbers_of, count}
@@ -178,9 +178,6 @@ module _ (ns : List ℕ) (n buckets k : ℕ) (w : List ℕ) (t : Tallied ns n bu
   length-of : length ns ≡ n
   length-of = ap length (sym t.names) ∙ length-names n buckets w t.room
 
-  entry_at_lem : get_or w (buckets + n + k) 0 ≡ get_or ns k 0
-  entry_at_lem = sym (name-at n buckets w t.room k l) ∙ ap (λ (x : List ℕ). get_or x k 0) t.names
-
   later : (j : ℕ) → k ≤ j → count j (take k ns) ≡ 0
   later j h = count-later ns (λ (i : ℕ) (g : i < length ns). t.low i (omega (arith, length-of))) k j (omega (arith, length-of)) h
 
@@ -228,8 +225,3 @@ module _ (ns : List ℕ) (n buckets k : ℕ) (w : List ℕ) (t : Tallied ns n bu
               ∙ sym (count-take_miss j ns k m (λ (y : get_or ns k 0 ≡ j). d (sym y ∙ sym e))))
               (same_or_not j f);
         }
-
--- all counted
-pub tallied-all : (ns : List ℕ) (n buckets : ℕ) (w : List ℕ) → Tallied ns n buckets n w → (j : ℕ) → j < n → get_or w (buckets + j) 0 ≡ count j ns
-tallied-all ns n buckets w t j h =
-    t.counts j h ∙ ap (count j) (take_all n ns (omega (arith, ap length (sym t.names), length-names n buckets w t.room)))

@@ -5,24 +5,15 @@ use mathlib.Core.List.{List, ◌++◌}
 use native.Mathlib.Nat.{mod-lt}
 use native.Mathlib.Omega.{arith}
 use lib.ListN.{length, get_or, take, set, replicate, length-replicate, get_or-append}
-use lib.Seq.{sets, get_or-take}
+use lib.Seq.{sets}
 use mir.Syntax.{w64}
 use mir.Val.{Fits}
-use Rattle.groups.specs.Groups.{key_at, first_of, numbers_of, count, firsts_to, sizes_to, size_at, Grown, firsts_of, distinct_of}
+use Rattle.groups.specs.Groups.{key_at, first_of, numbers_of, firsts_to, sizes_to, firsts_of, distinct_of}
 use Rattle.groups.specs.Chains.{bucket_of_lem, Built, Sought, names_in, Named, Tallied}
 use Rattle.groups.proofs.Firsts.{length-numbers, number_at}
-use Rattle.groups.proofs.Counts.{firsts_le, count-take_hit, count-take_miss, length_hit, length_miss}
-use Rattle.groups.proofs.Building.{built-none, built-first, built-later, name-at, tallied-none, tallied-own, tallied_for, tallied-all}
-use Rattle.groups.proofs.Lists.{copy_more, copy_all, group_room, group_here, group_not, zero-at}
-
--- ---- entries counted
-
-module _ (x : ℕ) (ns : List ℕ) (k c c' : ℕ) (h : k < length ns) (e : c ≡ count x (take k ns)) where
-  pub counted_hit : get_or ns k 0 ≡ x → c' ≡ c + 1 → c' ≡ count x (take (k + 1) ns)
-  counted_hit f g = omega (arith, count-take_hit x ns k h f)
-
-  pub counted_miss : (get_or ns k 0 ≡ x → ⊥) → c' ≡ c → c' ≡ count x (take (k + 1) ns)
-  counted_miss f g = omega (arith, count-take_miss x ns k h f)
+use Rattle.groups.proofs.Counts.{firsts_le, length_hit, length_miss}
+use Rattle.groups.proofs.Building.{built-none, built-first, built-later, tallied-none, tallied-own, tallied_for}
+use Rattle.groups.proofs.Lists.{copy_more, copy_all, zero-at}
 
 -- ---- firsts counted
 
@@ -68,35 +59,6 @@ number_more keys l l₁ n k v e h g i =
 pub numbers-all : (keys : List (List ℕ)) (l l₁ : List ℕ) (n k : ℕ) → l₁ ≡ sets l 0 (take k (numbers_of keys)) → n ≡ length keys → n ≤ k → l₁ ≡ sets l 0 (numbers_of keys)
 numbers-all keys l l₁ n k e g h = copy_all l l₁ (numbers_of keys) k (omega (arith, length-numbers keys)) e
 
--- ---- sizes stored
-
-module _ (n buckets k : ℕ) (w : List ℕ) (t : Tallied (names_in n buckets w) n buckets n w) (h : k < n) (g : ℕ) where
-  here : get_or (names_in n buckets w) k 0 ≡ get_or w (buckets + n + k) 0
-  here = name-at n buckets w t.room k h
-
-  pub put-room : (room : ℕ) → get_or w (buckets + n + k) 0 ≡ k → g + length (size_at (names_in n buckets w) k) ≤ room → g < room
-  put-room room f r = group_room (names_in n buckets w) k g room (here ∙ f) r
-
-  pub put-here : (l : List ℕ) → get_or w (buckets + n + k) 0 ≡ k
-      → Grown (names_in n buckets w) k g (g + 1) l (set l g (get_or w (buckets + k) 0))
-  put-here l f = group_here (names_in n buckets w) k g l (get_or w (buckets + k) 0) (here ∙ f) (tallied-all (names_in n buckets w) n buckets w t k h)
-
-  pub put-not : (l : List ℕ) → (get_or w (buckets + n + k) 0 ≡ k → ⊥)
-      → Grown (names_in n buckets w) k g g l l
-  put-not l f = group_not (names_in n buckets w) k g l (λ (y : get_or (names_in n buckets w) k 0 ≡ k). f (sym here ∙ y))
-
--- the same from the numbers themselves
-module _ (n k : ℕ) (ms : List ℕ) (h : k < n) (g : ℕ) where
-  pub plain-room : (room : ℕ) → get_or ms k 0 ≡ k → g + length (size_at (take n ms) k) ≤ room → g < room
-  plain-room room f r = group_room (take n ms) k g room (get_or-take n ms k 0 h ∙ f) r
-
-  pub plain_here : (l : List ℕ) (c : ℕ) → get_or ms k 0 ≡ k → c ≡ count k (take n ms)
-      → Grown (take n ms) k g (g + 1) l (set l g c)
-  plain_here l c f e = group_here (take n ms) k g l c (get_or-take n ms k 0 h ∙ f) e
-
-  pub plain-not : (l : List ℕ) → (get_or ms k 0 ≡ k → ⊥) → Grown (take n ms) k g g l l
-  plain-not l f = group_not (take n ms) k g l (λ (y : get_or (take n ms) k 0 ≡ k). f (sym (get_or-take n ms k 0 h) ∙ y))
-
 -- ---- a record placed
 
 pub bucket_is : (hash : List ℕ → ℕ) (keys : List (List ℕ)) (buckets k h : ℕ) → h ≡ hash (key_at keys k) → h % buckets ≡ bucket_of_lem hash keys buckets k
@@ -115,9 +77,6 @@ module _ (hash : List ℕ → ℕ) (keys : List (List ℕ)) (n buckets k : ℕ) 
   place-later z = built-later hash keys n buckets k w built l bucket e i p (found.some z) found.below
 
 -- ---- loops that have come to their end
-
-pub counted-all : (x : ℕ) (ns : List ℕ) (n k c : ℕ) → k ≡ n → c ≡ count x (take k ns) → c ≡ count x (take n ns)
-counted-all x ns n k c e g = rw e at g
 
 pub sizes-all : (l l₁ ns : List ℕ) (n k : ℕ) → k ≡ n → l₁ ≡ sets l 0 (sizes_to ns k) → l₁ ≡ sets l 0 (sizes_to ns n)
 sizes-all l l₁ ns n k e g = rw e at g
@@ -163,9 +122,3 @@ module _ (hash : List ℕ → ℕ) (keys : List (List ℕ)) (n buckets : ℕ) (w
 
   pub tallied-is : (w' : List ℕ) → Tallied (names_in n buckets w) n buckets n w' → Tallied (numbers_of keys) n buckets n w'
   tallied-is w' t = tallied_for (numbers_of keys) (names_in n buckets w) n buckets n w' names-are t
-
--- room for the groups
-pub distinct-room : (keys : List (List ℕ)) (n d room : ℕ) (ns : List ℕ) → n ≡ length keys → d ≡ distinct_of keys → ns ≡ numbers_of keys → d ≤ room
-    → length (firsts_to ns n) ≤ room
-unfolding distinct_of firsts_of
-distinct-room keys n d room ns e g i h = rw (i, e) (omega arith)

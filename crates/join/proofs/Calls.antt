@@ -19,10 +19,10 @@ use Rattle.groups.specs.Groups.{distinct_of}
 use Rattle.groups.specs.Duplicates.{fields_in_of}
 use Rattle.groups.specs.Join.{Joint as JointBlock, joint_of, fitting_joint, joining}
 use Rattle.groups.proofs.JoinOutcomes.{length-joint, joint_le, joint-short, joint-given, joining-refused, joining-first-length, joining-second-length, joining-whole}
-use Rattle.groups.proofs.Records.{records-of_both}
+use Rattle.firsts.specs.Found.{Standing}
 use Rattle.firsts.specs.Records.{both, keys_in, Comparable}
-use Rattle.join.specs.declared.Found.{Found}
-use Rattle.join.specs.Copying.{Standing, copied}
+use Rattle.firsts.specs.declared.found.Found.{Found}
+use Rattle.join.specs.Copying.{copied}
 use Rattle.join.proofs.Copying.{copied_all}
 use Rattle.firsts.proofs.Compiling.{all_cleared}
 use Rattle.firsts.proofs.KeyLaws.{admits-some, admits-admission, length_in}
@@ -96,9 +96,6 @@ module _ (table pool a b : List ℕ) (size : ℕ) (g : Admits table pool size) w
 module _ (table pool : List ℕ) (rs : Records) (g : Admits table pool rs.size) (w : length rs.a.now % rs.size ≡ 0) (v : length rs.b.now % rs.size ≡ 0) where
   pub both_comparable : Comparable table pool rs
   both_comparable = record { admits = g; whole = record { some = admits-some table pool rs.size g; first = w; second = v } }
-
-  pub both_count : (n : ℕ) → n ≡ length rs.a.now / rs.size + length rs.b.now / rs.size → n ≡ length (keys_in table pool rs)
-  both_count n e = e ∙ sym (records-of_both rs.a.now rs.b.now rs.size w (admits-some table pool rs.size g)) ∙ sym (length_in table pool rs both_comparable)
 
   pub both_answered : (r : Result Joint Refusal) (out out' : List ℕ) → JoinAnswered (fitting_joint (length out) (joint_in table pool rs)) r out out'
       → JoinAnswered (joining table pool rs.a.now rs.b.now (length out)) r out out'

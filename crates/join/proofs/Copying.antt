@@ -16,9 +16,10 @@ use Rattle.groups.specs.Duplicates.{record_at_of}
 use Rattle.groups.specs.Join.{records_at}
 use Rattle.groups.proofs.Cases.{same_or_not, below_or_same}
 use Rattle.groups.proofs.Records.{records-next_hit, records-next_miss}
+use Rattle.firsts.specs.Found.{Standing, numbers_in}
 use Rattle.firsts.specs.Records.{both, keys_in, IsRecord}
-use Rattle.join.specs.Copying.{Standing, numbers_in, added, copied, Put}
-use Rattle.join.specs.declared.Found.{Found}
+use Rattle.join.specs.Copying.{added, copied, Put}
+use Rattle.firsts.specs.declared.found.Found.{Found}
 
 -- ---- what a record adds
 

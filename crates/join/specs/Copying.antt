@@ -1,22 +1,12 @@
 -- Records copied one behind the other.
 use Rattle.std.specs.Prelude.{ℕ, ◌+◌, ◌≡◌, cond, List, [], length, get_or, eqb}
 use Rattle.std.proofs.lemmas.List.Edits.{sets}
-use Rattle.groups.specs.Groups.{numbers_of, firsts_to}
+use Rattle.groups.specs.Groups.{firsts_to}
 use Rattle.groups.specs.Duplicates.{record_at_of}
 use Rattle.groups.specs.Join.{records_at}
-use Rattle.firsts.specs.Finding.{Known}
-use Rattle.firsts.specs.Records.{both, keys_in, Comparable}
-use Rattle.join.specs.declared.Found.{Found}
-
--- the number of each record's first
-abbrev pub numbers_in : Found → List ℕ
-numbers_in f = numbers_of (keys_in f.table.now f.pool.now f.records)
-
--- all n records, and the firsts as the search for them left them
-pub record Standing (f : Found) : Type 0 where
-  pub comparable : Comparable f.table.now f.pool.now f.records
-  pub count : f.n ≡ length (keys_in f.table.now f.pool.now f.records)
-  pub known : Known (numbers_in f) f.n f.buckets f.work.now
+use Rattle.firsts.specs.Found.{numbers_in}
+use Rattle.firsts.specs.Records.{both}
+use Rattle.firsts.specs.declared.found.Found.{Found}
 
 -- what record k adds: itself, where it names itself
 unfoldable pub added : (f : Found) (k : ℕ) → List ℕ

@@ -1,19 +1,20 @@
 // `join`: two blocks of one type made one.
 #![tactic(auto)]
 
-ghost use Rattle.std.specs.Prelude.{◌≡◌, ◌++◌, ◌+◌, ◌≤◌, ◌<◌, length, get_or, eqb};
+ghost use Rattle.std.specs.Prelude.{◌≡◌, ◌+◌, ◌≤◌, ◌<◌, length, get_or, eqb};
 ghost use Rattle.std.proofs.lemmas.List.Edits.{sets};
 ghost use Rattle.groups.specs.Groups.{distinct_of};
-ghost use Rattle.groups.specs.Duplicates.{fields_in_of};
-ghost use Rattle.groups.specs.Join.{joint_of, fitting_joint, joining};
+ghost use Rattle.groups.specs.Join.{fitting_joint, joining};
 ghost use Rattle.compare.specs.Agreeing.{Admits};
+ghost use Rattle.firsts.specs.Found.{Standing, numbers_in};
 ghost use Rattle.firsts.specs.Records.{keys_in, Comparable};
 ghost use Rattle.join.specs.Answers.{joint_in, JoinAnswered, JoiningIs};
-ghost use Rattle.join.specs.Copying.{Standing, numbers_in, added, copied, Put};
+ghost use Rattle.join.specs.Copying.{added, copied, Put};
 
 use compare::admit;
+use firsts::found::Found;
 use firsts::records::Records;
-use firsts::{find_firsts, first_at};
+use firsts::search;
 use primitives::copy_bytes;
 use refusal::Refusal;
 
@@ -24,77 +25,56 @@ pub struct Joint {
     pub records: u64,
 }
 
-// What the steps behind `find_firsts` share: n records of two blocks, and the workspace with the first of each, where it has heads.
-#[derive(Clone, Copy)]
-struct Found<'a> {
-    table: &'a [u32],
-    pool: &'a [u8],
-    records: Records<'a>,
-    n: usize,
-    buckets: Option<usize>,
-    work: &'a [u64],
+// Whether record k has no earlier one that is the same.
+#[tactic(auto, using(crate::proofs::Copying::first_told))]
+fn is_first<'a>(found: Found<'a>, k: usize) -> bool
+    requires { Standing found × (k < found.n) }
+    ensures { result ≡ eqb (get_or (numbers_in found.entry) k 0) k }
+{
+    let f = found.first_at(k);
+    f == k
 }
 
-impl<'a> Found<'a> {
-    // Whether record k has no earlier one that is the same.
-    #[tactic(auto, using(crate::proofs::Copying::first_told))]
-    fn is_first(self, k: usize) -> bool
-        requires { Standing self × (k < self.n) }
-        ensures { result ≡ eqb (get_or (numbers_in self.entry) k 0) k }
-    {
-        let f = first_at(
-            self.table,
-            self.pool,
-            self.records,
-            self.n,
-            self.buckets,
-            self.work,
-            k,
-        );
-        f == k
+// Record k behind the `to` bytes so far, if it is a first.
+fn put_record<'a>(found: Found<'a>, k: usize, to: usize, out: &mut [u8]) -> usize
+    requires { Standing found × (k < found.n) × (to + length (added found k) ≤ length out.old) }
+    ensures { Put found.entry k to result out.old out.new }
+{
+    if is_first(found, k) {
+        let x = found.records.get(k);
+        let size = found.records.size as usize;
+        let next = to + size;
+        copy_bytes(x, 0, size, out, to);
+        return next;
     }
+    to
+}
 
-    // Record k behind the `to` bytes so far, if it is a first.
-    fn put_record(self, k: usize, to: usize, out: &mut [u8]) -> usize
-        requires { Standing self × (k < self.n) × (to + length (added self k) ≤ length out.old) }
-        ensures { Put self.entry k to result out.old out.new }
-    {
-        if self.is_first(k) {
-            let x = self.records.get(k);
-            let size = self.records.size as usize;
-            let next = to + size;
-            copy_bytes(x, 0, size, out, to);
-            return next;
-        }
-        to
+// The records that are firsts, one behind the other.
+fn put_records<'a>(found: Found<'a>, out: &mut [u8])
+    requires { Standing found × (length (copied found found.n) ≤ length out.old) }
+    ensures { out.new ≡ sets out.old 0 (copied found.entry found.entry.n) }
+{
+    let mut to = 0;
+    for k in 0..found.n {
+        to = put_record(found, k, to, out);
     }
+}
 
-    // The records that are firsts, one behind the other.
-    fn put_records(self, out: &mut [u8])
-        requires { Standing self × (length (copied self self.n) ≤ length out.old) }
-        ensures { out.new ≡ sets out.old 0 (copied self.entry self.entry.n) }
-    {
-        let mut to = 0;
-        for k in 0..self.n {
-            to = self.put_record(k, to, out);
-        }
+// The answer, d of the records being firsts.
+fn put_joint<'a>(found: Found<'a>, d: usize, out: &mut [u8]) -> Result<Joint, Refusal>
+    requires { Standing found × (d ≡ distinct_of (keys_in found.table.now found.pool.now found.records)) }
+    ensures { JoinAnswered (fitting_joint (length out.old) (joint_in found.entry.table.now found.entry.pool.now found.entry.records)) result out.old out.new }
+{
+    let bytes = d * found.records.size as usize;
+    if out.len() < bytes {
+        return Err(Refusal::NoRoom(bytes as u64));
     }
-
-    // The answer, d of the records being firsts.
-    fn put_joint(self, d: usize, out: &mut [u8]) -> Result<Joint, Refusal>
-        requires { Standing self × (d ≡ distinct_of (keys_in self.table.now self.pool.now self.records)) }
-        ensures { JoinAnswered (fitting_joint (length out.old) (joint_in self.entry.table.now self.entry.pool.now self.entry.records)) result out.old out.new }
-    {
-        let bytes = d * self.records.size as usize;
-        if out.len() < bytes {
-            return Err(Refusal::NoRoom(bytes as u64));
-        }
-        self.put_records(out);
-        Ok(Joint {
-            bytes,
-            records: d as u64,
-        })
-    }
+    put_records(found, out);
+    Ok(Joint {
+        bytes,
+        records: d as u64,
+    })
 }
 
 // The answer for two blocks of whole records.
@@ -102,24 +82,14 @@ fn joined<'a>(
     table: &[u32],
     pool: &[u8],
     records: Records<'a>,
-    n: usize,
     out: &mut [u8],
     work: &mut [u64],
 ) -> Result<Joint, Refusal>
-    requires comparable { Comparable table.now pool.now records }
-    requires n_value { n ≡ length (keys_in table.now pool.now records) }
+    requires { Comparable table.now pool.now records }
     ensures { JoinAnswered (fitting_joint (length out.old) (joint_in table.now pool.now records.entry)) result out.old out.new }
 {
-    let firsts = find_firsts(table, pool, records, n, work);
-    let found = Found {
-        table,
-        pool,
-        records,
-        n,
-        buckets: firsts.buckets,
-        work,
-    };
-    found.put_joint(firsts.distinct, out)
+    let (found, distinct) = search(table, pool, records, work);
+    put_joint(found, distinct, out)
 }
 
 // The answer for a type that is admitted and has a size.
@@ -141,8 +111,7 @@ fn sized<'a>(
     if b.len() % (size as usize) != 0 {
         return Err(Refusal::WrongLength);
     }
-    let n = a.len() / (size as usize) + b.len() / (size as usize);
-    joined(table, pool, Records { a, b, size }, n, out, work)
+    joined(table, pool, Records { a, b, size }, out, work)
 }
 
 fn answer<'a>(

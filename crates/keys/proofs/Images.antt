@@ -15,9 +15,8 @@ use Rattle.format.proofs.Rows.{same_words_refl, same_words_true}
 use Rattle.compare.specs.Agreeing.{equal_range_of}
 use Rattle.compare.proofs.Ranges.{range_says}
 use Rattle.groups.specs.Runs.{Inside}
-use Rattle.keys.specs.Hash.{hash_bytes, hash_runs, join_hashes_of, hash_of}
+use Rattle.keys.specs.Hash.{Factors, hash_bytes, hash_runs, join_hashes_of, hash_of}
 use Rattle.keys.specs.Runs.{SameIn}
-use Rattle.keys.specs.declared.Multipliers.{Multipliers}
 
 -- a run of the list lies within
 run_inside : (n : ℕ) (fs : List Field) → Inside n fs → (f : Field) → Memᴰ f fs → f.place + f.size ≤ n
@@ -35,14 +34,14 @@ owned-within n fs h f e i o = omega (arith, run_inside n fs h f e, (owned-says f
 -- ---- the hash
 
 -- records whose runs have the same bytes that are compared have one hash
-hash-each : (m : Multipliers) (h g : ℕ) (fs : List Field) (a b : List ℕ) → ((f : Field) → Memᴰ f fs → compared_of f a ≡ compared_of f b) → hash_runs m h g fs a ≡ hash_runs m h g fs b
+hash-each : (m : Factors) (h g : ℕ) (fs : List Field) (a b : List ℕ) → ((f : Field) → Memᴰ f fs → compared_of f a ≡ compared_of f b) → hash_runs m h g fs a ≡ hash_runs m h g fs b
 unfolding hash_runs
 hash-each m h g [] a b e = refl
 hash-each m h g (f ∷ fs) a b e =
     rw (e f (Memᴰ.head refl)) (hash-each m g (hash_bytes m h (compared_of f b)) fs a b (λ k q. e k (Memᴰ.tail q)))
 
 -- so a record and its image have
-pub hash-image : (m : Multipliers) (rs : List Field) (r : List ℕ) (n : ℕ) → Inside n rs → length r ≡ n → hash_of m rs (image_from rs r 0 n) ≡ hash_of m rs r
+pub hash-image : (m : Factors) (rs : List Field) (r : List ℕ) (n : ℕ) → Inside n rs → length r ≡ n → hash_of m rs (image_from rs r 0 n) ≡ hash_of m rs r
 unfolding hash_of
 hash-image m rs r n h l =
     ap (λ (k : ℕ × ℕ). join_hashes_of m k.0 k.1) (hash-each m 1 1 rs (image_from rs r 0 n) r

@@ -1,13 +1,19 @@
 -- Bytes up to and with the first NUL.
-use Prim.Native.Nat.{ℕ, zero, suc, ◌+◌, ◌-◌, ◌<◌, ◌≤◌}
-use mathlib.Core.Path.{◌≡◌, refl, sym, ◌∙◌}
-use mathlib.Core.List.{List, [], ◌∷◌, ◌++◌, append-nil, append_assoc}
+use Prim.Native.Nat.{ℕ, zero, suc, ◌+◌, ◌<◌, ◌≤◌}
+use mathlib.Core.Path.{◌≡◌, refl, sym, ap, ◌∙◌}
+use mathlib.Core.Bool.{Bool, true, false}
+use mathlib.Core.List.{List, [], ◌∷◌}
 use native.Mathlib.Omega.{arith}
 use native.Mathlib.Numerals.{add-one}
-use lib.ListN.{length, get_or, take, drop, length-drop}
-use lib.Seq.{drop-cons, take-suc, get_or-drop}
+use lib.ListN.{length, get_or, take}
+use lib.Dec.{eqb}
+use borrow.Author.Tests.{eqb-true, eqb-false, ltb-false}
+use Rattle.std.specs.Prelude.{cond, position, Option, Some, None}
+use Rattle.std.specs.List.{position_or_len}
+use Rattle.std.proofs.lemmas.List.Quantifiers.{position-Some}
+use Rattle.std.proofs.lemmas.List.Sums.{fails_before_first}
+use Rattle.std.proofs.lemmas.Option.{none-some}
 use Rattle.format.specs.Image.{up_to_nul}
-use Rattle.keys.specs.Runs.{UpTo}
 
 up_to_nul_lem : (b : ℕ) (s : List ℕ) → b ≡ 0 → up_to_nul (b ∷ s) ≡ b ∷ []
 unfolding up_to_nul
@@ -19,37 +25,33 @@ unfolding up_to_nul
 up_to_more zero s n = absurd (n refl)
 up_to_more (suc b) s n = refl
 
--- i of n bytes are passed, none of them NUL
-pub record Passed (x : List ℕ) (at n i : ℕ) : Type 0 where
-  pub same : up_to_nul (take n (drop at x)) ≡ take i (drop at x) ++ up_to_nul (take (n - i) (drop (at + i) x))
+up_to_first : (s : List ℕ) (i : ℕ) → i < length s → get_or s i 0 ≡ 0 → ((k : ℕ) → k < i → get_or s k 0 ≡ 0 → ⊥) → take (suc i) s ≡ up_to_nul s
+up_to_first [] i l e h = absurd (omega arith)
+up_to_first (b ∷ s) zero l e h = sym (up_to_nul_lem b s e)
+up_to_first (b ∷ s) (suc i) l e h =
+    ap (λ (t : List ℕ). b ∷ t) (up_to_first s i (omega arith) e (λ k m. h (suc k) (omega arith)))
+    ∙ sym (up_to_more b s (h zero (omega arith)))
 
-module _ (x : List ℕ) (at n : ℕ) where
-  module _ (i : ℕ) (w : Passed x at n i) where
-    pub string-whole : i ≤ n → n ≤ i → UpTo x at n n
-    string-whole l h =
-        let e : i ≡ n = omega arith in
-        let f : n - i ≡ 0 = omega arith in
-        record { within = omega arith; is = sym (w.same ∙ rw (f, e) (unfold up_to_nul in append-nil (take n (drop at x)))) }
+up_to_all : (s : List ℕ) → ((k : ℕ) → k < length s → get_or s k 0 ≡ 0 → ⊥) → s ≡ up_to_nul s
+unfolding up_to_nul
+up_to_all [] h = refl
+up_to_all (b ∷ s) h = ap (λ (t : List ℕ). b ∷ t) (up_to_all s (λ k m. h (suc k) (omega arith))) ∙ sym (up_to_more b s (h zero (omega arith)))
 
-    module _ (inside : at + n ≤ length x) (l : i < n) where
-      here : take (n - i) (drop (at + i) x) ≡ get_or x (at + i) 0 ∷ take (n - (i + 1)) (drop (at + (i + 1)) x)
-      here =
-          let e : n - i ≡ suc (n - (i + 1)) = omega arith in
-          let f : suc (at + i) ≡ at + (i + 1) = omega arith in
-          rw (e, drop-cons x (at + i) 0 (omega arith), f)
+no_answer : (b : Bool) (k : ℕ) → cond b (Some k) None ≡ None → b ≡ false
+no_answer true k e = absurd (none-some k (sym e))
+no_answer false k e = refl
 
-      one_more : take (i + 1) (drop at x) ≡ take i (drop at x) ++ (get_or x (at + i) 0 ∷ [])
-      one_more =
-          let q : i < length (drop at x) = omega (arith, length-drop at x) in
-          rw (add-one i) (take-suc (drop at x) i 0 q ∙ rw (get_or-drop at x i 0))
+module _ (s : List ℕ) {r : Option ℕ} (q : r ≡ position (λ b. eqb b 0) s) where
+  pub string_inside : (i : ℕ) → r ≡ Some i → i < length s
+  string_inside i e = (position-Some (λ b. eqb b 0) s i 0 (sym q ∙ e)).0
 
-      pub string-nul : get_or x (at + i) 0 ≡ 0 → UpTo x at n (i + 1)
-      string-nul z = record { within = omega arith; is = one_more ∙ sym (w.same ∙ rw (here, up_to_nul_lem (get_or x (at + i) 0) (take (n - (i + 1)) (drop (at + (i + 1)) x)) z)) }
+  pub string_nul : (i : ℕ) → r ≡ Some i → take (i + 1) s ≡ up_to_nul s
+  string_nul i e =
+      let p = position-Some (λ b. eqb b 0) s i 0 (sym q ∙ e) in
+      rw (add-one i) (up_to_first s i p.0 (eqb-true _ _ p.1) (λ k m. eqb-false _ _ (p.2 k m)))
 
-      pub string-more : (get_or x (at + i) 0 ≡ 0 → ⊥) → Passed x at n (i + 1)
-      string-more z =
-          record {
-            same = w.same
-                ∙ rw (here, up_to_more (get_or x (at + i) 0) (take (n - (i + 1)) (drop (at + (i + 1)) x)) z, one_more)
-                (sym (append_assoc (take i (drop at x)) (get_or x (at + i) 0 ∷ []) (up_to_nul (take (n - (i + 1)) (drop (at + (i + 1)) x)))));
-          }
+  none-passes : r ≡ None → length s ≤ position_or_len (λ b. eqb b 0) s
+  none-passes e = ltb-false _ _ (no_answer _ (position_or_len (λ b. eqb b 0) s) (sym q ∙ e))
+
+  pub string_whole : r ≡ None → s ≡ up_to_nul s
+  string_whole e = up_to_all s (λ k m. eqb-false _ _ (fails_before_first (λ b. eqb b 0) s k 0 (omega (arith, none-passes e))))

@@ -5,17 +5,21 @@ use mathlib.Core.Bool.{Bool, true, false, false≢true}
 use mathlib.Core.List.{List, [], ◌∷◌}
 use native.Mathlib.Omega.{arith}
 use native.Mathlib.Numerals.{add-one}
+use native.Mathlib.Nat.{add-zero}
 use lib.ListN.{length, get_or, take, drop, length-drop}
-use lib.Seq.{drop-cons}
+use lib.Seq.{drop-cons, get_or-take, get_or-drop}
 use borrow.Author.Tests.{eq-eqb, ne_eqb}
-use Rattle.format.specs.Image.{bytes_of, compared_of, image_from}
+use Rattle.format.specs.Image.{Field, bytes_of, compared_of, image_from, up_to_nul}
 use Rattle.format.proofs.Walking.{agree-none, agree_both, differ_first, differ_second}
 use Rattle.compare.specs.Agreeing.{equal_range_of, AgreesField, StringSame}
 use Rattle.compare.proofs.Ranges.{field-same, field-differs}
 use Rattle.groups.specs.Runs.{runs_in, Inside}
-use Rattle.keys.specs.Hash.{hash_runs, join_hashes_of, hash_of}
-use Rattle.keys.specs.Runs.{run_at, SameIn, Hashed, UpTo}
-use Rattle.keys.specs.declared.Multipliers.{Multipliers}
+use Rattle.keys.specs.Hash.{Factors, hash_bytes, hash_runs, join_hashes_of, hash_of}
+use Rattle.keys.specs.Runs.{run_at, SameIn}
+use Rattle.std.specs.Simd.{first_chunks}
+use Rattle.format.proofs.Lists.{length_part}
+use Rattle.keys.proofs.Hashing.{chunk_at}
+use Rattle.keys.proofs.Ranges.{part_range}
 use Rattle.keys.proofs.Images.{hash-image}
 
 -- ---- words
@@ -51,46 +55,55 @@ module _ (runs : List ℕ) (i : ℕ) where
 
 -- ---- one run hashed
 
-module _ (m : Multipliers) (h : ℕ) (x : List ℕ) (place code : ℕ) where
-  pub run-whole : {r : ℕ} → Hashed m h (take (code / 2) (drop place x)) r → (code % 2 ≡ 1 → ⊥) → Hashed m h (compared_of (run_at place code) x) r
-  unfolding compared_of bytes_of
-  run-whole g z = rw (ne_eqb (code % 2) 1 z) g
+module _ (m : Factors) (h : ℕ) (x : List ℕ) (place code : ℕ) where
+  part-is : take (place + code / 2 - place) (drop place x) ≡ take (code / 2) (drop place x)
+  part-is = let f : place + code / 2 - place ≡ code / 2 = omega arith in rw f
 
-  pub run-string : {k r : ℕ} → UpTo x place (code / 2) k → Hashed m h (take k (drop place x)) r → code % 2 ≡ 1 → Hashed m h (compared_of (run_at place code) x) r
+  pub run_whole : {r : ℕ} → r ≡ hash_bytes m h (take (place + code / 2 - place) (drop place x)) → (code % 2 ≡ 1 → ⊥) → r ≡ hash_bytes m h (compared_of (run_at place code) x)
   unfolding compared_of bytes_of
-  run-string w g e = rw (eq-eqb (code % 2) 1 e, ← w.is) g
+  run_whole g z = rw (ne_eqb (code % 2) 1 z, ← part-is) g
+
+  pub run_string : {r : ℕ} {y : List ℕ} → y ≡ up_to_nul (take (place + code / 2 - place) (drop place x)) → r ≡ hash_bytes m h y → code % 2 ≡ 1 → r ≡ hash_bytes m h (compared_of (run_at place code) x)
+  unfolding compared_of bytes_of
+  run_string u g z = rw (eq-eqb (code % 2) 1 z, ← part-is, ← u) g
 
 -- ---- k runs hashed: what is left decides
 
-pub record RunsTo (m : Multipliers) (runs r : List ℕ) (h g k : ℕ) : Type 0 where
-  pub first_small : h < 34359738368
-  pub second-small : g < 34359738368
+-- the two words of a pair
+module _ (runs : List ℕ) (k : ℕ) (pairs : List (List ℕ)) (z : pairs ≡ first_chunks 2 (length runs / 2) runs) (l : k < length runs / 2) where
+  pair_is : get_or pairs k [] ≡ take 2 (drop (2 * k) runs)
+  pair_is = rw z (chunk_at 2 (length runs / 2) runs k l)
+
+  pair_place : get_or (get_or pairs k []) 0 0 ≡ get_or runs (2 * k) 0
+  pair_place = rw pair_is (get_or-take 2 (drop (2 * k) runs) 0 0 (omega arith) ∙ get_or-drop (2 * k) runs 0 0 ∙ rw (add-zero (2 * k)) refl)
+
+  pair_code : get_or (get_or pairs k []) 1 0 ≡ get_or runs (2 * k + 1) 0
+  pair_code = rw pair_is (get_or-take 2 (drop (2 * k) runs) 1 0 (omega arith) ∙ get_or-drop (2 * k) runs 1 0)
+
+pub record RunsTo (m : Factors) (runs r : List ℕ) (h g k : ℕ) : Type 0 where
   pub inside : Inside (length r) (runs_in (drop (2 * k) runs))
   pub same : hash_runs m h g (runs_in (drop (2 * k) runs)) r ≡ hash_runs m 1 1 (runs_in runs) r
 
-module _ (m : Multipliers) (runs r : List ℕ) where
-  pub hash-begun : Inside (length r) (runs_in runs) → RunsTo m runs r 1 1 0
-  hash-begun h = record { first_small = omega arith; second-small = omega arith; inside = h; same = refl }
-
+module _ (m : Factors) (runs r : List ℕ) where
   module _ (h g k : ℕ) (w : RunsTo m runs r h g k) where
-    pub hash-here : k < length runs / 2 → get_or runs (2 * k) 0 + get_or runs (2 * k + 1) 0 / 2 ≤ length r
-    hash-here l = run-here runs (2 * k) (length r) w.inside (omega arith)
+    module _ (pairs : List (List ℕ)) (z : pairs ≡ first_chunks 2 (length runs / 2) runs) (l : k < length runs / 2) where
+      pub hash_here : get_or (get_or pairs k []) 0 0 + get_or (get_or pairs k []) 1 0 / 2 ≤ length r
+      hash_here = rw (pair_place runs k pairs z l, pair_code runs k pairs z l) (run-here runs (2 * k) (length r) w.inside (omega arith))
 
-    pub hash-next : {n : ℕ} → Hashed m h (compared_of (run_at (get_or runs (2 * k) 0) (get_or runs (2 * k + 1) 0)) r) n → k < length runs / 2 → RunsTo m runs r g n (k + 1)
-    unfolding hash_runs
-    hash-next x l =
-        let e : 2 * (k + 1) ≡ 2 * k + 2 = omega arith in
-        let some : 2 ≤ length runs - 2 * k = omega arith in
-        record {
-          first_small = w.second-small;
-          second-small = x.small;
-          inside = rw e (runs_behind runs (2 * k) (length r) w.inside some);
-          same = rw (e, x.is) (rw (runs_next runs (2 * k) some) at w.same);
-        }
+      pub hash_next : {n : ℕ} → n ≡ hash_bytes m h (compared_of (run_at (get_or (get_or pairs k []) 0 0) (get_or (get_or pairs k []) 1 0)) r) → RunsTo m runs r g n (k + 1)
+      unfolding hash_runs
+      hash_next {n = n} x =
+          let e : 2 * (k + 1) ≡ 2 * k + 2 = omega arith in
+          let some : 2 ≤ length runs - 2 * k = omega arith in
+          let y : n ≡ hash_bytes m h (compared_of (run_at (get_or runs (2 * k) 0) (get_or runs (2 * k + 1) 0)) r) = rw (pair_place runs k pairs z l, pair_code runs k pairs z l) at x in
+          record {
+            inside = rw e (runs_behind runs (2 * k) (length r) w.inside some);
+            same = rw (e, y) (rw (runs_next runs (2 * k) some) at w.same);
+          }
 
-    pub hash-done : {n : ℕ} → n ≡ join_hashes_of m h g → Inside (length r) (runs_in runs) → length runs / 2 ≤ k → n ≡ hash_of m (runs_in runs) (image_from (runs_in runs) r 0 (length r))
+    pub hash_done : {n : ℕ} → n ≡ join_hashes_of m h g → Inside (length r) (runs_in runs) → length runs / 2 ≤ k → n ≡ hash_of m (runs_in runs) (image_from (runs_in runs) r 0 (length r))
     unfolding hash_runs hash_of
-    hash-done j q l =
+    hash_done j q l =
         let e : ◌≡◌ {A = ℕ × ℕ} (h, g) (hash_runs m 1 1 (runs_in runs) r) = rw (runs_none runs (2 * k) (omega arith)) at w.same in
         j ∙ ap (λ (n : ℕ × ℕ). join_hashes_of m n.0 n.1) e ∙ sym (hash-image m (runs_in runs) r (length r) q refl)
 
@@ -100,12 +113,18 @@ module _ (a b : List ℕ) (place code : ℕ) where
   pub run-string-told : {r : Bool} → StringSame a b place (code / 2) r → (code % 2 ≡ 0 → ⊥) → SameIn (run_at place code ∷ []) a b r
   run-string-told w z = rw (eq-eqb (code % 2) 1 (omega arith)) (record { same = w.same; differs = w.differs })
 
-  pub run-whole-told : {r : Bool} → r ≡ equal_range_of a b place (code / 2) → code % 2 ≡ 0 → place + code / 2 ≤ length a → SameIn (run_at place code ∷ []) a b r
+  pub part_long : (x : List ℕ) → place + code / 2 ≤ length x → length (take (place + code / 2 - place) (drop place x)) ≡ code / 2
+  part_long x l = length_part x place (place + code / 2 - place) (omega arith) ∙ omega arith
+
+  pub run_part_told : {r : Bool} → r ≡ equal_range_of (take (place + code / 2 - place) (drop place a)) (take (place + code / 2 - place) (drop place b)) 0 (length (take (place + code / 2 - place) (drop place a))) → code % 2 ≡ 0
+      → place + code / 2 ≤ length a → SameIn (run_at place code ∷ []) a b r
   unfolding AgreesField
-  run-whole-told w z l =
-      rw (ne_eqb (code % 2) 1 (λ e. omega arith)) (record {
-        same = λ e. ((field-same (code / 2) a b place 0 w e l).together 0 refl).0;
-        differs = λ e. (field-differs (code / 2) a b place 0 w e l).apart refl;
+  run_part_told {r = r} e z l =
+      let n : place + code / 2 - place ≡ code / 2 = omega arith in
+      let w : r ≡ equal_range_of a b place (code / 2) = rw (part_long a l, n) at e ∙ part_range a b place (code / 2) in
+      rw (ne_eqb (code % 2) 1 (λ q. omega arith)) (record {
+        same = λ t. ((field-same (code / 2) a b place 0 w t l).together 0 refl).0;
+        differs = λ t. (field-differs (code / 2) a b place 0 w t l).apart refl;
       })
 
 -- ---- k runs compared: what is left decides
@@ -114,32 +133,39 @@ pub record SameFrom (runs a b : List ℕ) (k : ℕ) : Type 0 where
   pub inside : Inside (length a) (runs_in (drop (2 * k) runs))
   pub decides : (x : Bool) → SameIn (runs_in (drop (2 * k) runs)) a b x → SameIn (runs_in runs) a b x
 
-module _ (runs a b : List ℕ) where
-  module _ (k : ℕ) (w : SameFrom runs a b k) where
-    pub same_here : k < length runs / 2 → get_or runs (2 * k) 0 + get_or runs (2 * k + 1) 0 / 2 ≤ length a
-    same_here l = run-here runs (2 * k) (length a) w.inside (omega arith)
+module _ (runs a b : List ℕ) (k : ℕ) (w : SameFrom runs a b k) where
+  module _ (pairs : List (List ℕ)) (z : pairs ≡ first_chunks 2 (length runs / 2) runs) (l : k < length runs / 2) where
+    pub same_here : get_or (get_or pairs k []) 0 0 + get_or (get_or pairs k []) 1 0 / 2 ≤ length a
+    same_here = rw (pair_place runs k pairs z l, pair_code runs k pairs z l) (run-here runs (2 * k) (length a) w.inside (omega arith))
 
-    pub same_next : {r : Bool} → SameIn (run_at (get_or runs (2 * k) 0) (get_or runs (2 * k + 1) 0) ∷ []) a b r → r ≡ true → k < length runs / 2 → SameFrom runs a b (k + 1)
-    same_next q e l =
-        let f = run_at (get_or runs (2 * k) 0) (get_or runs (2 * k + 1) 0) in
-        let gs = runs_in (drop (2 * k + 2) runs) in
-        let z : 2 * (k + 1) ≡ 2 * k + 2 = omega arith in
-        let some : 2 ≤ length runs - 2 * k = omega arith in
-        record {
-          inside = rw z (runs_behind runs (2 * k) (length a) w.inside some);
-          decides = λ x g.
-              let h : SameIn gs a b x = rw z at g in
-              w.decides x (rw (runs_next runs (2 * k) some) (record {
-                same = λ t. agree_both (f ∷ []) gs (q.same e) (h.same t);
-                differs = λ t. differ_second (f ∷ []) gs (h.differs t);
-              }));
-        }
+    module _ {r : Bool} (o : SameIn (run_at (get_or (get_or pairs k []) 0 0) (get_or (get_or pairs k []) 1 0) ∷ []) a b r) where
+      abbrev f : Field
+      f = run_at (get_or runs (2 * k) 0) (get_or runs (2 * k + 1) 0)
 
-    pub same-apart : {r : Bool} → SameIn (run_at (get_or runs (2 * k) 0) (get_or runs (2 * k + 1) 0) ∷ []) a b r → r ≡ false → k < length runs / 2 → SameIn (runs_in runs) a b false
-    same-apart q e l =
-        let f = run_at (get_or runs (2 * k) 0) (get_or runs (2 * k + 1) 0) in
-        let gs = runs_in (drop (2 * k + 2) runs) in
-        w.decides false (rw (runs_next runs (2 * k) (omega arith)) (record { same = λ t. absurd (false≢true t); differs = λ t. differ_first (f ∷ []) gs (q.differs e) }))
+      abbrev gs : List Field
+      gs = runs_in (drop (2 * k + 2) runs)
 
-    pub same-all : length runs / 2 ≤ k → SameIn (runs_in runs) a b true
-    same-all l = w.decides true (rw (runs_none runs (2 * k) (omega arith)) (record { same = λ t. agree-none; differs = λ t. absurd (false≢true (sym t)) }))
+      q : SameIn (f ∷ []) a b r
+      q = rw (pair_place runs k pairs z l, pair_code runs k pairs z l) at o
+
+      some : 2 ≤ length runs - 2 * k
+      some = omega arith
+
+      pub same_next : r ≡ true → SameFrom runs a b (k + 1)
+      same_next e =
+          let y : 2 * (k + 1) ≡ 2 * k + 2 = omega arith in
+          record {
+            inside = rw y (runs_behind runs (2 * k) (length a) w.inside some);
+            decides = λ x g.
+                let h : SameIn gs a b x = rw y at g in
+                w.decides x (rw (runs_next runs (2 * k) some) (record {
+                  same = λ t. agree_both (f ∷ []) gs (q.same e) (h.same t);
+                  differs = λ t. differ_second (f ∷ []) gs (h.differs t);
+                }));
+          }
+
+      pub same_apart : r ≡ false → SameIn (runs_in runs) a b false
+      same_apart e = w.decides false (rw (runs_next runs (2 * k) some) (record { same = λ t. absurd (false≢true t); differs = λ t. differ_first (f ∷ []) gs (q.differs e) }))
+
+  pub same_all : length runs / 2 ≤ k → SameIn (runs_in runs) a b true
+  same_all l = w.decides true (rw (runs_none runs (2 * k) (omega arith)) (record { same = λ t. agree-none; differs = λ t. absurd (false≢true (sym t)) }))

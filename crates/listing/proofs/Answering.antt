@@ -17,9 +17,9 @@ use Rattle.format.proofs.Lists.{sets-front}
 use Rattle.format.proofs.Table.{type-found}
 use Rattle.table.specs.Survey.{Checks}
 use Rattle.table.specs.declared.Survey.{Survey}
-use Rattle.listing.specs.Text.{heading, fields_text, fitting, fields_listing, refusal_text, refusal_listing}
-use Rattle.listing.specs.Puts.{Puts, name_in_of, PutsType}
-use Rattle.listing.specs.Answers.{Answers, PutsFields, ListsType}
+use Rattle.listing.specs.Text.{heading, fields_text, fitting, fields_listing}
+use Rattle.listing.specs.Puts.{Puts, name_of, PutsType}
+use Rattle.listing.specs.Answers.{Answers, PutsFields}
 use Rattle.table.proofs.Answers.{ok-some, bad-table, bad-answer}
 use Rattle.listing.proofs.Pieces.{then-put}
 
@@ -50,42 +50,24 @@ module _ (s : List ℕ) {n : ℕ} {none none' : List ℕ} (m : Puts s 0 n none n
   unfolding fitting unless
   fitting-there h = rw (le-leb (length s) (length out) h)
 
-  no_room : length out < n → Answers (fitting (length out) s) (Err (NoRoom n)) out out
+  pub no_room : length out < n → Answers (fitting (length out) s) (Err (NoRoom n)) out out
   no_room h = refused (fitting-not h)
 
-  room : length out * 1 < 9223372036854775808 → n ≤ length out → {k : ℕ} {out' : List ℕ} → Puts s 0 k out out' → Answers (fitting (length out) s) (Ok n) out out'
+  pub room : length out * 1 < 9223372036854775808 → n ≤ length out → {k : ℕ} {out' : List ℕ} → Puts s 0 k out out' → Answers (fitting (length out) s) (Ok n) out out'
   room small h x =
       let l : n ≡ length s = omega (arith, long) in
       given (fitting-there (omega arith)) l (x.written (omega arith) (omega arith) ∙ sets-front s out (omega arith))
-
--- ---- a refusal's line
-
-module _ (e : Refusal) (out : List ℕ) {n : ℕ} {none none' : List ℕ} (m : Puts (refusal_text e) 0 n none none') where
-  pub refusal_no_room : length out < n → Answers (refusal_listing e (length out)) (Err (NoRoom n)) out out
-  unfolding refusal_listing
-  refusal_no_room h = no_room (refusal_text e) m out h
-
-  pub refusal_listed : length out * 1 < 9223372036854775808 → n ≤ length out → {k : ℕ} {out' : List ℕ} → Puts (refusal_text e) 0 k out out' → Answers (refusal_listing e (length out)) (Ok n) out out'
-  unfolding refusal_listing
-  refusal_listed small h x = room (refusal_text e) m out small h x
 
 -- ---- the lines of the type that a table and pool set out
 
 pub fields-put : {y : Found Datatype} (pool : List ℕ) {a r : ℕ} {out out₁ out₂ : List ℕ}
     → Puts (108 ∷ 101 ∷ 118 ∷ 101 ∷ 108 ∷ 32 ∷ 99 ∷ 108 ∷ 97 ∷ 115 ∷ 115 ∷ 32 ∷ 111 ∷ 102 ∷ 102 ∷ 115 ∷ 101 ∷ 116 ∷ 32 ∷ 115 ∷ 105 ∷ 122 ∷ 101 ∷ 32 ∷ 110 ∷ 97 ∷ 109 ∷ 101 ∷ 10 ∷ []) 0 a out out₁
-    → PutsType 1 0 (name_in_of pool None) a y r out₁ out₂ → PutsFields y r out out₂
-unfolding fields_text heading name_in_of
+    → PutsType 1 0 (name_of None) a y r out₁ out₂ → PutsFields y r out out₂
+unfolding fields_text heading name_of
 fields-put pool x m = record { puts = λ t r p f. then-put x (m.puts t r p f) }
 
-module _ (table pool out : List ℕ) {n : ℕ} {none none' : List ℕ} (m : PutsFields (type_at 32 table pool 0 0) n none none') where
-  said : (t : Datatype) → type_of table pool ≡ gives t → {k : ℕ} {out₁ out₂ : List ℕ} → PutsFields (type_at 32 table pool 0 0) k out₁ out₂ → Puts (fields_text t) 0 k out₁ out₂
-  said t h x = let f = type-found table pool t h in x.puts t f.row f.place f.is
-
-  pub fields_no_room : length out < n → ListsType table pool (Err (NoRoom n)) out out
-  fields_no_room h = record { lists = λ t f. no_room (fields_text t) (said t f m) out h }
-
-  pub fields-listed : length out * 1 < 9223372036854775808 → n ≤ length out → {k : ℕ} {out' : List ℕ} → PutsFields (type_at 32 table pool 0 0) k out out' → ListsType table pool (Ok n) out out'
-  fields-listed small h x = record { lists = λ t f. room (fields_text t) (said t f m) out small h (said t f x) }
+pub fields-said : (table pool : List ℕ) (t : Datatype) → type_of table pool ≡ gives t → {k : ℕ} {o o' : List ℕ} → PutsFields (type_at 32 table pool 0 0) k o o' → Puts (fields_text t) 0 k o o'
+fields-said table pool t h x = let f = type-found table pool t h in x.puts t f.row f.place f.is
 
 -- ---- a table that is checked
 
@@ -94,6 +76,6 @@ module _ (table pool out : List ℕ) {x : Option Survey} (k : Checks table pool 
   unfolding fields_listing when_given
   list-bad i d f = rw (bad-answer table pool k w i d f) (refused (rw (bad-table table pool k w i)))
 
-  pub list-good : {s : Survey} {r : Result ℕ Refusal} {out' : List ℕ} → o ≡ Ok s → ListsType table pool r out out' → Answers (fields_listing table pool (length out)) r out out'
+  pub list-good : {s : Survey} {r : Result ℕ Refusal} {out' : List ℕ} → o ≡ Ok s → ((t : Datatype) → type_of table pool ≡ gives t → Answers (fitting (length out) (fields_text t)) r out out') → Answers (fields_listing table pool (length out)) r out out'
   unfolding fields_listing when_given
-  list-good {s = s} i j = let v = k.good s (ok-some w i) in rw v.is (j.lists v.type v.is)
+  list-good {s = s} i j = let v = k.good s (ok-some w i) in rw v.is (j v.type v.is)

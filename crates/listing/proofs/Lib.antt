@@ -3,3 +3,4 @@ pub mod Shapes
 pub mod Lines
 pub mod Answering
 pub mod Cases
+pub mod Displayed

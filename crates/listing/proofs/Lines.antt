@@ -15,9 +15,10 @@ use Rattle.rows.specs.Entries.{entry_at, member_at_of, from_member}
 use Rattle.rows.specs.declared.Member.{Member}
 use Rattle.rows.proofs.Decode.{members_at-entry}
 use Rattle.listing.specs.Text.{decimal, spaced, name_text, line, inner_lines, member_lines, lines}
-use Rattle.listing.specs.Puts.{Puts, name_in_of, class_in, InsideAt, PutsLine, PutsType, PutsMembers}
+use Rattle.listing.specs.Puts.{Puts, name_of, class_in, InsideAt, PutsLine, PutsType, PutsMembers}
 use Rattle.listing.specs.declared.Inside.{Inside}
 use Rattle.listing.specs.declared.Inside.TheVariants.{Nothing, Members as InsideMembers, Base}
+use Rattle.table.specs.Known.{SizedTo, SizedAt}
 use Rattle.table.specs.Survey.{survey_of}
 use Rattle.table.specs.declared.Survey.{Survey}
 use Rattle.listing.proofs.Pieces.{nothing_put, then-put, put_as}
@@ -36,66 +37,59 @@ lines_as l o b t e = rw e
 lines_none : (l o : ℕ) (b : maybe.Option (List ℕ)) (t : Datatype) → inner_lines l t ≡ [] → line l o b t ≡ lines l o b t
 lines_none l o b t e = sym (append-nil (line l o b t)) ∙ lines_as l o b t e
 
-module _ (levels o : ℕ) (b : maybe.Option (List ℕ)) (at : ℕ) (table pool : List ℕ) (r p : ℕ) (out : List ℕ) where
-  line-put : {c n a z : ℕ} {out₁ out₂ : List ℕ} → ((t : Datatype) (r' p' : ℕ) → type_at levels table pool r p ≡ found t r' p' → n ≡ type_size_of t) → c ≡ unwrap_or (class_in (entry_at table pool r p)) 0
-      → Puts (decimal (33 - levels) ++ spaced (c ∷ o ∷ n ∷ [])) at a out out₁ → Puts ((32 ∷ name_text b) ++ (10 ∷ [])) a z out₁ out₂
-      → PutsLine (33 - levels) o b at (type_at levels table pool r p) z out out₂
+module _ (level o : ℕ) (b : maybe.Option (List ℕ)) (at : ℕ) (table pool : List ℕ) (r p : ℕ) (out : List ℕ) where
+  pub line-put : {c n a z : ℕ} {out₁ out₂ : List ℕ} → SizedAt (33 - level) table pool r n → c ≡ unwrap_or (class_in (entry_at table pool r p)) 0
+      → Puts (decimal level ++ spaced (c ∷ o ∷ n ∷ [])) at a out out₁ → Puts ((32 ∷ name_text b) ++ (10 ∷ [])) a z out₁ out₂
+      → PutsLine level o b at (type_at (33 - level) table pool r p) z out out₂
+  unfolding SizedTo
   line-put {c = c} {n = n} h q m x =
       record {
         puts = λ t r' p' f.
-            let e : n ≡ type_size_of t = h t r' p' f in
-            let g : c ≡ class_number t = q ∙ ap (λ (k : Option ℕ). unwrap_or k 0) (shape levels table pool r p f).class in
-            put_as (line_as (33 - levels) o b t g e) (then-put m x);
+            let e : n ≡ type_size_of t = rw f at (h.sized p) in
+            let g : c ≡ class_number t = q ∙ ap (λ (k : Option ℕ). unwrap_or k 0) (shape (33 - level) table pool r p f).class in
+            put_as (line_as level o b t g e) (then-put m x);
       }
-
-  module _ {y : Option Survey} (d : y ≡ survey_of (type_at levels table pool r p)) where
-    pub line-none : (n : ℕ) {c a z : ℕ} {out₁ out₂ : List ℕ} → y ≡ None → c ≡ unwrap_or (class_in (entry_at table pool r p)) 0
-        → Puts (decimal (33 - levels) ++ spaced (c ∷ o ∷ n ∷ [])) at a out out₁ → Puts ((32 ∷ name_text b) ++ (10 ∷ [])) a z out₁ out₂ → PutsLine (33 - levels) o b at (type_at levels table pool r p) z out out₂
-    line-none n i q m x = line-put (λ t r' p' f. absurd (somewhere _ d f i)) q m x
-
-    pub line-some : {s : Survey} {c n a z : ℕ} {out₁ out₂ : List ℕ} → y ≡ Some s → n ≡ s.size → c ≡ unwrap_or (class_in (entry_at table pool r p)) 0
-        → Puts (decimal (33 - levels) ++ spaced (c ∷ o ∷ n ∷ [])) at a out out₁ → Puts ((32 ∷ name_text b) ++ (10 ∷ [])) a z out₁ out₂ → PutsLine (33 - levels) o b at (type_at levels table pool r p) z out out₂
-    line-some i j q m x = line-put (λ t r' p' f. j ∙ (reached _ d f i).1.1) q m x
 
   -- ---- a type
 
-  pub type-shallow : {x : ℕ} {out' : List ℕ} → levels ≡ 0 → PutsType (33 - levels) o b at (type_at levels table pool r p) x out out'
-  type-shallow h = record { puts = λ t r' p' f. let z : bad ≡ found t r' p' = unfold type_at in rw h at f in absurd (no_found z) }
+  pub type-shallow : {x : ℕ} {out' : List ℕ} → 32 < level → PutsType level o b at (type_at (33 - level) table pool r p) x out out'
+  type-shallow h =
+      let e : 33 - level ≡ 0 = omega arith in
+      record { puts = λ t r' p' f. let g = rw e at f in let z : bad ≡ found t r' p' = unfold type_at in g in absurd (no_found z) }
 
-  module _ (h : levels ≡ 0 → ⊥) (small : levels ≤ 32) {a : ℕ} {out₁ : List ℕ} (n : PutsLine (33 - levels) o b at (type_at levels table pool r p) a out out₁)
+  module _ {a : ℕ} {out₁ : List ℕ} (n : PutsLine level o b at (type_at (33 - level) table pool r p) a out out₁)
       {words : ℕ} {y : Inside} (q : InsideAt (entry_at table pool r p) words r p y) where
-    deeper : 33 - (levels - 1) ≡ suc (33 - levels)
-    deeper = omega (arith, h)
+    inner : {z : Inside} {t : Datatype} {r' p' : ℕ} → y ≡ z → type_at (33 - level) table pool r p ≡ found t r' p' → Inner (type_at (33 - (level + 1)) table pool) table pool r p level t z
+    inner i f =
+        let e : 33 - level - 1 ≡ 33 - (level + 1) = omega arith in
+        rw e at (rw (sym q.is ∙ i) at ((shape (33 - level) table pool r p f).inner level))
 
-    inner : {z : Inside} {t : Datatype} {r' p' : ℕ} → y ≡ z → type_at levels table pool r p ≡ found t r' p' → Inner (type_at (levels - 1) table pool) table pool r p (33 - levels) t z
-    inner i f = rw (sym q.is ∙ i) at ((shape levels table pool r p f).inner (33 - levels))
-
-    pub type-plain : y ≡ Nothing → PutsType (33 - levels) o b at (type_at levels table pool r p) a out out₁
+    pub type-plain : y ≡ Nothing → PutsType level o b at (type_at (33 - level) table pool r p) a out out₁
     unfolding Inner
     type-plain i =
         record {
           puts = λ t r' p' f.
-              put_as (lines_none (33 - levels) o b t (inner i f)) (n.puts t r' p' f);
+              put_as (lines_none level o b t (inner i f)) (n.puts t r' p' f);
         }
 
-    pub type-members : {k z : ℕ} {out₂ : List ℕ} → y ≡ InsideMembers k → PutsMembers (33 - (levels - 1)) a (members_at (type_at (levels - 1) table pool) table pool k (r + 1) p) z out₁ out₂
-        → PutsType (33 - levels) o b at (type_at levels table pool r p) z out out₂
+    pub type-members : {k z : ℕ} {out₂ : List ℕ} → y ≡ InsideMembers k → PutsMembers (level + 1) a (members_at (type_at (33 - (level + 1)) table pool) table pool k (r + 1) p) z out₁ out₂
+        → PutsType level o b at (type_at (33 - level) table pool r p) z out out₂
     unfolding Inner
     type-members i m =
         record {
           puts = λ t r' p' f.
               let w = inner i f in
-              put_as (lines_as (33 - levels) o b t w.text) (then-put (n.puts t r' p' f) (rw deeper at (m.puts w.members w.row w.place w.are)));
+              put_as (lines_as level o b t w.text) (then-put (n.puts t r' p' f) (rw (add-one level) at (m.puts w.members w.row w.place w.are)));
         }
 
-    pub type-base : {k z : ℕ} {out₂ : List ℕ} → y ≡ Base k → PutsType (33 - (levels - 1)) 0 (name_in_of pool None) a (type_at (levels - 1) table pool (r + 1) k) z out₁ out₂
-        → PutsType (33 - levels) o b at (type_at levels table pool r p) z out out₂
-    unfolding Inner name_in_of
+    pub type-base : {k z : ℕ} {out₂ : List ℕ} → y ≡ Base k → PutsType (level + 1) 0 (name_of None) a (type_at (33 - (level + 1)) table pool (r + 1) k) z out₁ out₂
+        → PutsType level o b at (type_at (33 - level) table pool r p) z out out₂
+    unfolding Inner name_of
     type-base i m =
         record {
           puts = λ t r' p' f.
               let w = inner i f in
-              put_as (lines_as (33 - levels) o b t w.text) (then-put (n.puts t r' p' f) (rw deeper at (m.puts w.base w.row w.place w.is)));
+              put_as (lines_as level o b t w.text) (then-put (n.puts t r' p' f) (rw (add-one level) at (m.puts w.base w.row w.place w.is)));
         }
 
 -- ---- the members of a compound
@@ -174,7 +168,8 @@ module _ {rd : Walk Datatype} {table pool : List ℕ} {l count row place at : �
         members_unsurveyed f = i.rest _ _ (none_more rd table pool r p l k a h q e d f)
 
         pub members-next : {b less : ℕ} {s : Survey} {out₁ : List ℕ} → u ≡ Some s → length out₁ ≡ length out
-            → PutsType l m.number (name_in_of pool (Some (record { place = p; length = m.name }))) a (rd (r + 1) (p + m.name)) b out out₁ → less ≡ k - 1
+            → PutsType l m.number (maybe.some (take (p + m.name - p) (drop p pool))) a (rd (r + 1) (p + m.name)) b out out₁ → less ≡ k - 1
             → MembersLeft rd table pool l count row place at out₀ less s.row s.place b out₁
-        unfolding name_in_of
-        members-next f c t g = rw g (record { long = c ∙ i.long; rest = λ z o' x. i.rest z o' (one_more rd table pool r p l k a h q e d f t x) })
+        members-next f c t g =
+            let j : p + m.name - p ≡ m.name = omega arith in
+            rw g (record { long = c ∙ i.long; rest = λ z o' x. i.rest z o' (one_more rd table pool r p l k a h q e d f (rw j at t) x) })

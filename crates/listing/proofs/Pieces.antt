@@ -6,10 +6,8 @@ use mathlib.Core.List.{List, [], ◌∷◌, ◌++◌, append_assoc, append-nil}
 use mathlib.Core.Option.{some}
 use native.Mathlib.Omega.{arith}
 use native.Mathlib.Numerals.{add-one}
-use lib.ListN.{length, get_or, take, drop, length-append}
+use lib.ListN.{length, get_or, take, length-append}
 use lib.Seq.{sets, length-sets, set_out, take-suc, take_all}
-use mir.Syntax.{w64}
-use mir.Val.{Fits}
 use lib.Dec.{ltb}
 use borrow.Author.Tests.{lt-ltb, le-ltb, ltb-true, ltb-false}
 use Rattle.format.proofs.Lists.{sets_append}
@@ -18,8 +16,8 @@ use Rattle.refusal.specs.declared.Refusal.{Refusal}
 use Rattle.refusal.specs.declared.Refusal.TheVariants.{BadTable, TooDeep, TooMany, Short, TooNew, BadClass, BadVersion, BadPadding, BadCharset, BadReferenceKind, PoolFull, ZeroSize, NoSuchEdition, Unstorable, NotInEdition, OutsideRecord, HeapHeld, WrongLength, Unmapped, SlotOutside, NoRoom}
 use Rattle.refusal.specs.declared.RefusalValues.{RefusalValues}
 use Rattle.listing.specs.Text.{decimal_in, decimal, spaced, hex_digit_of, hexadecimal, name_text, refusal_text}
-use Rattle.listing.specs.Puts.{last, Puts, name_in_of, NameInside}
-use Rattle.table.specs.declared.NamePart.{NamePart}
+use Rattle.listing.specs.Puts.{last, Puts, name_of}
+use Rattle.std.specs.Borrow.{Bor}
 use Rattle.std.specs.Prelude.{Option, Some, None, MatchOption, option_to_list, slice_get}
 
 -- past the end nothing is stored
@@ -57,11 +55,9 @@ put_as e x = rw e at x
 -- ---- a byte
 
 module _ (b at : ℕ) (out : List ℕ) where
-  pub byte_past : length out ≤ at → at < last → Puts (b ∷ []) at (at + 1) out out
-  byte_past h k = record { behind = λ i. omega arith; written = λ i j. sym (set_out out at b h) }
-
-  pub byte_last : length out ≤ at → last ≤ at → Puts (b ∷ []) at at out out
-  byte_last h k = record { behind = λ i. omega arith; written = λ i j. sym (set_out out at b h) }
+  -- past the end it is not stored; the place behind it stops at `last`
+  pub byte_past : length out ≤ at → {r : ℕ} → r ≡ min (at + 1) last → Puts (b ∷ []) at r out out
+  byte_past h e = record { behind = λ i. e; written = λ i j. sym (set_out out at b h) }
 
 -- ---- digits
 
@@ -191,27 +187,14 @@ module _ (s : List ℕ) {at : ℕ} {out : List ℕ} where
       go [] z = absurd (z refl)
       go (b ∷ s) z = unfold name_text in refl
 
-pub name_in : (pool : List ℕ) (p n : ℕ) → p + n ≤ length pool → NameInside pool (Some (record { place = p; length = n }))
-unfolding NameInside
-name_in pool p n h = h
+module _ {name : Option (Bor (List ℕ))} {at a r : ℕ} {out out₁ out₂ : List ℕ} (x : Puts (32 ∷ []) at a out out₁) where
+  pub nameless-put : name ≡ None → Puts (45 ∷ 10 ∷ []) a r out₁ out₂ → Puts ((32 ∷ name_text (name_of name)) ++ (10 ∷ [])) at r out out₂
+  unfolding name_of name_text
+  nameless-put e y = rw e (then-put x y)
 
-module _ (pool : List ℕ) {name : Option NamePart} where
-  pub name-fits : {x : NamePart} → NameInside pool name → name ≡ Some x → x.place + x.length ≤ length pool
-  unfolding NameInside
-  name-fits h e = rw e at h
-
-  pub name-end : {x : NamePart} → NameInside pool name → name ≡ Some x → length pool < 18446744073709551616 → Fits w64 (x.place + x.length)
-  name-end h e k = let l = name-fits h e in record { fits = omega arith }
-
-  module _ {at a r : ℕ} {out out₁ out₂ : List ℕ} (x : Puts (32 ∷ []) at a out out₁) where
-    pub nameless-put : name ≡ None → Puts (45 ∷ 10 ∷ []) a r out₁ out₂ → Puts ((32 ∷ name_text (name_in_of pool name)) ++ (10 ∷ [])) at r out out₂
-    unfolding name_in_of name_text
-    nameless-put e y = rw e (then-put x y)
-
-    pub name-put : {p : NamePart} → name ≡ Some p → Puts (name_text (some (take (p.place + p.length - p.place) (drop p.place pool))) ++ (10 ∷ [])) a r out₁ out₂
-        → Puts ((32 ∷ name_text (name_in_of pool name)) ++ (10 ∷ [])) at r out out₂
-    unfolding name_in_of
-    name-put {p = p} e y = let j : p.place + p.length - p.place ≡ p.length = omega arith in rw e (then-put x (rw j at y))
+  pub name-put : {p : Bor (List ℕ)} → name ≡ Some p → Puts (name_text (some p.now) ++ (10 ∷ [])) a r out₁ out₂ → Puts ((32 ∷ name_text (name_of name)) ++ (10 ∷ [])) at r out out₂
+  unfolding name_of
+  name-put e y = rw e (then-put x y)
 
 -- ---- the numbers of a line, and of a refusal
 

@@ -1,9 +1,11 @@
 -- The answers of `list_fields` and `list_refusal`, and what they leave in `out`.
+use Rattle.std.specs.Borrow.{MutBor}
+use Rattle.std.specs.Fn.{Shared}
 use Rattle.std.specs.Prelude.{ℕ, ◌≡◌, List, [], ◌∷◌, length, Result}
 use Rattle.refusal.specs.declared.Refusal.{Refusal}
 use Rattle.format.specs.Datatype.{Datatype}
-use Rattle.format.specs.Outcome.{Outcome, gives, output_after, Answers as AnsweredBy}
-use Rattle.format.specs.Table.{Found, found, type_of}
+use Rattle.format.specs.Outcome.{Outcome, output_after, Answers as AnsweredBy}
+use Rattle.format.specs.Table.{Found, found}
 use Rattle.listing.specs.Text.{fields_text, fitting, fields_listing, refusal_listing}
 use Rattle.listing.specs.Puts.{Puts}
 
@@ -20,9 +22,9 @@ pub record Answers (o : Outcome (List ℕ)) (r : Result ℕ Refusal) (out out' :
 pub record PutsFields (y : Found Datatype) (x : ℕ) (out out' : List ℕ) : Type 0 where
   pub puts : (t : Datatype) (r p : ℕ) → y ≡ found t r p → Puts (fields_text t) 0 x out out'
 
--- of a type that the check admits
-pub record ListsType (table pool : List ℕ) (r : Result ℕ Refusal) (out out' : List ℕ) : Type 0 where
-  pub lists : (t : Datatype) → type_of table pool ≡ gives t → Answers (fitting (length out) (fields_text t)) r out out'
+-- of the text that every call of a closure puts from the start of its buffer
+pub record ListsText {F : Type 0} (g : Shared F (MutBor (List ℕ) × Unit {0}) (ℕ × (MutBor (List ℕ) × Unit {0}))) (put : F) (r : Result ℕ Refusal) (out out' : List ℕ) : Type 0 where
+  pub lists : (text : List ℕ) → ((p q : MutBor (List ℕ)) (n : ℕ) → g.post put (p, tt) (n, (q, tt)) → Puts text 0 n p.now q.now) → Answers (fitting (length out) text) r out out'
 
 -- `list_fields` and `list_refusal`: success writes the text and nothing past it, a refusal leaves `out` as it was
 abbrev pub ListsFields : (table pool : List ℕ) → Result ℕ Refusal → (out out' : List ℕ) → Type 0

@@ -1,5 +1,5 @@
 -- What the functions ensure that put a piece of a text at a place of `out`.
-use Rattle.std.specs.Prelude.{ℕ, ◌+◌, ◌*◌, ◌≤◌, min, ◌≡◌, List, length, take, drop}
+use Rattle.std.specs.Prelude.{ℕ, ◌+◌, ◌*◌, ◌≤◌, min, ◌≡◌, List, length}
 use Rattle.std.specs.Prelude.{Option, Some, None}
 use Rattle.std.proofs.Math.Option as maybe
 use Rattle.std.proofs.lemmas.List.Edits.{sets}
@@ -8,7 +8,7 @@ use Rattle.format.specs.Table.{Found, found}
 use Rattle.rows.specs.declared.Entry.{Entry}
 use Rattle.rows.specs.declared.Entry.TheVariants.{Leaf, Compound, Enumeration, VariableLength, Array}
 use Rattle.listing.specs.Text.{line, lines, member_lines}
-use Rattle.table.specs.declared.NamePart.{NamePart}
+use Rattle.std.specs.Borrow.{Bor}
 use Rattle.listing.specs.declared.Inside.{Inside}
 use Rattle.listing.specs.declared.Inside.TheVariants.{Nothing, Members as InsideMembers, Base}
 
@@ -22,14 +22,9 @@ pub record Puts (bytes : List ℕ) (at r : ℕ) (out out' : List ℕ) : Type 0 w
   pub written : at ≤ last → length out ≤ last → out' ≡ sets out at bytes
 
 -- the name that a line shows
-unfoldable pub name_in_of : (pool : List ℕ) → Option NamePart → maybe.Option (List ℕ)
-name_in_of pool None = maybe.none
-name_in_of pool (Some x) = maybe.some (take x.length (drop x.place pool))
-
--- it lies in the pool
-unfoldable pub NameInside : (pool : List ℕ) → Option NamePart → Type 0
-NameInside pool None = Unit {0}
-NameInside pool (Some x) = x.place + x.length ≤ length pool
+unfoldable pub name_of : Option (Bor (List ℕ)) → maybe.Option (List ℕ)
+name_of None = maybe.none
+name_of (Some x) = maybe.some x.now
 
 -- the class of a row, and what is inside its type, whose pool bytes begin at p
 unfoldable pub class_in : Option Entry → Option ℕ

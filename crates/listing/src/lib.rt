@@ -1,17 +1,17 @@
 // The text of a type, a line for each of its type rows, and the line of a refusal.
 #![tactic(auto)]
 
-ghost use Rattle.std.specs.Prelude.{◌≡◌, [], ◌∷◌, ◌++◌, ◌+◌, ◌-◌, ◌≤◌, ◌<◌, length, take, drop};
+ghost use Rattle.std.specs.Prelude.{◌≡◌, [], ◌∷◌, ◌++◌, ◌+◌, ◌-◌, ◌<◌, length};
 ghost use Rattle.std.proofs.Math.Option.{some};
 ghost use Rattle.format.specs.Table.{type_at, members_at};
 ghost use Rattle.rows.specs.Entries.{entry_at};
 ghost use Rattle.listing.specs.Text.{decimal_in, decimal, spaced, hex_digit_of, hexadecimal, name_text, refusal_text};
-ghost use Rattle.listing.specs.Puts.{Puts, name_in_of, NameInside, class_in, InsideAt, PutsLine, PutsType, PutsMembers};
-ghost use Rattle.listing.specs.Answers.{PutsFields, ListsType, ListsFields, ListsRefusal};
+ghost use Rattle.listing.specs.Puts.{Puts, name_of, class_in, InsideAt, PutsLine, PutsType, PutsMembers};
+ghost use Rattle.listing.specs.Answers.{PutsFields, ListsText, ListsFields, ListsRefusal};
 
 use refusal::{Refusal, number, values};
 use rows::{Entry, entry_at, member_at};
-use table::{NamePart, check, survey_type};
+use table::{check, size_at, survey_type};
 
 // The types inside a type: none, so many members, or a base whose pool bytes begin at a place. No Option, since there are three cases.
 #[derive(Clone, Copy)]
@@ -28,12 +28,8 @@ fn put_byte(byte: u8, out: &mut [u8], at: usize) -> usize
 {
     if at < out.len() {
         out[at] = byte;
-        return at + 1;
     }
-    if at < 18446744073709551615 {
-        return at + 1;
-    }
-    at
+    at.saturating_add(1)
 }
 
 // All of a text.
@@ -100,7 +96,7 @@ fn put_hex(bytes: &[u8], out: &mut [u8], at: usize) -> usize
 fn put_piece(name: &[u8], out: &mut [u8], at: usize) -> usize
     ensures { Puts (name_text (some name.now) ++ (10 ∷ [])) at result out.old out.new }
 {
-    if name.len() == 0 {
+    if name.is_empty() {
         return put_text(b".\n", out, at);
     }
     let behind = put_hex(name, out, at);
@@ -108,17 +104,13 @@ fn put_piece(name: &[u8], out: &mut [u8], at: usize) -> usize
 }
 
 // A space, what a line calls a type, a member's name or nothing, and the line's end.
-fn put_name(pool: &[u8], name: Option<NamePart>, out: &mut [u8], at: usize) -> usize
-    requires { NameInside pool.now name }
-    ensures { Puts ((32 ∷ name_text (name_in_of pool.now name)) ++ (10 ∷ [])) at result out.old out.new }
+fn put_name(name: Option<&[u8]>, out: &mut [u8], at: usize) -> usize
+    ensures { Puts ((32 ∷ name_text (name_of name.entry)) ++ (10 ∷ [])) at result out.old out.new }
 {
     let behind = put_byte(b' ', out, at);
     match name {
         None => put_text(b"-\n", out, behind),
-        Some(part) => {
-            let end = part.place + part.length;
-            put_piece(&pool[part.place..end], out, behind)
-        }
+        Some(piece) => put_piece(piece, out, behind),
     }
 }
 
@@ -160,31 +152,27 @@ fn put_numbers(level: u64, class: u32, offset: u32, size: u32, out: &mut [u8], a
     put_spaced(&numbers, out, behind)
 }
 
-// The line of the type at a row, with so many levels left of 32.
+// The line of the type at a row, at a level from 1 on: of 32 levels, 33 less this are left.
 fn put_line(
     table: &[u32],
     pool: &[u8],
     row: usize,
     place: usize,
-    levels: usize,
+    level: usize,
     offset: u32,
-    name: Option<NamePart>,
+    name: Option<&[u8]>,
     out: &mut [u8],
     at: usize,
 ) -> usize
-    requires { (levels ≤ 32) × NameInside pool.now name }
-    ensures { PutsLine (33 - levels) offset (name_in_of pool.now name) at (type_at levels table.now pool.now row place) result out.old out.new }
+    ensures { PutsLine level offset (name_of name.entry) at (type_at (33 - level) table.now pool.now row place) result out.old out.new }
 {
-    let size = match survey_type(table, pool, row, place, levels) {
-        None => 0,
-        Some(s) => s.size,
-    };
+    let size = size_at(table, pool, row, 33usize.saturating_sub(level));
     let class = class_at(table, pool, row, place).unwrap_or(0);
-    let behind = put_numbers((33 - levels) as u64, class, offset, size, out, at);
-    put_name(pool, name, out, behind)
+    let behind = put_numbers(level as u64, class, offset, size, out, at);
+    put_name(name, out, behind)
 }
 
-// The lines of so many members of a compound.
+// The lines of so many members of a compound, their types at a level.
 #[cycle(put)]
 fn put_members(
     table: &[u32],
@@ -192,34 +180,23 @@ fn put_members(
     row: usize,
     place: usize,
     count: u32,
-    levels: usize,
+    level: usize,
     out: &mut [u8],
     at: usize,
 ) -> usize
-    requires { levels ≤ 32 }
-    ensures { PutsMembers (33 - levels) at (members_at (type_at levels table.now pool.now) table.now pool.now count row place) result out.old out.new }
+    ensures { PutsMembers level at (members_at (type_at (33 - level) table.now pool.now) table.now pool.now count row place) result out.old out.new }
 {
     let mut r = row;
     let mut p = place;
+    let levels = 33usize.saturating_sub(level);
     let mut a = at;
     for _ in 0..count {
         let Some(member) = member_at(table, pool, r, p) else {
             return a;
         };
-        let length = member.name as usize;
-        let from = p + length;
-        let name = Some(NamePart { place: p, length });
-        a = put_type(
-            table,
-            pool,
-            r + 1,
-            from,
-            levels,
-            member.number,
-            name,
-            out,
-            a,
-        );
+        let from = p + member.name as usize;
+        let name = Some(&pool[p..from]);
+        a = put_type(table, pool, r + 1, from, level, member.number, name, out, a);
         let Some(s) = survey_type(table, pool, r + 1, from, levels) else {
             return a;
         };
@@ -229,26 +206,25 @@ fn put_members(
     a
 }
 
-// The lines of the type at a row, its pool bytes at a place, with so many levels left of 32: its own line and those of the types inside.
+// The lines of the type at a row, its pool bytes at a place, at a level as above: its own line and those of the types inside.
 #[cycle(put)]
 fn put_type(
     table: &[u32],
     pool: &[u8],
     row: usize,
     place: usize,
-    levels: usize,
+    level: usize,
     offset: u32,
-    name: Option<NamePart>,
+    name: Option<&[u8]>,
     out: &mut [u8],
     at: usize,
 ) -> usize
-    requires { (levels ≤ 32) × NameInside pool.now name }
-    ensures { PutsType (33 - levels) offset (name_in_of pool.now name) at (type_at levels table.now pool.now row place) result out.old out.new }
+    ensures { PutsType level offset (name_of name.entry) at (type_at (33 - level) table.now pool.now row place) result out.old out.new }
 {
-    if levels == 0 {
+    if level > 32 {
         return at;
     }
-    let behind = put_line(table, pool, row, place, levels, offset, name, out, at);
+    let behind = put_line(table, pool, row, place, level, offset, name, out, at);
     let inside = inside_at(table, pool, row, place);
     match inside {
         Inside::Nothing => behind,
@@ -258,21 +234,11 @@ fn put_type(
             row + 1,
             place,
             count,
-            levels - 1,
+            level + 1,
             out,
             behind,
         ),
-        Inside::Base(from) => put_type(
-            table,
-            pool,
-            row + 1,
-            from,
-            levels - 1,
-            0,
-            None,
-            out,
-            behind,
-        ),
+        Inside::Base(from) => put_type(table, pool, row + 1, from, level + 1, 0, None, out, behind),
     }
 }
 
@@ -281,29 +247,30 @@ fn put_fields(table: &[u32], pool: &[u8], out: &mut [u8]) -> usize
     ensures { PutsFields (type_at 32 table.now pool.now 0 0) result out.old out.new }
 {
     let behind = put_text(b"level class offset size name\n", out, 0);
-    put_type(table, pool, 0, 0, 32, 0, None, out, behind)
+    put_type(table, pool, 0, 0, 1, 0, None, out, behind)
 }
 
-// The same, if there is room, of a table that the check admits.
-fn list_checked(table: &[u32], pool: &[u8], out: &mut [u8]) -> Result<usize, Refusal>
-    ensures { ListsType table.now pool.now result out.old out.new }
+// What `put` puts, if there is room. It puts without room first: so its length is known, and a refusal leaves `out` as it was.
+fn list_text<F: Fn(&mut [u8]) -> usize>(put: F, out: &mut [u8]) -> Result<usize, Refusal>
+    requires { F.IsAlwaysCallable put }
+    ensures { ListsText F.Fn put result out.old out.new }
 {
     let mut none = [0u8; 1];
-    let length = put_fields(table, pool, &mut none);
+    let length = put(&mut none);
     if out.len() < length {
         return Err(Refusal::NoRoom(length as u64));
     }
-    put_fields(table, pool, out);
+    put(out);
     Ok(length)
 }
 
 // Writes the heading and a line for each type row of the type that a table and pool set out to the start of `out`: level, class, offset,
-// size and name. Refused: BadTable, NoRoom. Costs at most four passes over the rows for each level of the type, half of them to find the length.
+// size and name. Refused: BadTable, NoRoom. Costs at most two passes over the rows for each level of the type, one of them to find the length.
 pub fn list_fields(table: &[u32], pool: &[u8], out: &mut [u8]) -> Result<usize, Refusal>
     ensures { ListsFields table.now pool.now result out.old out.new }
 {
     check(table, pool).ok_or(Refusal::BadTable)?;
-    list_checked(table, pool, out)
+    list_text(|buffer| put_fields(table, pool, buffer), out)
 }
 
 // `refused`, and a refusal's number and values.
@@ -322,11 +289,5 @@ fn put_refusal(refusal: Refusal, out: &mut [u8]) -> usize
 pub fn list_refusal(refusal: Refusal, out: &mut [u8]) -> Result<usize, Refusal>
     ensures { ListsRefusal refusal result out.old out.new }
 {
-    let mut none = [0u8; 1];
-    let needed = put_refusal(refusal, &mut none);
-    if out.len() < needed {
-        return Err(Refusal::NoRoom(needed as u64));
-    }
-    put_refusal(refusal, out);
-    Ok(needed)
+    list_text(|buffer| put_refusal(refusal, buffer), out)
 }

@@ -16,6 +16,8 @@ use Rattle.format.proofs.Booleans.{and_both}
 use Rattle.format.proofs.Lists.{length_part}
 use Rattle.std.specs.Bool.{then_some}
 use Rattle.rows.specs.Entries.{leaf_at, tag_inside, leaf_entry, entry_of, entry_at, leaf_kind_of, leaf_type}
+use Rattle.rows.specs.Columns.{IsRow}
+use Rattle.rows.proofs.Words.{same-word}
 use Rattle.rows.specs.declared.Entry.{Entry}
 use Rattle.rows.specs.declared.Entry.TheVariants.{Leaf, Compound, Enumeration, VariableLength, Array}
 use Rattle.measure.specs.Measure.{most_length, measure_of, parts_fit_of, leaf_storable_of, leaf_length_of}
@@ -87,3 +89,10 @@ module _ (e : ℕ) (table pool : List ℕ) (r p : ℕ) where
       let f : entry_at table pool r p ≡ Some (Leaf k n l x) = sym q ∙ i ∙ ap Some h in
       let g : LeafIs e table pool r p (Some (Leaf k n l x)) = rw f at (is-kind (kind_of (word_at table r 0))) in
       g s w
+
+-- ---- by its words
+
+pub same-storable : {table words : List ℕ} {r : ℕ} → IsRow table r words → (c n l : ℕ) → leaf_storable_of words 0 c n l ≡ leaf_storable_of table r c n l
+unfolding leaf_storable_of parts_fit_of
+same-storable s c n l =
+    rw (same-word s 5 refl, same-word s 7 refl, same-word s 8 refl, same-word s 9 refl, same-word s 10 refl, same-word s 11 refl, same-word s 12 refl)

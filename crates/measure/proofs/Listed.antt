@@ -17,6 +17,7 @@ use Rattle.format.specs.Table.{Found, found, bad, and_then, enum_names_at, enum_
 use Rattle.format.proofs.Lists.{length_part}
 use Rattle.format.proofs.TableSteps.{then-piece}
 use Rattle.rows.specs.Entries.{enum_member_at_of}
+use Rattle.rows.specs.declared.EnumPlace.{EnumPlace}
 use Rattle.rows.specs.declared.Member.{Member}
 use Rattle.rows.proofs.EnumNames.{names_as, names-none, values_long}
 use Rattle.measure.specs.Measure.{most_length, measure_enum, enum_measure_of, valid_at, with_enum_name_of}
@@ -161,10 +162,15 @@ module _ (table pool : List ℕ) (e n : ℕ) where
       pub listed-past-pool : length pool - v < m.number → None ≡ z
       listed-past-pool g = sym (turned ∙ past-then pool e n _ _ (v + m.number) _ (omega arith))
 
-      pub listed_next : {names : EnumNames} → p + m.name ≤ length pool → names ≡ with_enum_name_of pool e n (record { storable = s; length = l }) p m.name m.number
+      listed_next : {names : EnumNames} → p + m.name ≤ length pool → names ≡ with_enum_name_of pool e n (record { storable = s; length = l }) p m.name m.number
           → z ≡ listed pool e n names.storable names.length (v + m.number) (enum_names_at table pool (count - (i + 1)) (r + 1) (p + m.name))
       unfolding with_enum_name_of valid_at
       listed_next inside hn = turned ∙ rw (hn, length-name-of e m.name (take m.name (drop p pool)) (length_part pool p m.name inside))
+
+      pub listed_at : {names : EnumNames} {at : EnumPlace} → p + m.name ≤ length pool → names ≡ with_enum_name_of pool e n (record { storable = s; length = l }) p m.name m.number
+          → at ≡ record { row = r + 1; place = p + m.name; values = v + m.number }
+          → z ≡ listed pool e n names.storable names.length at.values (enum_names_at table pool (count - (i + 1)) at.row at.place)
+      listed_at inside hn g = rw g (listed_next inside hn)
 
   -- behind the last name
   module _ (r p v count i l : ℕ) (s : Bool) {z : Option Measure} (inv : z ≡ listed pool e n s l v (enum_names_at table pool (count - i) r p)) (h : count ≤ i) where
@@ -174,16 +180,13 @@ module _ (table pool : List ℕ) (e n : ℕ) where
         let f : count - i ≡ 0 = omega arith in
         inv ∙ rw f
 
-    pub listed-behind : length pool < p → None ≡ z
-    listed-behind g = sym (ended ∙ listed-past pool e n s l v [] r p (omega arith))
-
-    pub listed-lost : length pool - p < v → None ≡ z
+    pub listed-lost : length pool < p + v → None ≡ z
     listed-lost g = sym (ended ∙ listed-past pool e n s l v [] r p (omega arith))
 
-    pub listed-ended : {w : ℕ} → p ≤ length pool → v ≤ length pool - p → (w ≡ most_length (l + v)) × (w ≤ 4294967296)
-        → Some (record { row = r; place = p + v; size = n; storable = s; carried = true; length = w }) ≡ z
+    pub listed-ended : {u w : ℕ} → (p + v ≤ length pool) × (u ≡ p + v) → (w ≡ most_length (l + v)) × (w ≤ 4294967296)
+        → Some (record { row = r; place = u; size = n; storable = s; carried = true; length = w }) ≡ z
     unfolding listed values_long names_long names_storable
-    listed-ended f g i =
+    listed-ended f i =
         let a : v + 0 ≡ v = omega arith in
         let b : 0 + v ≡ v = omega arith in
-        sym (ended ∙ rw (a, b, le-leb (p + v) (length pool) (omega arith), and-true s, i.0))
+        rw f.1 (sym (ended ∙ rw (a, b, le-leb (p + v) (length pool) f.0, and-true s, i.0)))

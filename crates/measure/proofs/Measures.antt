@@ -19,9 +19,11 @@ use Rattle.format.proofs.Lists.{length_part}
 use Rattle.format.proofs.Scaling.{cap_again}
 use Rattle.format.proofs.TableSteps.{then_found, then-assoc}
 use Rattle.rows.specs.Entries.{entry_at, member_at_of, from_entry, from_member, from_enum_member, enum_member_at_of}
+use Rattle.rows.specs.Columns.{IsRow}
 use Rattle.rows.specs.declared.Entry.{Entry}
 use Rattle.rows.specs.declared.Entry.TheVariants.{Leaf, Compound, Enumeration, VariableLength, Array}
 use Rattle.rows.specs.declared.Member.{Member}
+use Rattle.rows.proofs.Words.{same-word}
 use Rattle.rows.proofs.Decode.{type_at_entry, members_at-entry, enum_names_at-entry}
 use Rattle.measure.specs.Measure.{most_length, measure_of, measure_in, measure_enum, enum_measure_of, offset_fits_of, member_head_of, valid_at, array_head_of, leaf_measure_of, with_member_of, compound_measure_of, enumeration_measure_of, variable_measure_of, array_measure_of}
 use Rattle.measure.specs.declared.Measure.{Measure}
@@ -177,6 +179,26 @@ array_at e k ds b g s (found t r p) h =
     rw (h.is, cap_again, g, s, most-two, and-true, q)
 array_at e k ds b g s bad h = absurd h
 
+-- ---- an enumeration, with so many levels left below it
+
+module _ (e : ℕ) (table pool : List ℕ) (row place levels n k : ℕ) {y : Option Measure} (g : y ≡ measure_of e (type_at levels table pool (row + 1) place)) where
+  base : y ≡ measure_of e (type_at levels table pool (suc row) place)
+  base = rw (add-one row) at g
+
+  enumeration_unbased : y ≡ None → None ≡ measure_of e (from_entry (type_at levels table pool) table pool row place (Some (Enumeration n k)))
+  unfolding from_entry
+  enumeration_unbased f = lost-then e _ _ base f
+
+  module _ {b : Measure} {w : Option Measure} (f : y ≡ Some b) (v : w ≡ enum_measure_of e b.size table pool k b.row b.place) where
+    enumeration_unlisted : w ≡ None → None ≡ measure_of e (from_entry (type_at levels table pool) table pool row place (Some (Enumeration n k)))
+    unfolding from_entry
+    enumeration_unlisted i = enumeration-lost e table pool n k b _ (told e _ b base f) (sym i ∙ v)
+
+    enumeration-listed : {m s : Measure} → w ≡ Some m → (s ≡ enumeration_measure_of n k b m) × (n < 4294967296)
+        → Some s ≡ measure_of e (from_entry (type_at levels table pool) table pool row place (Some (Enumeration n k)))
+    unfolding from_entry
+    enumeration-listed {m = m} i j = rw j.0 (enumeration-at e table pool n k b m j.1 _ (told e _ b base f) (sym i ∙ v))
+
 -- ---- a type
 
 module _ (e : ℕ) (table pool : List ℕ) (row place levels : ℕ) where
@@ -197,10 +219,10 @@ module _ (e : ℕ) (table pool : List ℕ) (row place levels : ℕ) where
     type_unknown h = rw (type_as h)
 
     module _ {x : Entry} (is : o ≡ Some x) where
-      pub type-leaf : {k n l code : ℕ} {m : Measure} → x ≡ Leaf k n l code → (m ≡ leaf_measure_of table row place k n l) × ((n < 4294967296) × (get_or table (row * 16 + 13) 0 < 4294967296))
+      pub type-leaf : {k n l code : ℕ} {m : Measure} {words : List ℕ} → x ≡ Leaf k n l code → IsRow table row words → ((t : List ℕ) → IsRow t row words → m ≡ leaf_measure_of t row place k n l) → (n < 4294967296) × (get_or words 13 0 < 4294967296)
           → Some m ≡ measure_of e (type_at levels table pool row place)
       unfolding from_entry leaf_measure_of
-      type-leaf h f = rw (type_as (is ∙ ap Some h), f.0, add-one row) (sym (leaf-is e table pool row place q is h f.1.0 f.1.1))
+      type-leaf h s f j = rw (type_as (is ∙ ap Some h), f table s, add-one row) (sym (leaf-is e table pool row place q is h j.0 (rw (same-word s 13 refl) at j.1)))
 
       module _ {n k : ℕ} {z : Option Measure} (h : x ≡ Compound n k) (f : z ≡ measure_in e n (members_at (type_at (levels - 1) table pool) table pool k (row + 1) place)) where
         members-there : z ≡ measure_in e n (members_at (type_at (levels - 1) table pool) table pool k (suc row) place)
@@ -214,12 +236,20 @@ module _ (e : ℕ) (table pool : List ℕ) (row place levels : ℕ) where
         unfolding from_entry
         type-compound {m = m} g i = rw (type_as (is ∙ ap Some h), i.0) (compound-at e n k m _ i.1 (counted (type_at (levels - 1) table pool) table pool k (suc row) place) (sym g ∙ members-there))
 
-      pub type-enumeration : {n k : ℕ} {z : Option Measure} → x ≡ Enumeration n k → z ≡ measure_of e (from_entry (type_at (levels - 1) table pool) table pool row place (Some (Enumeration n k))) → z ≡ measure_of e (type_at levels table pool row place)
-      type-enumeration h f = rw (type_as (is ∙ ap Some h)) f
-
       module _ {y : Option Measure} (g : y ≡ measure_of e (type_at (levels - 1) table pool (row + 1) place)) where
         below : y ≡ measure_of e (type_at (levels - 1) table pool (suc row) place)
         below = rw (add-one row) at g
+
+        module _ {n k : ℕ} (h : x ≡ Enumeration n k) where
+          pub type-unbased : y ≡ None → None ≡ measure_of e (type_at levels table pool row place)
+          type-unbased f = rw (type_as (is ∙ ap Some h)) (enumeration_unbased e table pool row place (levels - 1) n k g f)
+
+          module _ {b : Measure} {w : Option Measure} (f : y ≡ Some b) (v : w ≡ enum_measure_of e b.size table pool k b.row b.place) where
+            pub type-unlisted : w ≡ None → None ≡ measure_of e (type_at levels table pool row place)
+            type-unlisted i = rw (type_as (is ∙ ap Some h)) (enumeration_unlisted e table pool row place (levels - 1) n k g f v i)
+
+            pub type-listed : {m s : Measure} → w ≡ Some m → (s ≡ enumeration_measure_of n k b m) × (n < 4294967296) → Some s ≡ measure_of e (type_at levels table pool row place)
+            type-listed i j = rw (type_as (is ∙ ap Some h)) (enumeration-listed e table pool row place (levels - 1) n k g f v i j)
 
         pub type-variable_length : {i a c : ℕ} {b s : Measure} → x ≡ VariableLength i a c → y ≡ Some b → s ≡ variable_measure_of i a c b → Some s ≡ measure_of e (type_at levels table pool row place)
         unfolding from_entry
@@ -242,26 +272,6 @@ module _ (e : ℕ) (table pool : List ℕ) (row place levels : ℕ) where
         unfolding from_entry
         type-array {b = b} f j =
             rw (type_as (is ∙ ap Some h), j.0) (array_at e k _ b (length-dimensions_from k _) j.1 _ (told e _ b inside f))
-
--- ---- an enumeration, with so many levels left below it
-
-module _ (e : ℕ) (table pool : List ℕ) (row place levels n k : ℕ) {y : Option Measure} (g : y ≡ measure_of e (type_at levels table pool (row + 1) place)) where
-  base : y ≡ measure_of e (type_at levels table pool (suc row) place)
-  base = rw (add-one row) at g
-
-  pub enumeration_unbased : y ≡ None → None ≡ measure_of e (from_entry (type_at levels table pool) table pool row place (Some (Enumeration n k)))
-  unfolding from_entry
-  enumeration_unbased f = lost-then e _ _ base f
-
-  module _ {b : Measure} {w : Option Measure} (f : y ≡ Some b) (v : w ≡ enum_measure_of e b.size table pool k b.row b.place) where
-    pub enumeration_unlisted : w ≡ None → None ≡ measure_of e (from_entry (type_at levels table pool) table pool row place (Some (Enumeration n k)))
-    unfolding from_entry
-    enumeration_unlisted i = enumeration-lost e table pool n k b _ (told e _ b base f) (sym i ∙ v)
-
-    pub enumeration-listed : {m s : Measure} → w ≡ Some m → (s ≡ enumeration_measure_of n k b m) × (n < 4294967296)
-        → Some s ≡ measure_of e (from_entry (type_at levels table pool) table pool row place (Some (Enumeration n k)))
-    unfolding from_entry
-    enumeration-listed {m = m} i j = rw j.0 (enumeration-at e table pool n k b m j.1 _ (told e _ b base f) (sym i ∙ v))
 
 -- ---- the members of a compound
 

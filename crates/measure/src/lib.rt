@@ -1,18 +1,18 @@
 // What a message of the type in a table would be: whether it can be stored, whether an edition carries it, and how long it is.
 #![tactic(auto)]
 
-ghost use Rattle.std.specs.Prelude.{Some, ◌≡◌, true, ◌&&◌, ◌+◌, ◌*◌, ◌≤◌, ◌<◌, length, take, drop, get_or};
+ghost use Rattle.std.specs.Prelude.{◌≡◌, ℕ, List, true, ◌&&◌, ◌+◌, ◌*◌, ◌≤◌, ◌<◌, length, take, drop, get_or};
 ghost use Rattle.format.specs.Bytes.{dimensions_from};
 ghost use Rattle.format.specs.Message.{storable_variable};
 ghost use Rattle.format.specs.Table.{all_below, type_at, members_at};
-ghost use Rattle.rows.specs.Entries.{from_entry};
-ghost use Rattle.rows.specs.declared.Entry.TheVariants.{Enumeration};
+ghost use Rattle.rows.specs.Columns.{IsRow};
 ghost use Rattle.measure.specs.Measure.{measure_of, measure_in, enum_measure_of, parts_fit_of, leaf_storable_of, leaf_length_of, most_length, offset_fits_of, name_length_of_lem, array_head_of, member_head_of, valid_at, with_enum_name_of, leaf_measure_of, with_member_of, compound_measure_of, enumeration_measure_of, variable_measure_of, array_measure_of};
 
 use names::valid_name;
-use primitives::{name_padding, offset_bytes_for_size, padding_to_8, skipped_bytes};
-use rows::{Entry, Member, entry_at, enum_member_at, member_at};
-use table::{capped, scaled};
+use primitives::{
+    capped, name_padding, offset_bytes_for_size, padding_to_8, scaled, skipped_bytes,
+};
+use rows::{Entry, EnumPlace, Member, entry_at, enum_member_at, member_at};
 
 // The next row and pool place, the size, whether the type can be stored and the edition carries it, and the message's length, which stops at
 // 4,294,967,296.
@@ -43,31 +43,27 @@ fn add_lengths(a: u64, b: u64) -> u64
 
 // Whether place and size of exponent and mantissa fit a byte each.
 #[tactic(auto, unfolding(crate::specs::Measure::parts_fit_of))]
-fn parts_fit(table: &[u32], row: usize) -> bool
-    requires { row * 16 + 16 ≤ length table.now }
-    ensures { result ≡ parts_fit_of table.now row }
+fn parts_fit(words: &[u32; 16]) -> bool
+    ensures { result ≡ parts_fit_of words.now 0 }
 {
-    let at = row * 16;
-    table[at + 9] < 256 && table[at + 10] < 256 && table[at + 11] < 256 && table[at + 12] < 256
+    words[9] < 256 && words[10] < 256 && words[11] < 256 && words[12] < 256
 }
 
-// Whether the numbers of a leaf's row fit its message.
+// Whether the numbers of a leaf's row fit its message. The definitions take a table and a row: `words` is a table of one row,
+// number 0.
 #[tactic(auto, unfolding(crate::specs::Measure::leaf_storable_of))]
-fn leaf_storable(table: &[u32], row: usize, class: u32, size: u32, long: u32) -> bool
-    requires { row * 16 + 16 ≤ length table.now }
-    ensures is { result ≡ leaf_storable_of table.now row class size long }
-    ensures words { (size < 4294967296) × (get_or table.now (row * 16 + 13) 0 < 4294967296) }
+fn leaf_storable(words: &[u32; 16], class: u32, size: u32, long: u32) -> bool
+    ensures { result ≡ leaf_storable_of words.now 0 class size long }
 {
     if size == 0 {
         return false;
     }
-    let at = row * 16;
-    let order = table[at + 5] < 2;
-    let place = table[at + 7] < 65536;
-    let precision = table[at + 8] < 65536;
+    let order = words[5] < 2;
+    let place = words[7] < 65536;
+    let precision = words[8] < 65536;
     match class {
         0 | 4 => order && place && precision,
-        1 => size <= 536870911 && place && precision && parts_fit(table, row),
+        1 => size <= 536870911 && place && precision && parts_fit(words),
         2 => order && precision,
         5 => long < 256,
         _ => true,
@@ -171,30 +167,31 @@ fn with_named_member(
     ensures { result ≡ with_member_of sum (valid_at pool.now sum.place member.name) member.number (member_head_of edition sum.size member.name) inner }
 {
     let from = sum.place;
-    let valid = valid_name(pool, from, from + member.name as usize);
+    let valid = valid_name(&pool[from..from + member.name as usize]);
     let head = member_head(edition, sum.size, member.name);
     with_member(sum, valid, member.number, head, inner)
 }
 
+// A leaf whose row has these words.
 #[tactic(auto, unfolding(crate::specs::Measure::leaf_measure_of, crate::specs::Measure::most_length))]
 fn leaf_measure(
-    table: &[u32],
+    words: &[u32; 16],
     row: usize,
     place: usize,
     class: u32,
     size: u32,
     long: u32,
 ) -> Measure
-    requires { (row * 16 + 16 ≤ length table.now) × (place + long < 18446744073709551616) }
-    ensures is { result ≡ leaf_measure_of table.now row place class size long }
-    ensures words { (size < 4294967296) × (get_or table.now (row * 16 + 13) 0 < 4294967296) }
+    requires { (row < 18446744073709551615) × (place + long < 18446744073709551616) }
+    ensures is { (table : List ℕ) → IsRow table row words.now → result ≡ leaf_measure_of table row place class size long }
+    ensures below { (size < 4294967296) × (get_or words.now 13 0 < 4294967296) }
 {
     let next = place + long as usize;
     Measure {
         row: row + 1,
         place: next,
         size,
-        storable: leaf_storable(table, row, class, size, long),
+        storable: leaf_storable(words, class, size, long),
         carried: true,
         length: leaf_length(class, long).min(4294967296),
     }
@@ -205,12 +202,10 @@ fn compound_measure(size: u32, count: u32, members: Measure) -> Measure
     ensures { (result ≡ compound_measure_of size count members) × (size < 4294967296) }
 {
     Measure {
-        row: members.row,
-        place: members.place,
         size,
         storable: size > 0 && count < 65536 && members.storable,
-        carried: members.carried,
         length: add_lengths(8, members.length),
+        ..members
     }
 }
 
@@ -219,12 +214,11 @@ fn enumeration_measure(size: u32, count: u32, base: Measure, members: Measure) -
     ensures { (result ≡ enumeration_measure_of size count base members) × (size < 4294967296) }
 {
     Measure {
-        row: members.row,
-        place: members.place,
         size,
         storable: size > 0 && count < 65536 && members.storable && base.storable,
         carried: base.carried,
         length: add_lengths(8, add_lengths(base.length, members.length)),
+        ..members
     }
 }
 
@@ -233,12 +227,10 @@ fn variable_measure(string: u32, padding: u32, charset: u32, base: Measure) -> M
     ensures { result ≡ variable_measure_of string padding charset base }
 {
     Measure {
-        row: base.row,
-        place: base.place,
         size: 16,
         storable: variable_storable(string, padding, charset) && base.storable,
-        carried: base.carried,
         length: add_lengths(8, base.length),
+        ..base
     }
 }
 
@@ -250,12 +242,11 @@ fn array_measure(pool: &[u8], place: usize, rank: u32, edition: u8, base: Measur
 {
     let size = capped(scaled(pool, place, rank, base.size));
     Measure {
-        row: base.row,
-        place: base.place,
         size,
         storable: rank < 256 && size > 0 && base.storable,
         carried: edition > 1 && base.carried,
         length: add_lengths(array_head(edition, rank), base.length),
+        ..base
     }
 }
 
@@ -272,7 +263,7 @@ fn with_enum_name(
     requires { place + member.name ≤ length pool.now }
     ensures { result ≡ with_enum_name_of pool.now edition width names place member.name member.number }
 {
-    let valid = valid_name(pool, place, place + member.name as usize);
+    let valid = valid_name(&pool[place..place + member.name as usize]);
     EnumNames {
         storable: names.storable && valid && member.number == width,
         length: add_lengths(names.length, name_length(edition, member.name)),
@@ -301,37 +292,28 @@ fn measure_enum_members(
             length: 0,
         });
     }
-    let mut r = row;
-    let mut p = place;
-    let mut values: usize = 0;
+    let mut at = EnumPlace {
+        row,
+        place,
+        values: 0,
+    };
     let mut names = EnumNames {
         storable: true,
         length: 0,
     };
     for _ in 0..count {
-        let member = enum_member_at(table, pool, r, p)?;
-        let long = member.number as usize;
-        if pool.len() - values < long {
-            return None;
-        }
-        names = with_enum_name(pool, p, member, width, names, edition);
-        r += 1;
-        p += member.name as usize;
-        values += long;
+        let member = enum_member_at(table, pool, at.row, at.place)?;
+        names = with_enum_name(pool, at.place, member, width, names, edition);
+        at = at.behind(pool, member)?;
     }
-    if pool.len() < p {
-        return None;
-    }
-    if pool.len() - p < values {
-        return None;
-    }
+    let end = at.end(pool)?;
     Some(Measure {
-        row: r,
-        place: p + values,
+        row: at.row,
+        place: end,
         size: width,
         storable: names.storable,
         carried: true,
-        length: add_lengths(names.length, values as u64),
+        length: add_lengths(names.length, at.values as u64),
     })
 }
 
@@ -350,10 +332,12 @@ pub fn measure_type(
     if levels == 0 {
         return None;
     }
+    let inner = levels - 1;
     let entry = entry_at(table, pool, row, place)?;
     match entry {
         Entry::Leaf(class, size, long, _) => {
-            Some(leaf_measure(table, row, place, class, size, long))
+            let words = &table.as_chunks::<16>().0[row];
+            Some(leaf_measure(words, row, place, class, size, long))
         }
         Entry::Compound(size, count) => {
             let members = measure_members(
@@ -363,59 +347,28 @@ pub fn measure_type(
                 place,
                 count,
                 size,
-                levels - 1,
+                inner,
                 edition,
             )?;
             Some(compound_measure(size, count, members))
         }
-        Entry::Enumeration(size, count) => measure_enumeration(
-            table,
-            pool,
-            row,
-            place,
-            size,
-            count,
-            levels - 1,
-            edition,
-        ),
+        Entry::Enumeration(size, count) => {
+            let base = measure_type(table, pool, row + 1, place, inner, edition)?;
+            let members = measure_enum_members(
+                table, pool, base.row, base.place, count, edition, base.size,
+            )?;
+            Some(enumeration_measure(size, count, base, members))
+        }
         Entry::VariableLength(string, padding, charset) => {
-            let base = measure_type(table, pool, row + 1, place, levels - 1, edition)?;
+            let base = measure_type(table, pool, row + 1, place, inner, edition)?;
             Some(variable_measure(string, padding, charset, base))
         }
         Entry::Array(rank) => {
-            let base = measure_type(
-                table,
-                pool,
-                row + 1,
-                place + (rank as usize) * 4,
-                levels - 1,
-                edition,
-            )?;
+            let behind = place + (rank as usize) * 4;
+            let base = measure_type(table, pool, row + 1, behind, inner, edition)?;
             Some(array_measure(pool, place, rank, edition, base))
         }
     }
-}
-
-// An enumeration's row, with so many levels left below it.
-#[cycle(measure)]
-fn measure_enumeration(
-    table: &[u32],
-    pool: &[u8],
-    row: usize,
-    place: usize,
-    size: u32,
-    count: u32,
-    levels: usize,
-    edition: u8,
-) -> Option<Measure>
-    requires { row * 16 + 16 ≤ length table.now }
-    ensures { result ≡ measure_of edition (from_entry (type_at levels table.now pool.now) table.now pool.now row place (Some (Enumeration size count))) }
-{
-    let base = measure_type(table, pool, row + 1, place, levels, edition)?;
-    let members = measure_enum_members(
-        table, pool, base.row, base.place, count, edition, base.size,
-    )?;
-    Some(enumeration_measure(size, count, base, members))
 }
 
 // As `measure_type`, of a member: a leaf is measured here, and `measure_type` reads any other row again.
@@ -436,7 +389,8 @@ fn measure_inner(
     let entry = entry_at(table, pool, row, place)?;
     match entry {
         Entry::Leaf(class, size, long, _) => {
-            Some(leaf_measure(table, row, place, class, size, long))
+            let words = &table.as_chunks::<16>().0[row];
+            Some(leaf_measure(words, row, place, class, size, long))
         }
         _ => measure_type(table, pool, row, place, levels, edition),
     }

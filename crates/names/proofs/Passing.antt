@@ -4,12 +4,12 @@ use mathlib.Core.Path.{◌≡◌, refl, sym, ap, subst, ◌∙◌}
 use mathlib.Core.Option.{Option, none, some}
 use mathlib.Core.Logic.{◌⊎◌, inl, inr, ⊎_elim}
 use mathlib.Core.List.{List, [], ◌∷◌, ◌++◌, append_assoc, append-nil}
-use Prim.Native.Nat.{ℕ, zero, suc, ◌+◌, ◌-◌, ◌≤◌, ◌<◌}
+use Prim.Native.Nat.{ℕ, zero, suc, ◌+◌, ◌≤◌, ◌<◌}
 use native.Mathlib.Numerals.{add-one}
 use native.Mathlib.Omega.{arith}
 use borrow.Author.Tests.{le-leb}
-use lib.ListN.{length, take, drop, get_or, length-append, length-drop}
-use lib.Seq.{sets, take-suc, drop-cons, get_or-drop}
+use lib.ListN.{length, take, drop, get_or, length-append}
+use lib.Seq.{sets, take-suc, drop-cons}
 use Rattle.format.specs.Bytes.{first_nul, one_more_of}
 use Rattle.format.specs.Utf8.{Utf8State, ready, begin, step, up_to, leads, at_end, mended_from, mended, state_after, output_of}
 use Rattle.format.proofs.Lists.{sets_append}
@@ -81,60 +81,52 @@ plain st b h k =
 
 -- ---- the pool
 
--- `out` is written up to pos, or does not fit and pos is past the room
-pub record Written (before pool : List ℕ) (place room pos : ℕ) (out : List ℕ) : Type 0 where
+-- `out` is written up to pos, or does not fit and pos is past the pool's end
+pub record Written (before pool : List ℕ) (pos : ℕ) (out : List ℕ) : Type 0 where
   pub same : length pool ≡ length before
-  pub near : pos ≤ room + 1
-  pub fits : pos ≤ room → (pos ≡ place + length out) × (pool ≡ sets before place out)
-  pub past : room < pos → room < place + length out
+  pub fits : pos ≤ length before → (pos ≡ length out) × (pool ≡ sets before 0 out)
+  pub past : length before < pos → length before < length out
 
 le_or_lt : (a b : ℕ) → (a ≤ b) ⊎ (b < a)
 le_or_lt zero b = inl (omega arith)
 le_or_lt (suc a) zero = inr (omega arith)
 le_or_lt (suc a) (suc b) = ⊎_elim (λ (h : a ≤ b). inl (omega arith)) (λ (h : b < a). inr (omega arith)) (le_or_lt a b)
 
-module _ (before pool pool' : List ℕ) (place room pos : ℕ) (out x : List ℕ) (r : ℕ) (w : Written before pool place room pos out) (s : Stored pool pool' pos room x r) where
+module _ (before pool pool' : List ℕ) (pos : ℕ) (out x : List ℕ) (r : ℕ) (w : Written before pool pos out) (s : Stored pool pool' pos x r) where
   -- bytes that fit go behind those that did
-  both_fit : pos + length x ≤ room → (r ≡ place + length (out ++ x)) × (pool' ≡ sets before place (out ++ x))
+  both_fit : pos + length x ≤ length before → (r ≡ length (out ++ x)) × (pool' ≡ sets before 0 (out ++ x))
   both_fit h =
       let f = w.fits (omega arith) in
-      let g = s.fits h in (
+      let g = s.fits (omega (arith, w.same)) in
+      let z : pos ≡ 0 + length out = omega (arith, f.0) in (
         omega (arith, f.0, g.0, length-append out x),
-        g.1 ∙ ap (λ (l : List ℕ). sets l pos x) f.1 ∙ ap (λ (k : ℕ). sets (sets before place out) k x) f.0 ∙ sym (sets_append out x before place),
+        g.1 ∙ ap (λ (l : List ℕ). sets l pos x) f.1 ∙ ap (λ (k : ℕ). sets (sets before 0 out) k x) z ∙ sym (sets_append out x before 0),
       )
 
-  too_long : room < pos + length x → room < place + length (out ++ x)
+  too_long : length before < pos + length x → length before < length (out ++ x)
   too_long h =
       ⊎_elim
-      (λ (k : pos ≤ room). omega (arith, (w.fits k).0, length-append out x))
-      (λ (k : room < pos). omega (arith, w.past k, length-append out x))
-      (le_or_lt pos room)
+      (λ (k : pos ≤ length before). omega (arith, (w.fits k).0, length-append out x))
+      (λ (k : length before < pos). omega (arith, w.past k, length-append out x))
+      (le_or_lt pos (length before))
 
-  near-after : r ≤ room + 1
-  near-after =
-      ⊎_elim
-      (λ (h : pos + length x ≤ room). omega (arith, (s.fits h).0))
-      (λ (h : room < pos + length x). omega (arith, s.past h))
-      (le_or_lt (pos + length x) room)
-
-  fits_after : r ≤ room → pos + length x ≤ room
+  fits_after : r ≤ length before → pos + length x ≤ length before
   fits_after k =
       ⊎_elim
-      (λ (h : pos + length x ≤ room). h)
-      (λ (h : room < pos + length x). absurd (omega (arith, s.past h)))
-      (le_or_lt (pos + length x) room)
+      (λ (h : pos + length x ≤ length before). h)
+      (λ (h : length before < pos + length x). absurd (omega (arith, w.same, s.past (omega (arith, w.same)))))
+      (le_or_lt (pos + length x) (length before))
 
-  past_after : room < r → room < pos + length x
+  past_after : length before < r → length before < pos + length x
   past_after k =
       ⊎_elim
-      (λ (h : pos + length x ≤ room). absurd (omega (arith, (s.fits h).0)))
-      (λ (h : room < pos + length x). h)
-      (le_or_lt (pos + length x) room)
+      (λ (h : pos + length x ≤ length before). absurd (omega (arith, (s.fits (omega (arith, w.same))).0)))
+      (λ (h : length before < pos + length x). h)
+      (le_or_lt (pos + length x) (length before))
 
-  written-more : Written before pool' place room r (out ++ x)
+  written-more : Written before pool' r (out ++ x)
   written-more = record {
     same = s.same ∙ w.same;
-    near = near-after;
     fits = λ k. both_fit (fits_after k);
     past = λ k. too_long (past_after k);
   }
@@ -142,119 +134,104 @@ module _ (before pool pool' : List ℕ) (place room pos : ℕ) (out x : List ℕ
 -- ---- the loop
 
 -- before the byte at i
-pub record Passing (d : List ℕ) (at : ℕ) (before pool : List ℕ) (place room i pos : ℕ) (st : Carry) : Type 0 where
-  pub start : at ≤ i
-  pub nul : first_nul (drop at d) ≡ shift (i - at) (first_nul (drop i d))
-  pub state : state_of st ≡ state_after ready (take (i - at) (drop at d))
+pub record Passing (d before pool : List ℕ) (i pos : ℕ) (st : Carry) : Type 0 where
+  pub nul : first_nul d ≡ shift i (first_nul (drop i d))
+  pub state : state_of st ≡ state_after ready (take i d)
   pub fits : Fits st
-  pub written : Written before pool place room pos (output_of ready (take (i - at) (drop at d)))
+  pub written : Written before pool pos (output_of ready (take i d))
 
-pub begun : (d : List ℕ) (at : ℕ) (p : List ℕ) (place room : ℕ) (st : Carry) → place ≤ room → st.count ≡ 0 → Passing d at p p place room at place st
+pub begun : (d p : List ℕ) (st : Carry) → st.count ≡ 0 → Passing d p p 0 0 st
 unfolding state_of carrying state_after output_of
-begun d at p place room st h e =
-    let z : at - at ≡ 0 = omega arith in
+begun d p st e =
     record {
-      start = omega arith;
-      nul = shift_none (first_nul (drop at d)) (at - at) z;
-      state = rw (z, e);
+      nul = shift_none (first_nul d) 0 refl;
+      state = rw e;
       fits = record { few = omega arith; waits = λ k. absurd (omega arith) };
-      written = rw z (record { same = refl; near = omega arith; fits = λ k. (omega arith, refl); past = λ k. absurd (omega arith) });
+      written = record { same = refl; fits = λ k. (refl, refl); past = λ k. absurd (omega arith) };
     }
 
-module _ (d : List ℕ) (at : ℕ) (before pool pool' : List ℕ) (place room i pos : ℕ) (st : Carry) (was : Passing d at before pool place room i pos st) where
+module _ (d before pool pool' : List ℕ) (i pos : ℕ) (st : Carry) (was : Passing d before pool i pos st) where
   module _ (h : i < length d) where
-    read_more : take (i + 1 - at) (drop at d) ≡ take (i - at) (drop at d) ++ (get_or d i 0 ∷ [])
-    read_more =
-        let l : i - at < length (drop at d) = omega (arith, length-drop at d, was.start) in
-        let n : i + 1 - at ≡ suc (i - at) = omega (arith, was.start) in
-        let m : at + (i - at) ≡ i = omega (arith, was.start) in
-        ap (λ (k : ℕ). take k (drop at d)) n
-        ∙ take-suc (drop at d) (i - at) 0 l
-        ∙ ap (λ (b : ℕ). take (i - at) (drop at d) ++ (b ∷ [])) (get_or-drop at d (i - at) 0 ∙ ap (λ (k : ℕ). get_or d k 0) m)
+    read_more : take (i + 1) d ≡ take i d ++ (get_or d i 0 ∷ [])
+    read_more = ap (λ (k : ℕ). take k d) (add-one i) ∙ take-suc d i 0 h
 
-    nul-next : (get_or d i 0 ≡ 0 → ⊥) → first_nul (drop at d) ≡ shift (i + 1 - at) (first_nul (drop (i + 1) d))
+    nul-next : (get_or d i 0 ≡ 0 → ⊥) → first_nul d ≡ shift (i + 1) (first_nul (drop (i + 1) d))
     nul-next z =
-        let n : suc (i - at) ≡ i + 1 - at = omega (arith, was.start) in
         was.nul
-        ∙ ap (λ (l : List ℕ). shift (i - at) (first_nul l)) (drop-cons d i 0 h)
-        ∙ ap (shift (i - at)) (nul-more (get_or d i 0) (drop (suc i) d) z)
-        ∙ shift-more (i - at) (first_nul (drop (suc i) d))
-        ∙ ap (λ (k : ℕ). shift k (first_nul (drop (suc i) d))) n
-        ∙ ap (λ (k : ℕ). shift (i + 1 - at) (first_nul (drop k d))) (sym (add-one i))
+        ∙ ap (λ (l : List ℕ). shift i (first_nul l)) (drop-cons d i 0 h)
+        ∙ ap (shift i) (nul-more (get_or d i 0) (drop (suc i) d) z)
+        ∙ shift-more i (first_nul (drop (suc i) d))
+        ∙ ap (λ (k : ℕ). shift k (first_nul (drop k d))) (sym (add-one i))
 
-    passed : (z : Carry) (x : List ℕ) (r : ℕ) → (get_or d i 0 ≡ 0 → ⊥) → x ≡ (step (state_of st) (get_or d i 0)).out → state_of z ≡ (step (state_of st) (get_or d i 0)).next → Fits z → Stored pool pool' pos room x r → Passing d at before pool' place room (i + 1) r z
+    passed : (z : Carry) (x : List ℕ) (r : ℕ) → (get_or d i 0 ≡ 0 → ⊥) → x ≡ (step (state_of st) (get_or d i 0)).out → state_of z ≡ (step (state_of st) (get_or d i 0)).next → Fits z → Stored pool pool' pos x r → Passing d before pool' (i + 1) r z
     passed z x r nz e f ok s =
         let b = get_or d i 0 in
-        let o = output_of ready (take (i - at) (drop at d)) in
+        let o = output_of ready (take i d) in
         record {
-          start = omega (arith, was.start);
           nul = nul-next nz;
-          state = f ∙ ap (λ (t : Utf8State). (step t b).next) was.state ∙ sym (after_snoc ready (take (i - at) (drop at d)) b) ∙ ap (state_after ready) (sym read_more);
+          state = f ∙ ap (λ (t : Utf8State). (step t b).next) was.state ∙ sym (after_snoc ready (take i d) b) ∙ ap (state_after ready) (sym read_more);
           fits = ok;
           written =
-              let q : output_of ready (take (i + 1 - at) (drop at d)) ≡ o ++ x = ap (output_of ready) read_more ∙ output_snoc ready (take (i - at) (drop at d)) b ∙ ap (λ (t : Utf8State). o ++ (step t b).out) (sym was.state) ∙ ap (λ (l : List ℕ). o ++ l) (sym e) in
-              rw q (written-more before pool pool' place room pos o x r was.written s);
+              let q : output_of ready (take (i + 1) d) ≡ o ++ x = ap (output_of ready) read_more ∙ output_snoc ready (take i d) b ∙ ap (λ (t : Utf8State). o ++ (step t b).out) (sym was.state) ∙ ap (λ (l : List ℕ). o ++ l) (sym e) in
+              rw q (written-more before pool pool' pos o x r was.written s);
         }
 
-    pub passed-plain : (r : ℕ) → (get_or d i 0 ≡ 0 → ⊥) → get_or d i 0 < 128 → st.count ≡ 0 → Stored pool pool' pos room (get_or d i 0 ∷ []) r → Passing d at before pool' place room (i + 1) r st
+    pub passed-plain : (r : ℕ) → (get_or d i 0 ≡ 0 → ⊥) → get_or d i 0 < 128 → st.count ≡ 0 → Stored pool pool' pos (get_or d i 0 ∷ []) r → Passing d before pool' (i + 1) r st
     passed-plain r nz l e s =
         let q = plain st (get_or d i 0) e l in
         passed st (get_or d i 0 ∷ []) r nz (sym q.0) q.1 was.fits s
 
-    pub passed-step : (y : Stepped) (r : ℕ) → (get_or d i 0 ≡ 0 → ⊥) → Steps y (step (state_of st) (get_or d i 0)) → Stored pool pool' pos room (take y.len y.out) r → Passing d at before pool' place room (i + 1) r y.next
+    pub passed-step : (y : Stepped) (r : ℕ) → (get_or d i 0 ≡ 0 → ⊥) → Steps y (step (state_of st) (get_or d i 0)) → Stored pool pool' pos (take y.len y.out) r → Passing d before pool' (i + 1) r y.next
     passed-step y r nz t s = passed y.next (take y.len y.out) r nz t.out t.next t.fits s
 
     -- the NUL
-    module _ (nz : get_or d i 0 ≡ 0) (r : ℕ) (s : Stored pool pool' pos room (at_end (state_of st)) r) where
-      found : first_nul (drop at d) ≡ some (i - at)
+    module _ (nz : get_or d i 0 ≡ 0) (r : ℕ) (s : Stored pool pool' pos (at_end (state_of st)) r) where
+      found : first_nul d ≡ some i
       found =
           was.nul
-          ∙ ap (λ (l : List ℕ). shift (i - at) (first_nul l)) (drop-cons d i 0 h)
-          ∙ ap (shift (i - at)) (nul-zero (get_or d i 0) (drop (suc i) d) nz)
+          ∙ ap (λ (l : List ℕ). shift i (first_nul l)) (drop-cons d i 0 h)
+          ∙ ap (shift i) (nul-zero (get_or d i 0) (drop (suc i) d) nz)
           ∙ ap some (omega arith)
 
-      whole-name : mended (take (i - at) (drop at d)) ≡ output_of ready (take (i - at) (drop at d)) ++ at_end (state_of st)
-      whole-name = mended-is (take (i - at) (drop at d)) ∙ ap (λ (t : Utf8State). output_of ready (take (i - at) (drop at d)) ++ at_end t) (sym was.state)
+      whole-name : mended (take i d) ≡ output_of ready (take i d) ++ at_end (state_of st)
+      whole-name = mended-is (take i d) ∙ ap (λ (t : Utf8State). output_of ready (take i d) ++ at_end t) (sym was.state)
 
-      at_last : Written before pool' place room r (mended (take (i - at) (drop at d)))
-      at_last = rw whole-name (written-more before pool pool' place room pos (output_of ready (take (i - at) (drop at d))) (at_end (state_of st)) r was.written s)
+      at_last : Written before pool' r (mended (take i d))
+      at_last = rw whole-name (written-more before pool pool' pos (output_of ready (take i d)) (at_end (state_of st)) r was.written s)
 
-      pub ends-full : place ≤ room → room < r → Reads d at before pool' place room (Err Full)
-      ends-full l k = record {
+      pub ends-full : length pool' < r → Reads d before pool' (Err Full)
+      ends-full k = record {
         same = at_last.same;
         whole = λ x e. absurd (cc);
-        full = λ e. record { n = i - at; found = found; long = omega (arith, at_last.past k) };
+        full = λ e. record { n = i; found = found; long = omega (arith, at_last.past (omega (arith, at_last.same))) };
         missing = λ e. absurd (cc);
       }
 
-      is_whole : r ≤ room → WholeName d at before pool' place room (i - at) (r - place)
+      is_whole : r ≤ length pool' → WholeName d 0 before pool' 0 (length before) i r
       is_whole k =
-          let f = at_last.fits (omega arith) in
+          let f = at_last.fits (omega (arith, at_last.same)) in
           record {
             found = found;
-            inside = omega (arith, was.start);
-            long = omega (arith, f.0);
-            fits = omega (arith, f.0);
+            inside = omega arith;
+            long = f.0;
+            fits = omega (arith, at_last.same);
             pool = f.1;
           }
 
-      pub ends-whole : r ≤ room → Reads d at before pool' place room (Ok (record { length = i - at; stored = r - place }))
+      pub ends-whole : r ≤ length pool' → Reads d before pool' (Ok (record { length = i; stored = r }))
       ends-whole k = record {
         same = at_last.same;
         whole = λ x e.
-            let q : record { length = i - at; stored = r - place } ≡ x = cc in
-            subst (λ (y : Name). WholeName d at before pool' place room y.length y.stored) q (is_whole k);
+            let q : record { length = i; stored = r } ≡ x = cc in
+            subst (λ (y : Name). WholeName d 0 before pool' 0 (length before) y.length y.stored) q (is_whole k);
         full = λ e. absurd (cc);
         missing = λ e. absurd (cc);
       }
 
-      pub ends-behind : r ≤ room → place ≤ r
-      ends-behind k = omega (arith, (at_last.fits (omega arith)).0)
-
-  pub ends-missing : length d ≤ i → Reads d at before pool place room (Err Missing)
+  pub ends-missing : length d ≤ i → Reads d before pool (Err Missing)
   ends-missing h = record {
     same = was.written.same;
     whole = λ x e. absurd (cc);
     full = λ e. absurd (cc);
-    missing = λ e. was.nul ∙ ap (shift (i - at)) (nul_end d i (omega arith));
+    missing = λ e. was.nul ∙ ap (shift i) (nul_end d i (omega arith));
   }

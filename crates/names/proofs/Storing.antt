@@ -1,35 +1,25 @@
 -- Stores in the pool.
 use mathlib.Core.Path.{◌≡◌, refl, ap, ◌∙◌}
-use mathlib.Core.List.{List, [], ◌∷◌}
-use Prim.Native.Nat.{ℕ, zero, suc, ◌+◌, ◌≤◌, ◌<◌}
+use mathlib.Core.List.{List, [], ◌∷◌, append_assoc}
+use Prim.Native.Nat.{ℕ, zero, suc, ◌+◌, ◌≤◌}
 use native.Mathlib.Omega.{arith}
-use lib.ListN.{length, take}
-use lib.Seq.{sets, length-sets, length-take-le}
+use borrow.Rule.Slice.PartMut.{put_mid}
+use lib.ListN.{length}
+use lib.Seq.{sets, length-sets, sets-eq, drop-drop}
 use Rattle.format.specs.Utf8.{replacement, at_end}
 use Rattle.names.specs.Names.{Stored}
 use Rattle.names.specs.Pass.{carrying, state_of}
 use Rattle.names.specs.declared.Carry.{Carry}
 
 -- the pool p, then q
-module _ (p q : List ℕ) (pos room : ℕ) where
-  pub one-past : (b : ℕ) → room ≤ pos → Stored p p pos room (b ∷ []) (room + 1)
-  one-past b h = record { same = refl; fits = λ k. absurd (omega arith); past = λ k. refl }
+module _ (p q : List ℕ) (pos : ℕ) where
+  module _ (x : List ℕ) (r : ℕ) where
+    all_in : pos + length x ≤ length p → r ≡ pos + length x → q ≡ sets p pos x → Stored p q pos x r
+    all_in h k e = record { same = ap length e ∙ length-sets p pos x; fits = λ g. (k, e); past = λ g. absurd (omega arith) }
 
-  module _ (bytes : List ℕ) (n : ℕ) (short : n ≤ 6) (six : length bytes ≡ 6) where
-    long : length (take n bytes) ≡ n
-    long = length-take-le n bytes (omega arith)
-
-    pub all_past : room < pos + n → Stored p p pos room (take n bytes) (room + 1)
-    all_past h = record { same = refl; fits = λ k. absurd (omega (arith, long)); past = λ k. refl }
-
-    pub all_in : (i : ℕ) → q ≡ sets p pos (take i bytes) → i ≤ n → n ≤ i → pos + n ≤ room → Stored p q pos room (take n bytes) (pos + n)
-    all_in i e h k f =
-        let s : i ≡ n = omega arith in
-        record {
-          same = ap length e ∙ length-sets p pos (take i bytes);
-          fits = λ g. (omega (arith, long), e ∙ ap (λ (j : ℕ). sets p pos (take j bytes)) s);
-          past = λ g. absurd (omega (arith, long));
-        }
+    -- the part from pos on is copied
+    pub all_copied : (n : ℕ) (y : List ℕ) → y ≡ x → n ≡ length x → pos + length x ≤ length p → r ≡ pos + length x → q ≡ put_mid pos n p y → Stored p q pos x r
+    all_copied n y e m h k w = all_in h k (w ∙ rw (e, m, sets-eq x p pos h, append_assoc, drop-drop (length x) pos p) refl)
 
   module _ (st : Carry) where
     at_end_none : st.count ≡ 0 → at_end (state_of st) ≡ []
@@ -41,9 +31,9 @@ module _ (p q : List ℕ) (pos room : ℕ) where
     at_end_some zero h = absurd (h refl)
     at_end_some (suc n) h = refl
 
-    pub closed_none : st.count ≡ 0 → pos ≤ room + 1 → Stored p p pos room (at_end (state_of st)) pos
-    closed_none h k = rw (at_end_none h) (record { same = refl; fits = λ g. (omega arith, refl); past = λ g. omega arith })
+    pub closed_none : st.count ≡ 0 → Stored p p pos (at_end (state_of st)) pos
+    closed_none h = rw (at_end_none h) (record { same = refl; fits = λ g. (omega arith, refl); past = λ g. omega arith })
 
-    pub closed_some : (r : ℕ) → (st.count ≡ 0 → ⊥) → Stored p q pos room (take 3 (0xef ∷ 0xbf ∷ 0xbd ∷ 0 ∷ 0 ∷ 0 ∷ [])) r → Stored p q pos room (at_end (state_of st)) r
+    pub closed_some : (r : ℕ) → (st.count ≡ 0 → ⊥) → Stored p q pos (0xef ∷ 0xbf ∷ 0xbd ∷ []) r → Stored p q pos (at_end (state_of st)) r
     unfolding state_of
     closed_some r h s = rw (at_end_some st.count h) (unfold replacement in s)

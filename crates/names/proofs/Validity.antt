@@ -5,13 +5,14 @@ use mathlib.Core.List.{List, [], ◌∷◌, ◌++◌}
 use Prim.Native.Nat.{ℕ, zero, suc, ◌+◌, ◌-◌, ◌≤◌, ◌<◌}
 use native.Mathlib.Numerals.{add-one}
 use native.Mathlib.Omega.{arith}
-use borrow.Author.Tests.{le-leb, lt-leb, lt-ltb, ne_eqb}
-use lib.Dec.{leb, eqb}
+use borrow.Author.Tests.{le-leb, lt-ltb}
+use lib.Dec.{leb}
 use lib.ListN.{length, take, drop, get_or}
 use lib.Seq.{drop-cons}
+use Rattle.std.proofs.lemmas.List.{drop_all, take_all, length-drop}
 use Rattle.format.specs.Message.{no_nul}
-use Rattle.format.specs.Utf8.{single, ill, lead, up_to, leads, Utf8State, ready, waiting, begin, broken, going, step, is_ready, well_formed_from, well_formed}
-use Rattle.names.specs.Pass.{lead_of, Sized}
+use Rattle.format.specs.Utf8.{Lead, single, ill, lead, up_to, leads, Utf8State, ready, waiting, begin, broken, going, step, is_ready, well_formed_from, well_formed}
+use Rattle.names.specs.Pass.{lead_of, Sized, less_one, follow_of}
 use Rattle.names.specs.declared.Start.{Start}
 use Rattle.names.specs.declared.Start.TheVariants.{Single, Ill, More}
 
@@ -19,10 +20,6 @@ use Rattle.names.specs.declared.Start.TheVariants.{Single, Ill, More}
 unfoldable pub awaiting : (more low high : ℕ) → Utf8State
 awaiting zero lo hi = ready
 awaiting (suc n) lo hi = waiting [] (suc n) lo hi
-
--- bytes i up to k
-abbrev pub part : (pool : List ℕ) (i k : ℕ) → List ℕ
-part pool i k = take (k - i) (drop i pool)
 
 unfoldable pub valid_from : (more low high : ℕ) → List ℕ → Bool
 valid_from n lo hi s = no_nul s && well_formed_from (awaiting n lo hi) s
@@ -87,64 +84,77 @@ module _ (b : ℕ) (s : List ℕ) where
     inside_byte zero lo hi e = other_byte (suc zero) lo hi (unfold awaiting well_formed_from step going in rw e)
     inside_byte (suc n) lo hi e = other_byte (suc (suc n)) lo hi (unfold awaiting well_formed_from step going in rw e (awaiting_any (b ∷ []) n 0x80 0xbf s))
 
--- ---- the loop: z is the answer
+-- ---- the loop: what is to follow, and the rest of the name
 
-pub valid-start : (s : List ℕ) → (no_nul s && well_formed s) ≡ valid_from 0 0 0 s
-unfolding valid_from well_formed awaiting
-valid-start s = refl
+unfoldable pub valid_of : Lead → List ℕ → Bool
+valid_of single s = valid_from 0 0 0 s
+valid_of ill s = false
+valid_of (lead n lo hi) s = valid_from n lo hi s
 
-module _ (pool : List ℕ) (i to n lo hi : ℕ) {z : Bool} (inv : z ≡ valid_from n lo hi (part pool i to)) where
-  pub valid_end : i ≤ to → to ≤ i → eqb n 0 ≡ z
-  valid_end h k =
-      let e : to - i ≡ 0 = omega arith in
-      sym (inv ∙ rw e (go n))
-    where
-      go : (m : ℕ) → valid_from m lo hi [] ≡ eqb m 0
-      go zero = unfold valid_from no_nul well_formed_from awaiting is_ready in refl
-      go (suc m) = unfold valid_from no_nul well_formed_from awaiting is_ready in sym (ne_eqb (suc m) 0 (omega arith))
+-- ASCII bytes but NUL do not decide
+pub plain-start : (s : List ℕ) (k : ℕ) → k ≤ length s → ((i : ℕ) → i < k → (0 < get_or s i 0) × (get_or s i 0 < 128)) → (no_nul s && well_formed s) ≡ valid_of (lead_of Single) (take (length s - k) (drop k s))
+unfolding lead_of valid_of
+plain-start s k h e = rw (take_all (length s - k) (drop k s) (omega (arith, length-drop k s))) (unfold valid_from well_formed awaiting in go s k h e)
+  where
+    go : (s : List ℕ) (k : ℕ) → k ≤ length s → ((i : ℕ) → i < k → (0 < get_or s i 0) × (get_or s i 0 < 128)) → valid_from 0 0 0 s ≡ valid_from 0 0 0 (drop k s)
+    go s zero h e = refl
+    go [] (suc k) h e = absurd (omega arith)
+    go (b ∷ s) (suc k) h e =
+        let f : (0 < b) × (b < 128) = e 0 (omega arith) in
+        single_byte b s (λ z. omega (arith, f.0)) 0 0 0 refl (unfold up_to leads in rw (le-leb b 0x7f (omega (arith, f.1)))) ∙ go s k (omega arith) (λ i g. e (suc i) (omega arith))
 
-  module _ (h : i < to) (l : to ≤ length pool) where
-    part_cons : part pool i to ≡ get_or pool i 0 ∷ part pool (i + 1) to
-    part_cons =
-        let e : to - i ≡ suc (to - (i + 1)) = omega arith in
-        rw (e, drop-cons pool i 0 (omega arith), add-one i)
+module _ (b : ℕ) (s : List ℕ) (other : b ≡ 0 → ⊥) where
+  follows-single : (r : Start) → lead_of r ≡ up_to leads b → Sized r → valid_of single (b ∷ s) ≡ valid_of (lead_of r) s
+  unfolding lead_of Sized valid_of
+  follows-single Single e z = single_byte b s other 0 0 0 refl (sym e)
+  follows-single Ill e z = ill_byte b s other 0 0 0 refl (sym e)
+  follows-single (More zero lo hi) e z = absurd (omega (arith, z.0))
+  follows-single (More (suc m) lo hi) e z = lead_byte b s other 0 0 0 m lo hi refl (sym e)
 
-    next-is : z ≡ valid_from n lo hi (get_or pool i 0 ∷ part pool (i + 1) to)
-    next-is = inv ∙ ap (valid_from n lo hi) part_cons
+  less-valid : (n : ℕ) → valid_from n 0x80 0xbf s ≡ valid_of (less_one (suc n)) s
+  unfolding less_one valid_of valid_from awaiting
+  less-valid zero = refl
+  less-valid (suc n) = refl
 
-    pub valid-nul : get_or pool i 0 ≡ 0 → false ≡ z
-    valid-nul e = sym (next-is ∙ nul_byte _ _ n lo hi e)
+  follows_more : (n lo hi : ℕ) (t : Bool) → (leb lo b && leb b hi) ≡ t → valid_from (suc n) lo hi (b ∷ s) ≡ valid_of (cond t (less_one (suc n)) ill) s
+  follows_more n lo hi true e = inside_byte b s other n lo hi e ∙ less-valid n
+  follows_more n lo hi false e = outside_byte b s other n lo hi e ∙ unfold valid_of in refl
 
-    module _ (other : get_or pool i 0 ≡ 0 → ⊥) where
-      module _ (none : n ≡ 0) where
-        pub valid-plain : get_or pool i 0 < 128 → z ≡ valid_from n lo hi (part pool (i + 1) to)
-        valid-plain k = next-is ∙ single_byte _ _ other n lo hi none (unfold up_to leads in rw (le-leb (get_or pool i 0) 0x7f (omega arith)))
+  follows : (x r : Start) → Sized x → lead_of r ≡ follow_of (lead_of x) b → Sized r → valid_of (lead_of x) (b ∷ s) ≡ valid_of (lead_of r) s
+  unfolding lead_of Sized follow_of
+  follows Single r z e y = follows-single r e y
+  follows Ill r z e y = unfold valid_of in ap (λ (l : Lead). valid_of l s) (sym e)
+  follows (More zero lo hi) r z e y = absurd (omega (arith, z.0))
+  follows (More (suc n) lo hi) r z e y = unfold valid_of in (follows_more n lo hi (leb lo b && leb b hi) refl ∙ ap (λ (l : Lead). valid_of l s) (sym e))
 
-        module _ {x : Start} (is : (lead_of x ≡ up_to leads (get_or pool i 0)) × Sized x) where
-          pub valid_single : x ≡ Single → z ≡ valid_from n lo hi (part pool (i + 1) to)
-          unfolding lead_of
-          valid_single e = next-is ∙ single_byte _ _ other n lo hi none (sym is.0 ∙ ap lead_of e)
+nul_of : (b : ℕ) (s : List ℕ) → b ≡ 0 → (x : Start) → valid_of (lead_of x) (b ∷ s) ≡ false
+unfolding lead_of valid_of
+nul_of b s e Single = nul_byte b s 0 0 0 e
+nul_of b s e Ill = refl
+nul_of b s e (More n lo hi) = nul_byte b s n lo hi e
 
-          pub valid_ill : x ≡ Ill → false ≡ z
-          unfolding lead_of
-          valid_ill e = sym (next-is ∙ ill_byte _ _ other n lo hi none (sym is.0 ∙ ap lead_of e))
+none_of : (x : Start) → (x ≡ Single → ⊥) → Sized x → valid_of (lead_of x) [] ≡ false
+unfolding lead_of valid_of valid_from no_nul well_formed_from awaiting is_ready Sized
+none_of Single n y = absurd (n refl)
+none_of Ill n y = refl
+none_of (More zero lo hi) n y = absurd (omega (arith, y.0))
+none_of (More (suc m) lo hi) n y = refl
 
-          pub valid-more : {m lo' hi' : ℕ} → x ≡ More m lo' hi' → z ≡ valid_from m lo' hi' (part pool (i + 1) to)
-          unfolding lead_of Sized
-          valid-more {m} {lo'} {hi'} e =
-              let k : (0 < m) × (m ≤ 3) = rw e at is.1 in
-              let q : m ≡ suc (m - 1) = omega arith in
-              next-is ∙ rw q (lead_byte _ _ other n lo hi (m - 1) lo' hi' none (sym is.0 ∙ ap lead_of e ∙ ap (λ (j : ℕ). lead j lo' hi') q))
+module _ (name : List ℕ) (i : ℕ) (x : Start) {z : Bool} (inv : z ≡ valid_of (lead_of x) (drop i name)) where
+  module _ (h : i < length name) where
+    pub valid-nul : get_or name i 0 ≡ 0 → false ≡ z
+    valid-nul e = sym (inv ∙ ap (valid_of (lead_of x)) (drop-cons name i 0 h) ∙ nul_of (get_or name i 0) (drop (suc i) name) e x)
 
-      module _ (some : n ≡ 0 → ⊥) where
-        again : n ≡ suc (n - 1)
-        again = omega arith
+    pub valid-next : (r : Start) → Sized x → (get_or name i 0 ≡ 0 → ⊥) → (lead_of r ≡ follow_of (lead_of x) (get_or name i 0)) × Sized r → z ≡ valid_of (lead_of r) (drop (i + 1) name)
+    valid-next r y other e =
+        inv
+        ∙ ap (valid_of (lead_of x)) (drop-cons name i 0 h)
+        ∙ follows (get_or name i 0) (drop (suc i) name) other x r y e.0 e.1
+        ∙ ap (λ (k : ℕ). valid_of (lead_of r) (drop k name)) (sym (add-one i))
 
-        pub valid-low : get_or pool i 0 < lo → false ≡ z
-        valid-low k = sym (next-is ∙ rw again (outside_byte _ _ other (n - 1) lo hi (rw (lt-leb lo (get_or pool i 0) k))))
+  pub valid_single : length name ≤ i → x ≡ Single → true ≡ z
+  unfolding lead_of valid_of valid_from no_nul well_formed_from awaiting is_ready
+  valid_single h e = sym (inv ∙ rw (drop_all i name h, e))
 
-        pub valid_high : hi < get_or pool i 0 → false ≡ z
-        valid_high k = sym (next-is ∙ rw again (outside_byte _ _ other (n - 1) lo hi (rw (lt-leb (get_or pool i 0) hi k) (and-false (leb lo (get_or pool i 0))))))
-
-        pub valid-on : lo ≤ get_or pool i 0 → get_or pool i 0 ≤ hi → z ≡ valid_from (n - 1) 0x80 0xbf (part pool (i + 1) to)
-        valid-on j k = next-is ∙ ap (λ (m : ℕ). valid_from m lo hi (get_or pool i 0 ∷ part pool (i + 1) to)) again ∙ inside_byte _ _ other (n - 1) lo hi (rw (le-leb lo (get_or pool i 0) j, le-leb (get_or pool i 0) hi k))
+  pub valid_other : length name ≤ i → (x ≡ Single → ⊥) → Sized x → false ≡ z
+  valid_other h n y = sym (inv ∙ ap (valid_of (lead_of x)) (drop_all i name h) ∙ none_of x n y)

@@ -1,6 +1,6 @@
 -- The state of the pass over a name, as the code holds it.
-use Rattle.std.specs.Prelude.{◌≡◌, List, [], ◌∷◌, ℕ, zero, suc, ◌+◌, ◌≤◌, ◌<◌, length, take}
-use Rattle.format.specs.Utf8.{Lead, single, ill, lead, Utf8State, ready, waiting, Utf8Step}
+use Rattle.std.specs.Prelude.{◌≡◌, ◌&&◌, cond, leb, List, [], ◌∷◌, ℕ, zero, suc, ◌+◌, ◌≤◌, ◌<◌, length, take}
+use Rattle.format.specs.Utf8.{Lead, single, ill, lead, up_to, leads, Utf8State, ready, waiting, Utf8Step}
 use Rattle.names.specs.declared.Start.{Start}
 use Rattle.names.specs.declared.Start.TheVariants.{Single, Ill, More}
 use Rattle.names.specs.declared.Carry.{Carry}
@@ -23,6 +23,17 @@ carrying (suc k) w n lo hi = waiting (take (suc k) w) n lo hi
 
 unfoldable pub state_of : Carry → Utf8State
 state_of c = carrying c.count (c.first ∷ c.second ∷ c.third ∷ []) c.more c.low c.high
+
+-- what is to follow the next byte: nothing follows one that is ill
+unfoldable pub less_one : (more : ℕ) → Lead
+less_one zero = single
+less_one (suc zero) = single
+less_one (suc (suc n)) = lead (suc n) 0x80 0xbf
+
+unfoldable pub follow_of : Lead → (b : ℕ) → Lead
+follow_of single b = up_to leads b
+follow_of ill b = ill
+follow_of (lead n lo hi) b = cond (leb lo b && leb b hi) (less_one n) ill
 
 -- nothing is given out, and so many bytes are carried on: the next one is any that may follow
 abbrev pub carry_on_of : (count first second third more : ℕ) → Stepped

@@ -1,10 +1,10 @@
 // Reads a name up to its NUL and stores it, made valid UTF-8, in one pass; tells whether a name is valid.
 #![tactic(auto)]
 
-ghost use Rattle.std.specs.Prelude.{◌≡◌, [], ◌∷◌, ◌++◌, ◌+◌, ◌-◌, ◌≤◌, ◌<◌, length, take, drop, ◌&&◌};
+ghost use Rattle.std.specs.Prelude.{◌≡◌, [], ◌∷◌, ◌++◌, ◌-◌, ◌≤◌, ◌<◌, length, ◌&&◌, slice_index};
 ghost use Rattle.format.specs.Message.{no_nul};
 ghost use Rattle.format.specs.Utf8.{up_to, leads, begin, broken, going, step, carried, at_end, well_formed};
-ghost use Rattle.names.specs.Pass.{state_of, lead_of, carry_on_of, Fits, Sized, Steps};
+ghost use Rattle.names.specs.Pass.{state_of, lead_of, follow_of, carry_on_of, Fits, Sized, Steps};
 ghost use Rattle.names.specs.Names.{Stored, Reads};
 
 // A name, by its bytes before its NUL, and those that are stored in the pool, made valid.
@@ -110,9 +110,9 @@ fn begin_with(b: u8) -> Stepped
                 first: b,
                 second: 0,
                 third: 0,
-                more: more,
-                low: low,
-                high: high,
+                more,
+                low,
+                high,
             },
         },
     }
@@ -139,11 +139,11 @@ fn carry_on(count: u8, first: u8, second: u8, third: u8, more: u8) -> Stepped
         out: [0, 0, 0, 0, 0, 0],
         len: 0,
         next: Carry {
-            count: count,
-            first: first,
-            second: second,
-            third: third,
-            more: more,
+            count,
+            first,
+            second,
+            third,
+            more,
             low: 0x80,
             high: 0xbf,
         },
@@ -198,137 +198,107 @@ fn next_step(st: Carry, b: u8) -> Stepped
     go_on(st, b)
 }
 
-// Stores a byte, if there is room; the place behind it, or one past the room.
-// An Option for the place was tried: compounds were read a tenth slower.
-fn store_one(pool: &mut [u8], pos: usize, room: usize, b: u8) -> usize
-    requires { ((room ≤ length pool.old) × (room ≤ 65536)) × (pos ≤ room + 1) }
-    ensures { Stored pool.old pool.new pos room (b ∷ []) result }
+// Stores a byte at `pos`, if there is room; the place behind it.
+fn store_one(pool: &mut [u8], pos: usize, b: u8) -> usize
+    ensures { Stored pool.old pool.new pos (b ∷ []) result }
 {
-    if pos < room {
+    if pos < pool.len() {
         pool[pos] = b;
-        return pos + 1;
     }
-    room + 1
+    pos.saturating_add(1)
 }
 
-// Stores the first n bytes, if there is room for all; the place behind them, or one past the room.
-fn store(pool: &mut [u8], pos: usize, room: usize, bytes: [u8; 6], n: usize) -> usize
-    requires { ((room ≤ length pool.old) × (room ≤ 65536)) × ((pos ≤ room + 1) × ((n ≤ 6) × (length bytes ≡ 6))) }
-    ensures { Stored pool.old pool.new pos room (take n bytes) result }
+// Stores bytes from `pos` on, if there is room for all; the place behind them.
+fn store(pool: &mut [u8], pos: usize, bytes: &[u8]) -> usize
+    ensures { Stored pool.old pool.new pos bytes.now result }
 {
-    if room < pos + n {
-        return room + 1;
+    let end = pos.saturating_add(bytes.len());
+    if end <= pool.len() {
+        pool[pos..end].copy_from_slice(bytes);
     }
-    for i in 0..n {
-        pool[pos + i] = bytes[i];
-    }
-    pos + n
+    end
 }
 
 // Stores what the end of a name gives out.
-fn close(pool: &mut [u8], pos: usize, room: usize, st: Carry) -> usize
-    requires { ((room ≤ length pool.old) × (room ≤ 65536)) × (pos ≤ room + 1) }
-    ensures { Stored pool.old pool.new pos room (at_end (state_of st)) result }
+fn close(pool: &mut [u8], pos: usize, st: Carry) -> usize
+    ensures { Stored pool.old pool.new pos (at_end (state_of st)) result }
 {
     if st.count == 0 {
         return pos;
     }
-    store(pool, pos, room, [0xef, 0xbf, 0xbd, 0, 0, 0], 3)
+    store(pool, pos, &[0xef, 0xbf, 0xbd])
 }
 
-// The name at `at` of the message, stored at `place` of the pool, of which `room` bytes may be used. A name that does not
-// fit is still followed to its NUL.
-pub fn read_name(
-    msg: &[u8],
-    at: usize,
-    pool: &mut [u8],
-    place: usize,
-    room: usize,
-) -> Result<Name, NameError>
-    requires { ((room ≤ length pool.old) × (room ≤ 65536)) × (place ≤ room) }
-    ensures { Reads msg.now at pool.old pool.new place room result }
+// The name that the message begins with, stored from the start of the pool on. A name that does not fit is still followed to its NUL:
+// `pos` counts its bytes, made valid, past the pool's end.
+pub fn read_name(msg: &[u8], pool: &mut [u8]) -> Result<Name, NameError>
+    ensures { Reads msg.now pool.old pool.new result }
 {
-    let mut pos = place;
+    let mut pos: usize = 0;
     let mut st = Carry::default();
-    for i in at..msg.len() {
-        let b = msg[i];
+    for (i, &b) in msg.iter().enumerate() {
         if b == 0 {
-            let end = close(pool, pos, room, st);
-            if room < end {
+            let end = close(pool, pos, st);
+            if pool.len() < end {
                 return Err(NameError::Full);
             }
             return Ok(Name {
-                length: i - at,
-                stored: end - place,
+                length: i,
+                stored: end,
             });
         }
         if b < 0x80 && st.count == 0 {
-            pos = store_one(pool, pos, room, b);
+            pos = store_one(pool, pos, b);
             continue;
         }
         let stepped = next_step(st, b);
         st = stepped.next;
-        pos = store(pool, pos, room, stepped.out, stepped.len);
+        pos = store(pool, pos, &stepped.out[..stepped.len]);
     }
     Err(NameError::Missing)
 }
 
-// Where the ASCII bytes but NUL that begin at `from` end: at the first other byte, or at `to`. They do not decide whether the name is valid.
-fn plain_end(pool: &[u8], from: usize, to: usize) -> usize
-    requires { (from ≤ to) × (to ≤ length pool.now) }
-    ensures inside { result ≤ to }
-    ensures rest { (no_nul (take (to - from) (drop from pool.now)) && well_formed (take (to - from) (drop from pool.now))) ≡ (no_nul (take (to - result) (drop result pool.now)) && well_formed (take (to - result) (drop result pool.now))) }
+// Where the ASCII bytes but NUL that a name begins with end. They do not decide whether it is valid.
+fn plain_end(name: &[u8]) -> usize
+    ensures inside { result ≤ length name.now }
+    ensures before { (i : _) → i < result → (0 < slice_index name.now i) × (slice_index name.now i < 128) }
 {
-    for i in from..to {
-        let byte = pool[i];
-        if byte == 0 {
-            return i;
-        }
-        if byte >= 0x80 {
-            return i;
-        }
-    }
-    to
+    name.iter()
+        .position(|b| *b == 0 || *b >= 0x80)
+        .unwrap_or(name.len())
 }
 
-// Whether the bytes from `from` up to `to` are valid UTF-8 without NUL.
-pub fn valid_name(pool: &[u8], from: usize, to: usize) -> bool
-    requires { (from ≤ to) × (to ≤ length pool.now) }
-    ensures { result ≡ (no_nul (take (to - from) (drop from pool.now)) && well_formed (take (to - from) (drop from pool.now))) }
+// What is to follow a byte, by what was to follow before it.
+fn follow(next: Start, b: u8) -> Start
+    requires { Sized next }
+    ensures { (lead_of result ≡ follow_of (lead_of next) b) × Sized result }
 {
-    let mut more: u8 = 0;
-    let mut low: u8 = 0;
-    let mut high: u8 = 0;
-    for i in plain_end(pool, from, to)..to {
-        let byte = pool[i];
-        if byte == 0 {
-            return false;
-        }
-        if more == 0 {
-            if byte < 0x80 {
-                continue;
+    match next {
+        Start::Single => start_of(b),
+        Start::Ill => Start::Ill,
+        Start::More(more, low, high) => {
+            if b < low || high < b {
+                return Start::Ill;
             }
-            let start = start_of(byte);
-            match start {
-                Start::Single => continue,
-                Start::Ill => return false,
-                Start::More(n, first, last) => {
-                    more = n;
-                    low = first;
-                    high = last;
-                    continue;
-                }
+            if more == 1 {
+                return Start::Single;
             }
+            Start::More(more - 1, 0x80, 0xbf)
         }
-        if byte < low {
-            return false;
-        }
-        if high < byte {
-            return false;
-        }
-        more -= 1;
-        low = 0x80;
-        high = 0xbf;
     }
-    more == 0
+}
+
+// Whether a name is valid UTF-8 without NUL.
+pub fn valid_name(name: &[u8]) -> bool
+    ensures { result ≡ (no_nul name.now && well_formed name.now) }
+{
+    let rest = &name[plain_end(name)..];
+    let mut next = Start::Single;
+    for b in rest {
+        if *b == 0 {
+            return false;
+        }
+        next = follow(next, *b);
+    }
+    matches!(next, Start::Single)
 }

@@ -1,9 +1,10 @@
-// The small functions that reading, writing and the walks share, from the Rust's `datatype.rs`.
+// Numbers and header bits, as in the Rust's `datatype.rs`; rows, copying, an array's size.
 #![tactic(auto)]
 
-ghost use Rattle.std.specs.Prelude.{◌≡◌, ◌+◌, ◌*◌, ◌-◌, ◌≤◌, ◌<◌, min, ◌++◌, length, take, drop};
+ghost use Rattle.std.specs.Prelude.{◌≡◌, ◌+◌, ◌*◌, ◌-◌, ◌≤◌, ◌<◌, min, length, take, drop};
 ghost use Rattle.std.proofs.lemmas.List.Edits.{sets};
-ghost use Rattle.format.specs.Bytes.{number_from, little_endian, padding_to8, zeros};
+ghost use Rattle.format.specs.Bytes.{number_from, little_endian, padding_to8, dimensions_from};
+ghost use Rattle.format.specs.Datatype.{product};
 ghost use Rattle.format.specs.Bits.{low_bits, high_bits, bit_at, float_order_of, class_and_version_of, fixed_flags_of, float_flags_of, nibbles};
 ghost use Rattle.format.specs.Message.{name_padding_of, offset_width, skipped_bytes_of, reserved_bytes_of, permutation_bytes_of};
 
@@ -169,4 +170,24 @@ pub fn copy_bytes(from: &[u8], start: usize, n: usize, to: &mut [u8], place: usi
     ensures { to.new ≡ sets to.old place (take n (drop start from.now)) }
 {
     to[place..place + n].copy_from_slice(&from[start..start + n]);
+}
+
+// A size times an array's dimensions: true up to 4,294,967,295, and 4,294,967,296 for all that is more.
+pub fn scaled(pool: &[u8], place: usize, rank: u32, size: u32) -> u64
+    requires { place + rank * 4 ≤ length pool.now }
+    ensures { result ≡ min (size * product (dimensions_from rank (take (rank * 4) (drop place pool.now)))) 4294967296 }
+{
+    let (dimensions, _) = pool[place..place + rank as usize * 4].as_chunks::<4>();
+    let mut total = u64::from(size);
+    for dimension in dimensions {
+        total = (total * u64::from(u32::from_le_bytes(*dimension))).min(4294967296);
+    }
+    total
+}
+
+// At most 4,294,967,295.
+pub fn capped(total: u64) -> u32
+    ensures { result ≡ min total 4294967295 }
+{
+    total.min(4294967295) as u32
 }

@@ -10,7 +10,7 @@ use format::Header;
 use reader_before::{open_headed, open_header};
 use reader_behind::{end_based, enter_member, member_count};
 use reader_leaf::read_leaf;
-use reading::{Limits, Opened, State, end_row};
+use reading::{Cursor, Limits, Opened, State, end_row};
 use refusal::Refusal;
 
 // The members of a compound, from behind its header on.
@@ -20,45 +20,24 @@ fn read_members(
     table: &mut [u32],
     pool: &mut [u8],
     limits: Limits,
-    used: usize,
-    pooled: usize,
+    start: Cursor,
     levels: usize,
     header: Header,
     version: u8,
     count: usize,
-) -> Result<State, Refusal>
-    requires { (Ready limits used pooled table.old pool.old × (8 ≤ length «data».now)) × (count < 65536) }
-    ensures { AfterMembers count (run (read_members_of (read_type_of limits.version levels) version header.size count) «data».now limits 8 used pooled)
-        «data».now limits used pooled result table.old table.new pool.old pool.new }
+) -> Result<Cursor, Refusal>
+    requires { (Ready limits start.rows start.pooled table.old pool.old × (start.at ≤ length «data».now + 7)) × (count < 65536) }
+    ensures { AfterMembers count (run (read_members_of (read_type_of limits.version levels) version header.size count) «data».now limits start.at start.rows start.pooled)
+        «data».now limits start.rows start.pooled result table.old table.new pool.old pool.new }
 {
-    let mut at = 8;
-    let mut rows = used;
-    let mut place = pooled;
-    for _i in 0..count {
-        let next = enter_member(
-            data,
-            table,
-            pool,
-            limits,
-            at,
-            rows,
-            place,
-            version,
-            header.size,
-        )?;
-        let from = next.at;
-        let part = &data[from..];
-        let inner = read_type(part, table, pool, limits, next.rows, next.pooled, levels)?;
-        at = from + inner.at;
-        rows = inner.rows;
-        place = inner.pooled;
+    let mut next = start;
+    for _ in 0..count {
+        let named = enter_member(data, table, pool, limits, next, version, header.size)?;
+        let part = &data[named.at..];
+        let inner = read_type(part, table, pool, limits, named.rows, named.pooled, levels)?;
+        next = inner.end.behind(named.at);
     }
-    Ok(State {
-        at: at,
-        rows: rows,
-        pooled: place,
-        size: 0,
-    })
+    Ok(next)
 }
 
 // A message, with so many levels left.
@@ -82,7 +61,7 @@ fn read_type(
     let header = open_header(data, limits, used)?;
     let opened = open_headed(data, limits, used, pooled, header)?;
     match opened {
-        Opened::Leaf => read_leaf(data, table, pool, limits, used, pooled, header),
+        Opened::Leaf(leaf) => read_leaf(data, table, pool, limits, used, pooled, header, leaf),
         Opened::Compound(version) => {
             let count = member_count(header);
             let members = read_members(
@@ -90,8 +69,11 @@ fn read_type(
                 table,
                 pool,
                 limits,
-                used + 1,
-                pooled,
+                Cursor {
+                    at: 8,
+                    rows: used + 1,
+                    pooled,
+                },
                 levels - 1,
                 header,
                 version,
@@ -102,16 +84,28 @@ fn read_type(
                 used,
                 header.class,
                 [7, header.size, 0, 0, count, 0, 0, 0, 0, 0, 0, 0, 0, 0, 0, 0],
-                State {
-                    size: header.size,
-                    ..members
-                },
+                members,
+                header.size,
             )
         }
         Opened::Based(base) => {
             let part = &data[base.from..];
             let inner = read_type(part, table, pool, limits, used + 1, base.place, levels - 1)?;
-            end_based(data, table, pool, limits, used, pooled, header, base, inner)
+            let outer = State {
+                end: inner.end.behind(base.from),
+                ..inner
+            };
+            end_based(
+                data,
+                table,
+                pool,
+                limits,
+                used,
+                pooled,
+                header,
+                base.around,
+                outer,
+            )
         }
     }
 }
@@ -130,7 +124,7 @@ pub fn read(data: &[u8], limit: u32, table: &mut [u32], pool: &mut [u8]) -> Resu
         pool,
         Limits {
             version: limit,
-            rows: rows,
+            rows,
             pool: room,
         },
         0,
@@ -139,9 +133,9 @@ pub fn read(data: &[u8], limit: u32, table: &mut [u32], pool: &mut [u8]) -> Resu
     );
     match got {
         Ok(s) => {
-            table[s.rows * 16..].fill(0);
-            pool[s.pooled..].fill(0);
-            Ok(s.at)
+            table[s.end.rows * 16..].fill(0);
+            pool[s.end.pooled..].fill(0);
+            Ok(s.end.at)
         }
         Err(e) => {
             table.fill(0);

@@ -1,23 +1,33 @@
 -- Which kind of type a class number stands for, and what the kinds of leaf have in common.
 use mathlib.Core.Path.{◌≡◌, refl}
-use mathlib.Core.Bool.{true, false}
-use Prim.Native.Nat.{ℕ, zero, suc, ◌<◌, ◌≤◌}
+use Prim.Native.Nat.{ℕ, zero, suc, ◌≤◌}
 use native.Mathlib.Omega.{arith}
 use Rattle.format.specs.declared.Header.{Header}
 use Rattle.format.specs.Datatype.{Datatype}
 use Rattle.format.specs.Reading.{Reader, class_kind, layout_version, read_properties}
-use Rattle.format.specs.Table.{Kind, is_leaf, isCompound, isEnumeration, isVariableLength, isArray, isUnknown}
+use Rattle.format.specs.Table.{Kind, isCompound, isEnumeration, isVariableLength, isArray, isUnknown}
+use Rattle.reading.specs.declared.LeafKind.{LeafKind}
+use Rattle.reading.specs.declared.LeafKind.TheVariants.{FixedPoint, FloatingPoint, Time, String, BitField, Opaque, Reference}
 use Rattle.reading.specs.Contract.{leaf_kind}
 
-pub leaf-low : (c : ℕ) → c < 6 → leaf_kind (class_kind c) ≡ true
-unfolding leaf_kind class_kind
-leaf-low zero h = refl
-leaf-low (suc zero) h = refl
-leaf-low (suc (suc zero)) h = refl
-leaf-low (suc (suc (suc zero))) h = refl
-leaf-low (suc (suc (suc (suc zero)))) h = refl
-leaf-low (suc (suc (suc (suc (suc zero))))) h = refl
-leaf-low (suc (suc (suc (suc (suc (suc c)))))) h = absurd (omega arith)
+unfoldable pub class_of : LeafKind → ℕ
+class_of FixedPoint = 0
+class_of FloatingPoint = 1
+class_of Time = 2
+class_of String = 3
+class_of BitField = 4
+class_of Opaque = 5
+class_of Reference = 7
+
+pub kind-leaf : (k : LeafKind) (c : ℕ) → c ≡ class_of k → class_kind c ≡ leaf_kind k
+unfolding class_of leaf_kind class_kind
+kind-leaf FixedPoint c e = rw e
+kind-leaf FloatingPoint c e = rw e
+kind-leaf Time c e = rw e
+kind-leaf String c e = rw e
+kind-leaf BitField c e = rw e
+kind-leaf Opaque c e = rw e
+kind-leaf Reference c e = rw e
 
 pub unknown_high : (c : ℕ) → 12 ≤ c → class_kind c ≡ isUnknown
 unfolding class_kind
@@ -44,10 +54,6 @@ module _ (c : ℕ) where
   unfolding class_kind
   kind_packed e = rw e
 
-  pub leaf-reference : c ≡ 7 → leaf_kind (class_kind c) ≡ true
-  unfolding class_kind leaf_kind
-  leaf-reference e = rw e
-
   pub kind-enumeration : c ≡ 8 → class_kind c ≡ isEnumeration
   unfolding class_kind
   kind-enumeration e = rw e
@@ -69,15 +75,13 @@ module _ (h : Header) where
   unfolding layout_version
   packed_layout e = rw e
 
-no_truth : false ≡ true → ⊥
-no_truth e = let z : ◌≡◌ {A = ℕ} 0 1 = cc in omega arith
-
 -- the reader of the types inside a leaf is never asked
-pub leaf-same : (rd rd' : Reader Datatype) (h : Header) (k : Kind) → leaf_kind k ≡ true → read_properties rd h k ≡ read_properties rd' h k
+pub leaf-same : (rd rd' : Reader Datatype) (h : Header) (c : Kind) (k : LeafKind) → c ≡ leaf_kind k → read_properties rd h c ≡ read_properties rd' h c
 unfolding leaf_kind read_properties
-leaf-same rd rd' h (is_leaf k) e = refl
-leaf-same rd rd' h isCompound e = absurd (no_truth e)
-leaf-same rd rd' h isEnumeration e = absurd (no_truth e)
-leaf-same rd rd' h isVariableLength e = absurd (no_truth e)
-leaf-same rd rd' h isArray e = absurd (no_truth e)
-leaf-same rd rd' h isUnknown e = absurd (no_truth e)
+leaf-same rd rd' h c FixedPoint e = rw e
+leaf-same rd rd' h c FloatingPoint e = rw e
+leaf-same rd rd' h c Time e = rw e
+leaf-same rd rd' h c String e = rw e
+leaf-same rd rd' h c BitField e = rw e
+leaf-same rd rd' h c Opaque e = rw e
+leaf-same rd rd' h c Reference e = rw e

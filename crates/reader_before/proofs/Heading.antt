@@ -1,4 +1,5 @@
 -- The ways out of `open_header`: each law's premises are the facts that the code has there.
+use native.Mathlib.Omega.{arith}
 use Rattle.std.specs.Prelude.{Err, Ok}
 use mathlib.Core.Path.{◌≡◌, refl}
 use mathlib.Core.List.{List}
@@ -28,13 +29,13 @@ module _ {d : List ℕ} {lim : Limits} {used : ℕ} where
   pub heads-short : used < lim.rows → length d < 8 → Heads d lim used (Err (Short 8 (length d)))
   heads-short free h = shuts (λ n pooled. type-short n pooled used d lim free h)
 
-  pub heads-new : {v : ℕ} → used < lim.rows → 8 ≤ length d → (v ≡ high_bits 4 (get_or d 0 0)) × (v < 16) → lim.version < v → Heads d lim used (Err (TooNew v))
-  heads-new {v} free long e m =
+  pub heads-new : {v w : ℕ} → used < lim.rows → 8 ≤ length d → (v ≡ high_bits 4 (get_or d 0 0)) × (v < 16) → w ≡ v → lim.version < w → Heads d lim used (Err (TooNew v))
+  heads-new {v} free long e same m =
       let q = header_is d (low_bits 4 (get_or d 0 0)) v (get_or d 1 0) (get_or d 2 0) (number_from (take 4 (drop 4 d))) long refl e.0 refl refl refl in
-      shuts (λ n pooled. type-new n pooled used d lim free _ q long m)
+      shuts (λ n pooled. type-new n pooled used d lim free _ q long (omega (arith, same, m)))
 
-  pub heads-head : {c v z : ℕ} → used < lim.rows → 8 ≤ length d → (c ≡ low_bits 4 (get_or d 0 0)) × (c < 16) → (v ≡ high_bits 4 (get_or d 0 0)) × (v < 16)
-      → z ≡ number_from (take 4 (drop 4 d)) → v ≤ lim.version → Heads d lim used (Ok (record { class = c; version = v; f0 = get_or d 1 0; f1 = get_or d 2 0; size = z }))
-  heads-head {c} {v} {z} free long a b e m =
+  pub heads-head : {c v w z : ℕ} → used < lim.rows → 8 ≤ length d → (c ≡ low_bits 4 (get_or d 0 0)) × (c < 16) → (v ≡ high_bits 4 (get_or d 0 0)) × (v < 16)
+      → z ≡ number_from (take 4 (drop 4 d)) → w ≡ v → w ≤ lim.version → Heads d lim used (Ok (record { class = c; version = v; f0 = get_or d 1 0; f1 = get_or d 2 0; size = z }))
+  heads-head {c} {v} {w} {z} free long a b e same m =
       let q = header_is d c v (get_or d 1 0) (get_or d 2 0) z long a.0 b.0 refl refl e in
-      begins (record { is = λ n pooled. type-begun n pooled used d lim free _ q long m; long = long; free = free })
+      begins (record { is = λ n pooled. type-begun n pooled used d lim free _ q long (omega (arith, same, m)); long = long; free = free })

@@ -8,7 +8,7 @@ ghost use Rattle.reading.specs.Contract.{Heads, Begun, Opens};
 
 use format::Header;
 use primitives::{high4, low4, permutation_bytes, read_uint, reserved_bytes};
-use reading::{Base, Limits, Opened};
+use reading::{Around, Base, LeafKind, Limits, Opened, check_codes};
 use refusal::Refusal;
 
 // The header, once a row is free for the type: TooMany, Short 8, TooNew.
@@ -22,12 +22,12 @@ pub fn open_header(data: &[u8], limits: Limits, used: usize) -> Result<Header, R
         return Err(Refusal::Short(8, data.len()));
     }
     let version = high4(data[0]);
-    if limits.version < version as u32 {
+    if limits.version < u32::from(version) {
         return Err(Refusal::TooNew(version));
     }
     Ok(Header {
         class: low4(data[0]),
-        version: version,
+        version,
         f0: data[1],
         f1: data[2],
         size: read_uint(data, 4, 4),
@@ -45,31 +45,13 @@ fn open_variable(
     requires { (Begun «data».now limits used header × (pooled ≤ limits.pool)) × (class_kind header.class ≡ isVariableLength) }
     ensures { Opens «data».now limits used pooled header result }
 {
-    let kind = low4(header.f0);
-    match kind {
-        1 => {
-            let padding = high4(header.f0);
-            match padding {
-                0..=2 => {}
-                _ => {
-                    return Err(Refusal::BadPadding(padding));
-                }
-            }
-            let charset = low4(header.f1);
-            match charset {
-                0..=1 => {}
-                _ => {
-                    return Err(Refusal::BadCharset(charset));
-                }
-            }
-        }
-        _ => {}
+    if low4(header.f0) == 1 {
+        check_codes(high4(header.f0), low4(header.f1))?;
     }
     Ok(Opened::Based(Base {
         from: 8,
         place: pooled,
-        start: 8,
-        rank: 0,
+        around: Around::VariableLength,
     }))
 }
 
@@ -100,10 +82,9 @@ fn open_array(
                 return Err(Refusal::PoolFull);
             }
             Ok(Opened::Based(Base {
-                from: from,
+                from,
                 place: pooled + 4 * rank,
-                start: start,
-                rank: rank,
+                around: Around::Array(start, rank),
             }))
         }
         _ => Err(Refusal::BadVersion(header.class, version)),
@@ -123,7 +104,12 @@ pub fn open_headed(
 {
     let class = header.class;
     match class {
-        0..=5 => Ok(Opened::Leaf),
+        0 => Ok(Opened::Leaf(LeafKind::FixedPoint)),
+        1 => Ok(Opened::Leaf(LeafKind::FloatingPoint)),
+        2 => Ok(Opened::Leaf(LeafKind::Time)),
+        3 => Ok(Opened::Leaf(LeafKind::String)),
+        4 => Ok(Opened::Leaf(LeafKind::BitField)),
+        5 => Ok(Opened::Leaf(LeafKind::Opaque)),
         6 => {
             let version = header.version;
             match version {
@@ -131,12 +117,11 @@ pub fn open_headed(
                 _ => Err(Refusal::BadVersion(6, version)),
             }
         }
-        7 => Ok(Opened::Leaf),
+        7 => Ok(Opened::Leaf(LeafKind::Reference)),
         8 => Ok(Opened::Based(Base {
             from: 8,
             place: pooled,
-            start: 8,
-            rank: 0,
+            around: Around::Enumeration,
         })),
         9 => open_variable(data, limits, used, pooled, header),
         10 => open_array(data, limits, used, pooled, header),

@@ -16,6 +16,7 @@ use Rattle.format.specs.Table.{row, member_row}
 use Rattle.format.specs.Utf8.{mended}
 use Rattle.names.specs.Names.{WholeName}
 use Rattle.names.specs.declared.Name.{Name}
+use Rattle.reading.specs.declared.Cursor.{Cursor}
 use Rattle.reading.specs.declared.Limits.{Limits}
 use Rattle.reading.specs.Contract.{run, Ready, Entered, Enters}
 use Rattle.reading.proofs.Contracts.{by_done, not_done, by_refused, not-refused, ready_at}
@@ -67,29 +68,29 @@ module _ (d : List ℕ) (lim : Limits) (ver size at used pooled : ℕ) (rd : Rea
 
 -- ---- the ways out
 
-module _ {d : List ℕ} {lim : Limits} {ver size at used pooled : ℕ} {t t' p p' : List ℕ} where
-  stops : {e : Refusal} → ((rd : Reader Datatype) (k : ℕ) → run (read_members_of rd ver size (suc k)) d lim at used pooled ≡ refused e) → Enters d lim ver size at used pooled (Err e) t t' p p'
+module _ {d : List ℕ} {lim : Limits} {ver size : ℕ} {c : Cursor} {t t' p p' : List ℕ} where
+  stops : {e : Refusal} → ((rd : Reader Datatype) (k : ℕ) → run (read_members_of rd ver size (suc k)) d lim c.at c.rows c.pooled ≡ refused e) → Enters d lim ver size c (Err e) t t' p p'
   stops q =
       record {
-        entered = not_done (λ s. Entered d lim ver size at used pooled s t t' p p');
-        stopped = by_refused (λ e. (rd : Reader Datatype) (k : ℕ) → run (read_members_of rd ver size (suc k)) d lim at used pooled ≡ refused e) q;
+        entered = not_done (λ s. Entered d lim ver size c s t t' p p');
+        stopped = by_refused (λ e. (rd : Reader Datatype) (k : ℕ) → run (read_members_of rd ver size (suc k)) d lim c.at c.rows c.pooled ≡ refused e) q;
       }
 
-  pub enter_stops : {e : Refusal} → NameBegins d lim at used pooled (Err e) p p' → Enters d lim ver size at used pooled (Err e) t t' p p'
-  enter_stops {e} w = stops (λ rd k. member_no d lim ver size at used pooled rd k e (w.stopped e refl ver))
+  pub enter_stops : {e : Refusal} → NameBegins d lim c.at c.rows c.pooled (Err e) p p' → Enters d lim ver size c (Err e) t t' p p'
+  enter_stops {e} w = stops (λ rd k. member_no d lim ver size c.at c.rows c.pooled rd k e (w.stopped e refl ver))
 
-  module _ {x : Name} (w : NameBegins d lim at used pooled (Ok x) p p') where
+  module _ {x : Name} (w : NameBegins d lim c.at c.rows c.pooled (Ok x) p p') where
     module _ {pad width : ℕ} (pe : (pad ≡ name_padding_of ver (x.length + 1)) × (pad < 8)) (we : (width ≡ offset_width ver size) × ((0 < width) × (width ≤ 4))) where
-      pub enter_narrow : length d < at + (x.length + 1) + pad + width → Enters d lim ver size at used pooled (Err (Short (at + (x.length + 1) + pad + width) (length d))) t t' p p'
-      enter_narrow h = stops (λ rd k. member_narrow d lim ver size at used pooled rd k (w.free x refl) x.length x.stored pad width (w.whole x refl) pe.0 we.0 we.1.0 h)
+      pub enter_narrow : length d < c.at + (x.length + 1) + pad + width → Enters d lim ver size c (Err (Short (c.at + (x.length + 1) + pad + width) (length d))) t t' p p'
+      enter_narrow h = stops (λ rd k. member_narrow d lim ver size c.at c.rows c.pooled rd k (w.free x refl) x.length x.stored pad width (w.whole x refl) pe.0 we.0 we.1.0 h)
 
-      module _ {sk : ℕ} (wide : at + (x.length + 1) + pad + width ≤ length d) (se : (sk ≡ skipped_bytes_of ver) × (sk ≤ 28)) where
-        pub enter_cut : length d < at + (x.length + 1) + pad + width + sk → Enters d lim ver size at used pooled (Err (Short (at + (x.length + 1) + pad + width + sk) (length d))) t t' p p'
-        enter_cut h = stops (λ rd k. member_cut d lim ver size at used pooled rd k (w.free x refl) x.length x.stored pad width (w.whole x refl) pe.0 we.0 wide sk se.0 h)
+      module _ {sk : ℕ} (wide : c.at + (x.length + 1) + pad + width ≤ length d) (se : (sk ≡ skipped_bytes_of ver) × (sk ≤ 28)) where
+        pub enter_cut : length d < c.at + (x.length + 1) + pad + width + sk → Enters d lim ver size c (Err (Short (c.at + (x.length + 1) + pad + width + sk) (length d))) t t' p p'
+        enter_cut h = stops (λ rd k. member_cut d lim ver size c.at c.rows c.pooled rd k (w.free x refl) x.length x.stored pad width (w.whole x refl) pe.0 we.0 wide sk se.0 h)
 
-        pub enter_inner : {o : ℕ} → Ready lim used pooled t p → at + (x.length + 1) + pad + width + sk ≤ length d → o ≡ number_from (take width (drop (at + (x.length + 1) + pad) d))
-            → t' ≡ sets t (used * 16) (row 12 ((1, o) ∷ (2, pooled) ∷ (3, x.stored) ∷ (4, 0) ∷ []))
-            → Enters d lim ver size at used pooled (Ok (record { at = at + (x.length + 1) + pad + width + sk; rows = used + 1; pooled = pooled + x.stored; size = 0 })) t t' p p'
+        pub enter_inner : {o : ℕ} → Ready lim c.rows c.pooled t p → c.at + (x.length + 1) + pad + width + sk ≤ length d → o ≡ number_from (take width (drop (c.at + (x.length + 1) + pad) d))
+            → t' ≡ sets t (c.rows * 16) (row 12 ((1, o) ∷ (2, c.pooled) ∷ (3, x.stored) ∷ (4, 0) ∷ []))
+            → Enters d lim ver size c (Ok (record { at = c.at + (x.length + 1) + pad + width + sk; rows = c.rows + 1; pooled = c.pooled + x.stored })) t t' p p'
         unfolding member_row row
         enter_inner {o} ready long oe et =
             let y = w.whole x refl in
@@ -97,16 +98,16 @@ module _ {d : List ℕ} {lim : Limits} {ver size at used pooled : ℕ} {t t' p p
             let l = y.long in
             let f = y.fits in
             record {
-              entered = by_done (λ s. Entered d lim ver size at used pooled s t t' p p') (record {
-                name = mended (take x.length (drop at d));
-                offset = number_from (take width (drop (at + (x.length + 1) + pad) d));
-                is = λ rd k. member-entered d lim ver size at used pooled rd k (w.free x refl) x.length x.stored pad width y pe.0 we.0 wide sk se.0 long;
+              entered = by_done (λ s. Entered d lim ver size c s t t' p p') (record {
+                name = mended (take x.length (drop c.at d));
+                offset = number_from (take width (drop (c.at + (x.length + 1) + pad) d));
+                is = λ rd k. member-entered d lim ver size c.at c.rows c.pooled rd k (w.free x refl) x.length x.stored pad width y pe.0 we.0 wide sk se.0 long;
                 rows_are = refl;
-                pooled_are = ap (λ (k : ℕ). pooled + k) l;
-                table = et ∙ ap (λ (k : ℕ). sets t (used * 16) (member_row pooled k x.stored)) oe ∙ ap (λ (k : ℕ). sets t (used * 16) (member_row pooled (number_from (take width (drop (at + (x.length + 1) + pad) d))) k)) l;
+                pooled_are = ap (λ (k : ℕ). c.pooled + k) l;
+                table = et ∙ ap (λ (k : ℕ). sets t (c.rows * 16) (member_row c.pooled k x.stored)) oe ∙ ap (λ (k : ℕ). sets t (c.rows * 16) (member_row c.pooled (number_from (take width (drop (c.at + (x.length + 1) + pad) d))) k)) l;
                 pool = y.pool;
-                ready = ready_at (used + 1) (pooled + x.stored) ready (omega arith) f (ap length et ∙ length-sets t (used * 16) (row 12 ((1, o) ∷ (2, pooled) ∷ (3, x.stored) ∷ (4, 0) ∷ []))) (ap length y.pool ∙ length-sets p pooled (mended (take x.length (drop at d))));
+                ready = ready_at (c.rows + 1) (c.pooled + x.stored) ready (omega arith) f (ap length et ∙ length-sets t (c.rows * 16) (row 12 ((1, o) ∷ (2, c.pooled) ∷ (3, x.stored) ∷ (4, 0) ∷ []))) (ap length y.pool ∙ length-sets p c.pooled (mended (take x.length (drop c.at d))));
                 within = long;
               });
-              stopped = not-refused (λ e. (rd : Reader Datatype) (k : ℕ) → run (read_members_of rd ver size (suc k)) d lim at used pooled ≡ refused e);
+              stopped = not-refused (λ e. (rd : Reader Datatype) (k : ℕ) → run (read_members_of rd ver size (suc k)) d lim c.at c.rows c.pooled ≡ refused e);
             }

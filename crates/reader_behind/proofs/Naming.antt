@@ -1,14 +1,19 @@
 -- A name at a place of the message, by what `read_name` found there: the laws of `read_name_of`, and the ways out of `enter_enum_member`.
 use Rattle.std.specs.Prelude.{Err, Ok, Result}
-use mathlib.Core.Path.{◌≡◌, refl, ap, ◌∙◌}
+use mathlib.Core.Path.{◌≡◌, refl, sym, ap, ◌∙◌}
 use mathlib.Core.Option.{none}
-use mathlib.Core.List.{List, [], ◌∷◌}
-use Prim.Native.Nat.{ℕ, ◌+◌, ◌-◌, ◌*◌, ◌<◌, ◌≤◌}
+use mathlib.Core.List.{List, [], ◌∷◌, ◌++◌, append_assoc}
+use Prim.Native.Nat.{ℕ, zero, suc, ◌+◌, ◌-◌, ◌*◌, ◌<◌, ◌≤◌, min}
 use native.Mathlib.Omega.{arith}
 use mir.Syntax.{w64}
 use mir.Val.{Fits}
-use lib.ListN.{length, take, drop, length-drop}
-use lib.Seq.{sets, length-take-le}
+use lib.ListN.{length, take, drop, length-drop, take-append-drop}
+use native.Mathlib.Decide.{dec_le}
+use Rattle.std.proofs.lemmas.List.{drop_all}
+use lib.Seq.{sets, sets-eq, drop-drop, length-take-le}
+use borrow.Rule.Slice.PartMut.{put_mid}
+use Rattle.std.specs.Result.{MatchResult, IsErrAnd}
+use Rattle.format.proofs.Lists.{length_part, sets-front, part-all}
 use Rattle.refusal.specs.declared.Refusal.{Refusal}
 use Rattle.refusal.specs.declared.Refusal.TheVariants.{TooMany, Short, PoolFull}
 use Rattle.format.specs.Bytes.{first_nul}
@@ -20,9 +25,10 @@ use Rattle.names.specs.Names.{Reads, WholeName, FullName}
 use Rattle.names.specs.declared.Name.{Name}
 use Rattle.names.specs.declared.NameError.{NameError}
 use Rattle.names.specs.declared.NameError.TheVariants.{Missing, Full}
+use Rattle.reading.specs.declared.Cursor.{Cursor}
 use Rattle.reading.specs.declared.Limits.{Limits}
 use Rattle.reading.specs.Contract.{run, Named, Names}
-use Rattle.reader_behind.specs.Naming.{NameBegins}
+use Rattle.reader_behind.specs.Naming.{NameBegins, name_refusal_of}
 use Rattle.reading.proofs.Contracts.{by_done, not_done, by_refused, not-refused}
 use Rattle.reading.proofs.Steps.{row-go, row-full, name-go, name-none, piece-go, piece-full, skip-go}
 
@@ -69,6 +75,25 @@ module _ (d : List ℕ) (lim : Limits) (ver at used pooled : ℕ) where
 
 -- ---- the ways out of `begin_member`
 
+-- the rest of a message from a place on that may be past its end
+from-there : (d : List ℕ) (at k : ℕ) → Dec (at ≤ length d) → k ≡ min at (length d) → drop k d ≡ drop at d
+from-there d at k (yes h) e = let z : k ≡ at = omega arith in ap (λ (j : ℕ). drop j d) z
+from-there d at k (no h) e = drop_all k d (omega arith) ∙ sym (drop_all at d (omega arith))
+
+pub rest-there : (d : List ℕ) (at k : ℕ) → k ≡ min at (length d) → take (length d - k) (drop k d) ≡ drop at d
+rest-there d at k e = part-all d k ∙ from-there d at k (dec_le at (length d)) e
+
+-- stores in a part of a list are stores in the list
+part-back : (v k : ℕ) (m : List ℕ) → v ≤ k → drop v (take k m) ++ drop k m ≡ drop v m
+part-back zero k m h = take-append-drop k m
+part-back (suc v) zero m h = absurd (omega arith)
+part-back (suc v) (suc k) [] h = refl
+part-back (suc v) (suc k) (x ∷ m) h = part-back v k m (omega arith)
+
+put-part : (l vs : List ℕ) (at k : ℕ) → length vs ≤ k → at + k ≤ length l → put_mid at k l (sets (take k (drop at l)) 0 vs) ≡ sets l at vs
+put-part l vs at k h g =
+    rw (sets-front vs (take k (drop at l)) (omega (arith, length_part l at k g)), sets-eq vs l at (omega arith), append_assoc, ← drop-drop (length vs) at l, ← part-back (length vs) k (drop at l) h, append_assoc) refl
+
 module _ {d : List ℕ} {lim : Limits} {at used pooled : ℕ} {p p' : List ℕ} where
   unnamed : {e : Refusal} → ((v : ℕ) → run (read_name_of v) d lim at used pooled ≡ refused e) → NameBegins d lim at used pooled (Err e) p p'
   unnamed q = record {
@@ -80,19 +105,44 @@ module _ {d : List ℕ} {lim : Limits} {at used pooled : ℕ} {p p' : List ℕ} 
   pub member_full : lim.rows ≤ used → NameBegins d lim at used pooled (Err TooMany) p p'
   member_full h = unnamed (λ v. name_rowless d lim v at used pooled h)
 
-  module _ {r : Result Name NameError} (free : used < lim.rows) (w : Reads d at p p' pooled lim.pool r) where
-    pub member_unnamed : {e : NameError} → r ≡ Err e → e ≡ Missing → NameBegins d lim at used pooled (Err (Short (at + 1) (length d))) p p'
-    member_unnamed q k = unnamed (λ v. name-missing d lim v at used pooled free (w.missing (q ∙ ap Err k)))
+-- the name is read at the start of the rest of the message, and stored at the start of the pool's part that is free
+module _ (d : List ℕ) (lim : Limits) (at used pooled : ℕ) (p q d' : List ℕ) (k : ℕ) (e : d' ≡ drop at d) (h : pooled + k ≡ lim.pool) (l : lim.pool ≤ length p) where
+  whole-there : {n m : ℕ} → WholeName d' 0 (take k (drop pooled p)) q 0 (length (take k (drop pooled p))) n m → WholeName d at p (put_mid pooled k p q) pooled lim.pool n m
+  whole-there {n} {m} w =
+      let b = length_part p pooled k (omega arith) in
+      let s : mended (take n d') ≡ mended (take n (drop at d)) = ap (λ (x : List ℕ). mended (take n x)) e in
+      record {
+        found = ap first_nul (sym e) ∙ w.found;
+        inside = let i = w.inside in let z : length d' ≡ length d - at = ap length e ∙ length-drop at d in omega arith;
+        long = w.long ∙ ap length s;
+        fits = let f = w.fits in omega arith;
+        pool = ap (put_mid pooled k p) (w.pool ∙ ap (sets (take k (drop pooled p)) 0) s) ∙ put-part p (mended (take n (drop at d))) pooled k (omega (arith, w.long, ap length s, w.fits)) (omega arith);
+      }
 
-    pub member_over : {e : NameError} → r ≡ Err e → e ≡ Full → NameBegins d lim at used pooled (Err PoolFull) p p'
-    member_over q k = unnamed (λ v. name_over d lim v at used pooled free (w.full (q ∙ ap Err k)))
+  full-there : FullName d' 0 0 (length (take k (drop pooled p))) → FullName d at pooled lim.pool
+  full-there w =
+      record {
+        n = w.n;
+        found = ap first_nul (sym e) ∙ w.found;
+        long = let b = length_part p pooled k (omega arith) in let f = w.long in let s : length (mended (take w.n d')) ≡ length (mended (take w.n (drop at d))) = ap (λ (x : List ℕ). length (mended (take w.n x))) e in omega arith;
+      }
 
-    pub member_named : {x : Name} → r ≡ Ok x → NameBegins d lim at used pooled (Ok x) p p'
-    member_named {x} q = record {
-      free = λ y e. free;
-      whole = by_done (λ y. WholeName d at p p' pooled lim.pool y.length y.stored) (w.whole x q);
-      stopped = not-refused _;
-    }
+  module _ (free : used < lim.rows) where
+    failed : (f : NameError) {x : Result Name NameError} → Reads d' (take k (drop pooled p)) q x → x ≡ Err f → NameBegins d lim at used pooled (Err (name_refusal_of at (length d) f)) p (put_mid pooled k p q)
+    unfolding name_refusal_of
+    failed Missing w i = unnamed (λ v. name-missing d lim v at used pooled free (ap first_nul (sym e) ∙ w.missing i))
+    failed Full w i = unnamed (λ v. name_over d lim v at used pooled free (full-there (w.full i)))
+
+    pub member_begins : (x : Result Name NameError) (r : Result Name Refusal) (L : NameError → Refusal → Type 0) → MatchResult x (λ y. r ≡ Ok y) (λ f. IsErrAnd r (L f))
+        → ((f : NameError) (g : Refusal) → L f g → g ≡ name_refusal_of at (length d) f) → Reads d' (take k (drop pooled p)) q x → NameBegins d lim at used pooled r p (put_mid pooled k p q)
+    member_begins (Ok y) r L i s w =
+        rw i (record {
+          free = λ y e. free;
+          whole = by_done (λ y. WholeName d at p (put_mid pooled k p q) pooled lim.pool y.length y.stored) (whole-there (w.whole y refl));
+          stopped = not-refused _;
+        })
+    member_begins (Err f) (Ok y) L i s w = absurd i
+    member_begins (Err f) (Err g) L i s w = rw (s f g i) (failed f w refl)
 
 -- ---- what is known of a name that was read
 
@@ -124,17 +174,17 @@ module _ {d : List ℕ} {lim : Limits} {at used pooled : ℕ} {p p' : List ℕ} 
 
 -- ---- the ways out of `enter_enum_member`
 
-module _ {d : List ℕ} {lim : Limits} {ver width at used pooled : ℕ} {t t' p p' : List ℕ} where
-  pub enum_stops : {e : Refusal} → NameBegins d lim at used pooled (Err e) p p' → Names d lim ver width at used pooled (Err e) t t' p p'
+module _ {d : List ℕ} {lim : Limits} {ver width : ℕ} {c : Cursor} {t t' p p' : List ℕ} where
+  pub enum_stops : {e : Refusal} → NameBegins d lim c.at c.rows c.pooled (Err e) p p' → Names d lim ver width c (Err e) t t' p p'
   enum_stops {e} w =
       record {
-        named = not_done (λ s. Named d lim ver width at used pooled s t t' p p');
-        stopped = by_refused (λ f. run (read_name_of ver) d lim at used pooled ≡ refused f) (w.stopped e refl ver);
+        named = not_done (λ s. Named d lim ver width c s t t' p p');
+        stopped = by_refused (λ f. run (read_name_of ver) d lim c.at c.rows c.pooled ≡ refused f) (w.stopped e refl ver);
       }
 
-  pub enum_named : {x : Name} {pad : ℕ} → NameBegins d lim at used pooled (Ok x) p p' → (pad ≡ name_padding_of ver (x.length + 1)) × (pad < 8)
-      → t' ≡ sets t (used * 16) (row 13 ((1, 0) ∷ (2, pooled) ∷ (3, x.stored) ∷ (4, width) ∷ []))
-      → Names d lim ver width at used pooled (Ok (record { at = at + (x.length + 1) + pad; rows = used + 1; pooled = pooled + x.stored; size = 0 })) t t' p p'
+  pub enum_named : {x : Name} {pad : ℕ} → NameBegins d lim c.at c.rows c.pooled (Ok x) p p' → (pad ≡ name_padding_of ver (x.length + 1)) × (pad < 8)
+      → t' ≡ sets t (c.rows * 16) (row 13 ((1, 0) ∷ (2, c.pooled) ∷ (3, x.stored) ∷ (4, width) ∷ []))
+      → Names d lim ver width c (Ok (record { at = c.at + (x.length + 1) + pad; rows = c.rows + 1; pooled = c.pooled + x.stored })) t t' p p'
   unfolding enum_member_row row
   enum_named {x} {pad} w pe et =
       let y = w.whole x refl in
@@ -142,16 +192,16 @@ module _ {d : List ℕ} {lim : Limits} {ver width at used pooled : ℕ} {t t' p 
       let i = y.inside in
       let l = y.long in
       record {
-        named = by_done (λ s. Named d lim ver width at used pooled s t t' p p') (record {
-          name = mended (take x.length (drop at d));
-          is = name-whole d lim ver at used pooled free x.length x.stored pad y pe.0;
+        named = by_done (λ s. Named d lim ver width c s t t' p p') (record {
+          name = mended (take x.length (drop c.at d));
+          is = name-whole d lim ver c.at c.rows c.pooled free x.length x.stored pad y pe.0;
           rows_are = refl;
-          pooled_are = ap (λ (k : ℕ). pooled + k) l;
-          table = et ∙ ap (λ (k : ℕ). sets t (used * 16) (enum_member_row pooled k width)) l;
+          pooled_are = ap (λ (k : ℕ). c.pooled + k) l;
+          table = et ∙ ap (λ (k : ℕ). sets t (c.rows * 16) (enum_member_row c.pooled k width)) l;
           pool = y.pool;
           filled = omega arith;
           room = y.fits;
           near = omega arith;
         });
-        stopped = not-refused (λ e. run (read_name_of ver) d lim at used pooled ≡ refused e);
+        stopped = not-refused (λ e. run (read_name_of ver) d lim c.at c.rows c.pooled ≡ refused e);
       }

@@ -11,8 +11,8 @@ use Rattle.format.specs.Reading.{Answer, got, refused, then, read_name_of, read_
 use Rattle.format.specs.Table.{enum_member_row}
 use Rattle.format.proofs.Rows.{length-enum_member_row}
 use Rattle.format.proofs.Lists.{sets_append}
+use Rattle.reading.specs.declared.Cursor.{Cursor}
 use Rattle.reading.specs.declared.Limits.{Limits}
-use Rattle.reading.specs.declared.State.{State}
 use Rattle.reading.specs.Contract.{run, here, Ready, Names, name_rows, joined_names, AfterNames}
 use Rattle.reading.proofs.Contracts.{lands, refuses, ready_at}
 
@@ -60,7 +60,7 @@ module _ (d : List ℕ) (lim : Limits) (v at used pooled : ℕ) where
     unfolding read_names_of then
     names_no e q = rw (more, q)
 
-    names-go : (b : List ℕ) (s : State) → run (read_name_of v) d lim at used pooled ≡ here b d lim s
+    names-go : (b : List ℕ) (s : Cursor) → run (read_name_of v) d lim at used pooled ≡ here b d lim s
         → run (read_names_of v k) d lim at used pooled ≡ then (run (read_names_of v j) d lim s.at s.rows s.pooled) (λ bs at s r p. got (b ∷ bs) at s r p)
     unfolding read_names_of then
     names-go b s q = rw (more, q)
@@ -68,22 +68,22 @@ module _ (d : List ℕ) (lim : Limits) (v at used pooled : ℕ) where
 -- ---- the loop
 
 -- i names of count are read: they stand in the table and the pool, and the whole answer is that of the rest behind them
-pub record NamesRead (d : List ℕ) (lim : Limits) (v count width from used₀ pooled₀ : ℕ) (t p : List ℕ) (i at used pooled : ℕ) (t' p' : List ℕ) : Type 0 where
+pub record NamesRead (d : List ℕ) (lim : Limits) (v count width : ℕ) (start : Cursor) (t p : List ℕ) (i : ℕ) (c : Cursor) (t' p' : List ℕ) : Type 0 where
   pub front : List (List ℕ)
   pub many : length front ≡ i
   pub left : i ≤ count
-  pub is : run (read_names_of v count) d lim from used₀ pooled₀ ≡ then (run (read_names_of v (count - i)) d lim at used pooled) (λ bs at s r p. got (front ++ bs) at s r p)
-  pub rows_are : used ≡ used₀ + i
-  pub pooled_are : pooled ≡ pooled₀ + length (joined_names front)
-  pub table : t' ≡ sets t (used₀ * 16) (name_rows width pooled₀ front)
-  pub pool : p' ≡ sets p pooled₀ (joined_names front)
+  pub is : run (read_names_of v count) d lim start.at start.rows start.pooled ≡ then (run (read_names_of v (count - i)) d lim c.at c.rows c.pooled) (λ bs at s r p. got (front ++ bs) at s r p)
+  pub rows_are : c.rows ≡ start.rows + i
+  pub pooled_are : c.pooled ≡ start.pooled + length (joined_names front)
+  pub table : t' ≡ sets t (start.rows * 16) (name_rows width start.pooled front)
+  pub pool : p' ≡ sets p start.pooled (joined_names front)
   pub same-table : length t' ≡ length t
   pub same-pool : length p' ≡ length p
-  pub ready : Ready lim used pooled t' p'
-  pub near : at ≤ length d + 7
+  pub ready : Ready lim c.rows c.pooled t' p'
+  pub near : c.at ≤ length d + 7
 
-module _ {d : List ℕ} {lim : Limits} {v count width from used₀ pooled₀ : ℕ} {t p : List ℕ} where
-  pub names-begun : Ready lim used₀ pooled₀ t p → from ≤ length d + 7 → NamesRead d lim v count width from used₀ pooled₀ t p 0 from used₀ pooled₀ t p
+module _ {d : List ℕ} {lim : Limits} {v count width : ℕ} {start : Cursor} {t p : List ℕ} where
+  pub names-begun : Ready lim start.rows start.pooled t p → start.at ≤ length d + 7 → NamesRead d lim v count width start t p 0 start t p
   unfolding name_rows joined_names
   names-begun r h =
       let z : count ≡ count - 0 = omega arith in
@@ -91,7 +91,7 @@ module _ {d : List ℕ} {lim : Limits} {v count width from used₀ pooled₀ : �
         front = [];
         many = refl;
         left = omega arith;
-        is = then-none (run (read_names_of v count) d lim from used₀ pooled₀) ∙ ap (λ (k : ℕ). then (run (read_names_of v k) d lim from used₀ pooled₀) (λ bs at s r p. got ([] ++ bs) at s r p)) z;
+        is = then-none (run (read_names_of v count) d lim start.at start.rows start.pooled) ∙ ap (λ (k : ℕ). then (run (read_names_of v k) d lim start.at start.rows start.pooled) (λ bs at s r p. got ([] ++ bs) at s r p)) z;
         rows_are = omega arith;
         pooled_are = omega arith;
         table = refl;
@@ -102,8 +102,8 @@ module _ {d : List ℕ} {lim : Limits} {v count width from used₀ pooled₀ : �
         near = h;
       }
 
-  module _ {i at used pooled : ℕ} {t₁ p₁ : List ℕ} (w : NamesRead d lim v count width from used₀ pooled₀ t p i at used pooled t₁ p₁) where
-    pub names-ended : count ≤ i → AfterNames count width (run (read_names_of v count) d lim from used₀ pooled₀) d lim used₀ pooled₀ (Ok (record { at = at; rows = used; pooled = pooled; size = 0 })) t t₁ p p₁
+  module _ {i : ℕ} {c : Cursor} {t₁ p₁ : List ℕ} (w : NamesRead d lim v count width start t p i c t₁ p₁) where
+    pub names-ended : count ≤ i → AfterNames count width (run (read_names_of v count) d lim start.at start.rows start.pooled) d lim start.rows start.pooled (Ok c) t t₁ p p₁
     unfolding then
     names-ended h =
         let m = w.many in
@@ -112,8 +112,8 @@ module _ {d : List ℕ} {lim : Limits} {v count width from used₀ pooled₀ : �
         lands (record {
           tree = w.front;
           such = omega arith;
-          is = w.is ∙ rw (names-none d lim v at used pooled (count - i) z, append-nil w.front);
-          rows_are = w.rows_are ∙ ap (λ (k : ℕ). used₀ + k) (sym m);
+          is = w.is ∙ rw (names-none d lim v c.at c.rows c.pooled (count - i) z, append-nil w.front);
+          rows_are = w.rows_are ∙ ap (λ (k : ℕ). start.rows + k) (sym m);
           pooled_are = w.pooled_are;
           table = w.table;
           pool = w.pool;
@@ -121,12 +121,12 @@ module _ {d : List ℕ} {lim : Limits} {v count width from used₀ pooled₀ : �
           near = w.near;
         })
 
-    module _ {x : Result State Refusal} {t₂ p₂ : List ℕ} (more : i < count) (y : Names d lim v width at used pooled x t₁ t₂ p₁ p₂) where
-      pub names-stopped : {e : Refusal} → x ≡ Err e → AfterNames count width (run (read_names_of v count) d lim from used₀ pooled₀) d lim used₀ pooled₀ (Err e) t t₂ p p₂
+    module _ {x : Result Cursor Refusal} {t₂ p₂ : List ℕ} (more : i < count) (y : Names d lim v width c x t₁ t₂ p₁ p₂) where
+      pub names-stopped : {e : Refusal} → x ≡ Err e → AfterNames count width (run (read_names_of v count) d lim start.at start.rows start.pooled) d lim start.rows start.pooled (Err e) t t₂ p p₂
       unfolding then
-      names-stopped {e} q = refuses (w.is ∙ rw (names_no d lim v at used pooled (count - i) (count - (i + 1)) (omega arith) e (y.stopped e q)))
+      names-stopped {e} q = refuses (w.is ∙ rw (names_no d lim v c.at c.rows c.pooled (count - i) (count - (i + 1)) (omega arith) e (y.stopped e q)))
 
-      pub names-turned : {s : State} → x ≡ Ok s → NamesRead d lim v count width from used₀ pooled₀ t p (i + 1) s.at s.rows s.pooled t₂ p₂
+      pub names-turned : {s : Cursor} → x ≡ Ok s → NamesRead d lim v count width start t p (i + 1) s t₂ p₂
       names-turned {s} q =
           let n = y.named s q in
           let b = n.name in
@@ -137,30 +137,30 @@ module _ {d : List ℕ} {lim : Limits} {v count width from used₀ pooled₀ : �
           let pu = w.pooled_are in
           let ps = n.pooled_are in
           let ej : joined_names (f ++ (b ∷ [])) ≡ joined_names f ++ b = joined_snoc f b in
-          let er : name_rows width pooled₀ (f ++ (b ∷ [])) ≡ name_rows width pooled₀ f ++ enum_member_row pooled (length b) width
-          = rows_snoc width pooled₀ f b ∙ ap (λ (k : ℕ). name_rows width pooled₀ f ++ enum_member_row k (length b) width) (sym pu) in
-          let lt : length t₂ ≡ length t₁ = ap length n.table ∙ length-sets t₁ (used * 16) (enum_member_row pooled (length b) width) in
-          let lp : length p₂ ≡ length p₁ = ap length n.pool ∙ length-sets p₁ pooled b in
-          let place : used * 16 ≡ used₀ * 16 + length (name_rows width pooled₀ f) = omega (arith, length-name_rows width pooled₀ f) in
+          let er : name_rows width start.pooled (f ++ (b ∷ [])) ≡ name_rows width start.pooled f ++ enum_member_row c.pooled (length b) width
+          = rows_snoc width start.pooled f b ∙ ap (λ (k : ℕ). name_rows width start.pooled f ++ enum_member_row k (length b) width) (sym pu) in
+          let lt : length t₂ ≡ length t₁ = ap length n.table ∙ length-sets t₁ (c.rows * 16) (enum_member_row c.pooled (length b) width) in
+          let lp : length p₂ ≡ length p₁ = ap length n.pool ∙ length-sets p₁ c.pooled b in
+          let place : c.rows * 16 ≡ start.rows * 16 + length (name_rows width start.pooled f) = omega (arith, length-name_rows width start.pooled f) in
           record {
             front = f ++ (b ∷ []);
             many = omega (arith, length-append f (b ∷ []));
             left = omega arith;
             is = w.is
-                ∙ ap (λ (o : Answer (List (List ℕ))). then o (λ bs at s r p. got (f ++ bs) at s r p)) (names-go d lim v at used pooled (count - i) (count - (i + 1)) (omega arith) b s n.is)
+                ∙ ap (λ (o : Answer (List (List ℕ))). then o (λ bs at s r p. got (f ++ bs) at s r p)) (names-go d lim v c.at c.rows c.pooled (count - i) (count - (i + 1)) (omega arith) b s n.is)
                 ∙ then-front (run (read_names_of v (count - (i + 1))) d lim s.at s.rows s.pooled) f b;
             rows_are = omega arith;
             pooled_are = omega (arith, ap length ej, length-append (joined_names f) b);
             table = n.table
-                ∙ ap (λ (l : List ℕ). sets l (used * 16) (enum_member_row pooled (length b) width)) w.table
-                ∙ ap (λ (k : ℕ). sets (sets t (used₀ * 16) (name_rows width pooled₀ f)) k (enum_member_row pooled (length b) width)) place
-                ∙ sym (sets_append (name_rows width pooled₀ f) (enum_member_row pooled (length b) width) t (used₀ * 16))
-                ∙ ap (sets t (used₀ * 16)) (sym er);
+                ∙ ap (λ (l : List ℕ). sets l (c.rows * 16) (enum_member_row c.pooled (length b) width)) w.table
+                ∙ ap (λ (k : ℕ). sets (sets t (start.rows * 16) (name_rows width start.pooled f)) k (enum_member_row c.pooled (length b) width)) place
+                ∙ sym (sets_append (name_rows width start.pooled f) (enum_member_row c.pooled (length b) width) t (start.rows * 16))
+                ∙ ap (sets t (start.rows * 16)) (sym er);
             pool = n.pool
-                ∙ ap (λ (l : List ℕ). sets l pooled b) w.pool
-                ∙ ap (λ (k : ℕ). sets (sets p pooled₀ (joined_names f)) k b) pu
-                ∙ sym (sets_append (joined_names f) b p pooled₀)
-                ∙ ap (sets p pooled₀) (sym ej);
+                ∙ ap (λ (l : List ℕ). sets l c.pooled b) w.pool
+                ∙ ap (λ (k : ℕ). sets (sets p start.pooled (joined_names f)) k b) pu
+                ∙ sym (sets_append (joined_names f) b p start.pooled)
+                ∙ ap (sets p start.pooled) (sym ej);
             same-table = lt ∙ w.same-table;
             same-pool = lp ∙ w.same-pool;
             ready = ready_at s.rows s.pooled w.ready n.filled n.room lt lp;

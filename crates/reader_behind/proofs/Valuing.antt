@@ -13,7 +13,7 @@ use Rattle.format.specs.Datatype.{EnumMember, enum_names, enum_values}
 use Rattle.format.specs.Reading.{Answer, got, refused, then, read_names_of, read_values_of}
 use Rattle.format.specs.Table.{enum_rows}
 use Rattle.reading.specs.declared.Limits.{Limits}
-use Rattle.reading.specs.declared.State.{State}
+use Rattle.reading.specs.declared.Cursor.{Cursor}
 use Rattle.reading.specs.Contract.{run, name_rows, joined_names, AfterNames, AfterEnum, Valued, Values, read_enum_members_of}
 use Rattle.reading.proofs.Steps.{bytes-go, bytes-short, piece-go, piece-full}
 use Rattle.reading.proofs.Contracts.{by_done, not_done, by_refused, not-refused, refuses, ready_at}
@@ -22,14 +22,14 @@ use Rattle.format.proofs.Lists.{sets_append}
 -- ---- values
 
 module _ {bs : List (List ℕ)} {o : Answer (List EnumMember)} {width : ℕ} {d : List ℕ} {lim : Limits} {used pooled : ℕ} {p p' : List ℕ} where
-  valued : {s : State} → Valued o bs width d lim used pooled s p p' → Values bs o width d lim used pooled (Ok s) p p'
+  valued : {s : Cursor} → Valued o bs width d lim used pooled s p p' → Values bs o width d lim used pooled (Ok s) p p'
   valued w = record { done = by_done (λ s. Valued o bs width d lim used pooled s p p') w; denied = not-refused (λ e. o ≡ refused e) }
 
   unvalued : {e : Refusal} → o ≡ refused e → Values bs o width d lim used pooled (Err e) p p'
   unvalued q = record { done = not_done (λ s. Valued o bs width d lim used pooled s p p'); denied = by_refused (λ e. o ≡ refused e) q }
 
 -- n values from a place on
-abbrev pub ValuesFrom : (d : List ℕ) (lim : Limits) (width used n at pooled : ℕ) (r : Result State Refusal) (p p' : List ℕ) → Type 0
+abbrev pub ValuesFrom : (d : List ℕ) (lim : Limits) (width used n at pooled : ℕ) (r : Result Cursor Refusal) (p p' : List ℕ) → Type 0
 ValuesFrom d lim width used n at pooled r p p' =
     (bs : List (List ℕ)) → length bs ≡ n → Values bs (run (read_values_of width bs) d lim at used pooled) width d lim used pooled r p p'
 
@@ -66,7 +66,7 @@ module _ (d : List ℕ) (lim : Limits) (width used at pooled : ℕ) (b : List �
         )
 
 module _ (d : List ℕ) (lim : Limits) (width used n at pooled : ℕ) (p : List ℕ) where
-  values_end : n ≡ 0 → pooled ≤ lim.pool → at ≤ length d + 7 → ValuesFrom d lim width used n at pooled (Ok (record { at = at; rows = used; pooled = pooled; size = 0 })) p p
+  values_end : n ≡ 0 → pooled ≤ lim.pool → at ≤ length d + 7 → ValuesFrom d lim width used n at pooled (Ok (record { at = at; rows = used; pooled = pooled })) p p
   unfolding read_values_of enum_rows name_rows enum_names joined_names enum_values
   values_end z room near [] e =
       valued
@@ -95,7 +95,7 @@ module _ (d : List ℕ) (lim : Limits) (width used n at pooled : ℕ) (p : List 
       values-full h (b ∷ bs) e = unvalued (value-full d lim width used at pooled b bs whole h)
 
       -- a value more in front
-      values-more : (p₁ : List ℕ) (r : Result State Refusal) → width ≤ lim.pool - pooled → p₁ ≡ sets p pooled (take width (drop at d))
+      values-more : (p₁ : List ℕ) (r : Result Cursor Refusal) → width ≤ lim.pool - pooled → p₁ ≡ sets p pooled (take width (drop at d))
           → ValuesFrom d lim width used (n - 1) (at + width) (pooled + width) r p₁ p' → ValuesFrom d lim width used n at pooled r p p'
       unfolding then enum_rows name_rows enum_names joined_names enum_values
       values-more p₁ r h ep w [] e = absurd (omega arith)
@@ -125,15 +125,15 @@ module _ (d : List ℕ) (lim : Limits) (width used n at pooled : ℕ) (p : List 
 -- the answer from value i on is the answer from the start
 abbrev pub Onward : (d : List ℕ) (lim : Limits) (width used count at₀ pooled₀ : ℕ) (p₀ : List ℕ) (i at pooled : ℕ) (p : List ℕ) → Type 0
 Onward d lim width used count at₀ pooled₀ p₀ i at pooled p =
-    (r : Result State Refusal) (p' : List ℕ) → ValuesFrom d lim width used (count - i) at pooled r p p' → ValuesFrom d lim width used count at₀ pooled₀ r p₀ p'
+    (r : Result Cursor Refusal) (p' : List ℕ) → ValuesFrom d lim width used (count - i) at pooled r p p' → ValuesFrom d lim width used count at₀ pooled₀ r p₀ p'
 
 module _ (d : List ℕ) (lim : Limits) (width used count at₀ pooled₀ : ℕ) (p₀ : List ℕ) where
   pub onward_start : Onward d lim width used count at₀ pooled₀ p₀ 0 at₀ pooled₀ p₀
   onward_start r p' w bs e = w bs (omega arith)
 
   module _ (i at pooled : ℕ) (p : List ℕ) (go : Onward d lim width used count at₀ pooled₀ p₀ i at pooled p) where
-    pub onward_end : count ≤ i → pooled ≤ lim.pool → at ≤ length d + 7 → ValuesFrom d lim width used count at₀ pooled₀ (Ok (record { at = at; rows = used; pooled = pooled; size = 0 })) p₀ p
-    onward_end h room near = go _ p (values_end d lim width used (count - i) at pooled p (omega arith) room near)
+    pub onward_end : {rows : ℕ} → rows ≡ used → count ≤ i → pooled ≤ lim.pool → at ≤ length d + 7 → ValuesFrom d lim width used count at₀ pooled₀ (Ok (record { at = at; rows = rows; pooled = pooled })) p₀ p
+    onward_end e h room near = rw e (go _ p (values_end d lim width used (count - i) at pooled p (omega arith) room near))
 
     module _ (more : i < count) where
       pub onward_short : 0 < width → length d < at + width → ValuesFrom d lim width used count at₀ pooled₀ (Err (Short (at + width) (length d))) p₀ p
@@ -153,7 +153,7 @@ module _ (d : List ℕ) (lim : Limits) (width used count at₀ pooled₀ : ℕ) 
 joined : (ns ms vs p p₁ p' : List ℕ) (i j : ℕ) → ns ≡ ms → j ≡ i + length ms → p₁ ≡ sets p i ms → p' ≡ sets p₁ j vs → p' ≡ sets p i (ns ++ vs)
 joined ns ms vs p p₁ p' i j e f g h = h ∙ rw (f, g, e, sets_append ms vs p i)
 
-module _ (d : List ℕ) (lim : Limits) (v count width at used pooled : ℕ) (r : Result State Refusal) (t t₁ p p₁ : List ℕ)
+module _ (d : List ℕ) (lim : Limits) (v count width at used pooled : ℕ) (r : Result Cursor Refusal) (t t₁ p p₁ : List ℕ)
     (names : AfterNames count width (run (read_names_of v count) d lim at used pooled) d lim used pooled r t t₁ p p₁) where
   pub names-refused : {e : Refusal} → r ≡ Err e
       → AfterEnum count (run (read_enum_members_of v count width) d lim at used pooled) d lim used pooled (Err e) t t₁ p p₁
@@ -161,7 +161,7 @@ module _ (d : List ℕ) (lim : Limits) (v count width at used pooled : ℕ) (r :
   names-refused {e} q = refuses (rw (names.denied e q))
 
   -- what the values ask, behind the names
-  module _ {s : State} (q : r ≡ Ok s) where
+  module _ {s : Cursor} (q : r ≡ Ok s) where
     pub names-room : s.pooled ≤ lim.pool
     names-room = (names.done s q).ready.room
 
@@ -171,7 +171,7 @@ module _ (d : List ℕ) (lim : Limits) (v count width at used pooled : ℕ) (r :
     pub names-held : lim.pool ≤ length p₁
     names-held = (names.done s q).ready.pool
 
-  pub names-valued : {s : State} {r' : Result State Refusal} {p' : List ℕ} → r ≡ Ok s → ValuesFrom d lim width s.rows count s.at s.pooled r' p₁ p'
+  pub names-valued : {s : Cursor} {r' : Result Cursor Refusal} {p' : List ℕ} → r ≡ Ok s → ValuesFrom d lim width s.rows count s.at s.pooled r' p₁ p'
       → AfterEnum count (run (read_enum_members_of v count width) d lim at used pooled) d lim used pooled r' t t₁ p p'
   unfolding read_enum_members_of then
   names-valued {s} q w =

@@ -1,30 +1,31 @@
-// A compound member up to its type, and what stands behind a nested message: an enumeration's names and values, rows over a base, the
-// size check.
+// A compound member up to its type, and what stands behind a nested message: an enumeration's names and values, rows over a
+// base.
 #![tactic(auto)]
 
 ghost use Rattle.std.specs.Prelude.{◌≡◌, List, [], ◌∷◌, ℕ, ◌+◌, ◌*◌, ◌<◌, ◌≤◌, min, length, take, drop};
 ghost use Rattle.std.proofs.lemmas.List.Edits.{sets};
 ghost use Rattle.format.specs.Bytes.{dimensions_from};
 ghost use Rattle.format.specs.Columns.{member_offset_column, place_column, length_column, value_length_column};
-ghost use Rattle.format.specs.Datatype.{product};
 ghost use Rattle.format.specs.Reading.{class_kind, count_of, read_names_of, read_values_of};
-ghost use Rattle.format.specs.Table.{row, isEnumeration, isVariableLength, isArray};
+ghost use Rattle.format.specs.Table.{row, isEnumeration, isArray};
 ghost use Rattle.reader_behind.specs.Naming.{NameBegins};
-ghost use Rattle.reading.specs.Contract.{run, Ready, Enters, Names, AfterNames, Values, AfterEnum, read_enum_members_of, OpensBased, BaseRead, Ends, dimensions_of_lem};
+ghost use Rattle.reader_behind.specs.Ending.{StoresVariable};
+ghost use Rattle.reading.specs.Contract.{run, Ready, Enters, Names, AfterNames, Values, AfterEnum, read_enum_members_of, Surrounds, BaseRead, Ends, dimensions_of_lem};
 
 use format::Header;
 use names::{Name, NameError, read_name};
 use primitives::{
-    copy_bytes, high4, low4, name_padding, offset_bytes_for_size, put_row, read_uint, skipped_bytes,
+    capped, copy_bytes, high4, low4, name_padding, offset_bytes_for_size, put_row, read_uint,
+    scaled, skipped_bytes,
 };
-use reading::{Base, Limits, State, end_row};
+use reading::{Around, Cursor, Limits, State, end_row};
 use refusal::Refusal;
 
 // The number of members of a compound or an enumeration.
 pub fn member_count(header: Header) -> u32
     ensures { (result ≡ count_of header) × (result < 65536) }
 {
-    u32::from(header.f0) + 256 * u32::from(header.f1)
+    u32::from(u16::from_le_bytes([header.f0, header.f1]))
 }
 
 // A member's row, by its kind (12 of a compound, 13 of an enumeration): its offset, where its name lies in the pool, its value's length.
@@ -71,21 +72,19 @@ fn begin_member(
     data: &[u8],
     pool: &mut [u8],
     limits: Limits,
-    at: usize,
-    used: usize,
-    pooled: usize,
+    start: Cursor,
 ) -> Result<Name, Refusal>
-    requires { ((pooled ≤ limits.pool) × (limits.pool ≤ length pool.old)) × ((limits.pool ≤ 65536) × (at ≤ length «data».now + 7)) }
-    ensures { NameBegins «data».now limits at used pooled result pool.old pool.new }
+    requires { ((start.pooled ≤ limits.pool) × (limits.pool ≤ length pool.old)) × ((limits.pool ≤ 65536) × (start.at ≤ length «data».now + 7)) }
+    ensures { NameBegins «data».now limits start.at start.rows start.pooled result pool.old pool.new }
 {
-    if limits.rows <= used {
+    if limits.rows <= start.rows {
         return Err(Refusal::TooMany);
     }
-    match read_name(data, at, pool, pooled, limits.pool) {
-        Ok(name) => Ok(name),
-        Err(NameError::Missing) => Err(Refusal::Short(at + 1, data.len())),
-        Err(NameError::Full) => Err(Refusal::PoolFull),
-    }
+    let rest = &data[start.at.min(data.len())..];
+    read_name(rest, &mut pool[start.pooled..limits.pool]).map_err(|e| match e {
+        NameError::Missing => Refusal::Short(start.at + 1, data.len()),
+        NameError::Full => Refusal::PoolFull,
+    })
 }
 
 // One member up to its type: its row and name are stored.
@@ -94,18 +93,16 @@ pub fn enter_member(
     table: &mut [u32],
     pool: &mut [u8],
     limits: Limits,
-    at: usize,
-    used: usize,
-    pooled: usize,
+    start: Cursor,
     version: u8,
     size: u32,
-) -> Result<State, Refusal>
-    requires { Ready limits used pooled table.old pool.old × (at ≤ length «data».now + 7) }
-    ensures { Enters «data».now limits version size at used pooled result table.old table.new pool.old pool.new }
+) -> Result<Cursor, Refusal>
+    requires { Ready limits start.rows start.pooled table.old pool.old × (start.at ≤ length «data».now + 7) }
+    ensures { Enters «data».now limits version size start result table.old table.new pool.old pool.new }
 {
-    let name = begin_member(data, pool, limits, at, used, pooled)?;
+    let name = begin_member(data, pool, limits, start)?;
     let n = name.length + 1;
-    let from = at + n + name_padding(version, n);
+    let from = start.at + n + name_padding(version, n);
     let width = offset_bytes_for_size(version, size);
     if data.len() < from + width {
         return Err(Refusal::Short(from + width, data.len()));
@@ -115,12 +112,11 @@ pub fn enter_member(
         return Err(Refusal::Short(inner, data.len()));
     }
     let offset = read_uint(data, from, width);
-    put_member_row(table, used, 12, offset, pooled, name.stored, 0);
-    Ok(State {
+    put_member_row(table, start.rows, 12, offset, start.pooled, name.stored, 0);
+    Ok(Cursor {
         at: inner,
-        rows: used + 1,
-        pooled: pooled + name.stored,
-        size: 0,
+        rows: start.rows + 1,
+        pooled: start.pooled + name.stored,
     })
 }
 
@@ -130,23 +126,20 @@ fn enter_enum_member(
     table: &mut [u32],
     pool: &mut [u8],
     limits: Limits,
-    at: usize,
-    used: usize,
-    pooled: usize,
+    start: Cursor,
     version: u8,
     width: u32,
-) -> Result<State, Refusal>
-    requires { Ready limits used pooled table.old pool.old × (at ≤ length «data».now + 7) }
-    ensures { Names «data».now limits version width at used pooled result table.old table.new pool.old pool.new }
+) -> Result<Cursor, Refusal>
+    requires { Ready limits start.rows start.pooled table.old pool.old × (start.at ≤ length «data».now + 7) }
+    ensures { Names «data».now limits version width start result table.old table.new pool.old pool.new }
 {
-    let name = begin_member(data, pool, limits, at, used, pooled)?;
+    let name = begin_member(data, pool, limits, start)?;
     let n = name.length + 1;
-    put_member_row(table, used, 13, 0, pooled, name.stored, width);
-    Ok(State {
-        at: at + n + name_padding(version, n),
-        rows: used + 1,
-        pooled: pooled + name.stored,
-        size: 0,
+    put_member_row(table, start.rows, 13, 0, start.pooled, name.stored, width);
+    Ok(Cursor {
+        at: start.at + n + name_padding(version, n),
+        rows: start.rows + 1,
+        pooled: start.pooled + name.stored,
     })
 }
 
@@ -156,30 +149,20 @@ fn read_names(
     table: &mut [u32],
     pool: &mut [u8],
     limits: Limits,
-    start: State,
+    start: Cursor,
     version: u8,
     count: usize,
     width: u32,
-) -> Result<State, Refusal>
+) -> Result<Cursor, Refusal>
     requires { Ready limits start.rows start.pooled table.old pool.old × (start.at ≤ length «data».now + 7) }
     ensures { AfterNames count width (run (read_names_of version count) «data».now limits start.at start.rows start.pooled)
         «data».now limits start.rows start.pooled result table.old table.new pool.old pool.new }
 {
-    let mut at = start.at;
-    let mut rows = start.rows;
-    let mut pooled = start.pooled;
-    for _i in 0..count {
-        let next = enter_enum_member(data, table, pool, limits, at, rows, pooled, version, width)?;
-        at = next.at;
-        rows = next.rows;
-        pooled = next.pooled;
+    let mut next = start;
+    for _ in 0..count {
+        next = enter_enum_member(data, table, pool, limits, next, version, width)?;
     }
-    Ok(State {
-        at: at,
-        rows: rows,
-        pooled: pooled,
-        size: 0,
-    })
+    Ok(next)
 }
 
 // All values of an enumeration, each as long as the base's size.
@@ -187,51 +170,47 @@ fn read_values(
     data: &[u8],
     pool: &mut [u8],
     limits: Limits,
-    start: State,
+    start: Cursor,
     count: usize,
     width: usize,
-) -> Result<State, Refusal>
+) -> Result<Cursor, Refusal>
     requires { (((start.pooled ≤ limits.pool) × (limits.pool ≤ length pool.old)) × (start.at ≤ length «data».now + 7)) × ((0 < width) × (width < 4294967296)) }
     ensures { (bs : List (List ℕ)) → length bs ≡ count → Values bs (run (read_values_of width bs) «data».now limits start.at start.rows start.pooled) width
         «data».now limits start.rows start.pooled result pool.old pool.new }
 {
-    let mut at = start.at;
-    let mut pooled = start.pooled;
-    for _i in 0..count {
-        if data.len() < at + width {
-            return Err(Refusal::Short(at + width, data.len()));
+    let mut next = start;
+    for _ in 0..count {
+        if data.len() < next.at + width {
+            return Err(Refusal::Short(next.at + width, data.len()));
         }
-        if limits.pool - pooled < width {
+        if limits.pool - next.pooled < width {
             return Err(Refusal::PoolFull);
         }
-        copy_bytes(data, at, width, pool, pooled);
-        at += width;
-        pooled += width;
+        copy_bytes(data, next.at, width, pool, next.pooled);
+        next.at += width;
+        next.pooled += width;
     }
-    Ok(State {
-        at: at,
-        rows: start.rows,
-        pooled: pooled,
-        size: 0,
-    })
+    Ok(next)
 }
 
-// Names, then values.
+// Names, then values as long as the base's size.
 fn read_enum_members(
     data: &[u8],
     table: &mut [u32],
     pool: &mut [u8],
     limits: Limits,
-    start: State,
+    base: State,
     version: u8,
     count: usize,
-) -> Result<State, Refusal>
-    requires { (Ready limits start.rows start.pooled table.old pool.old × (start.at ≤ length «data».now + 7)) × (0 < start.size) }
-    ensures { AfterEnum count (run (read_enum_members_of version count start.size) «data».now limits start.at start.rows start.pooled)
-        «data».now limits start.rows start.pooled result table.old table.new pool.old pool.new }
+) -> Result<Cursor, Refusal>
+    requires { (Ready limits base.end.rows base.end.pooled table.old pool.old × (base.end.at ≤ length «data».now + 7)) × (0 < base.size) }
+    ensures { AfterEnum count (run (read_enum_members_of version count base.size) «data».now limits base.end.at base.end.rows base.end.pooled)
+        «data».now limits base.end.rows base.end.pooled result table.old table.new pool.old pool.new }
 {
-    let named = read_names(data, table, pool, limits, start, version, count, start.size)?;
-    read_values(data, pool, limits, named, count, start.size as usize)
+    let named = read_names(
+        data, table, pool, limits, base.end, version, count, base.size,
+    )?;
+    read_values(data, pool, limits, named, count, base.size as usize)
 }
 
 // Class 8, behind its base.
@@ -243,16 +222,13 @@ fn end_enumeration(
     used: usize,
     pooled: usize,
     header: Header,
-    base: Base,
     inner: State,
 ) -> Result<State, Refusal>
-    requires { (((Ready limits inner.rows inner.pooled table.old pool.old × (inner.at ≤ length «data».now + 7)) × (0 < inner.size)) × ((used < limits.rows) × (used < inner.rows)))
-        × ((class_kind header.class ≡ isEnumeration) × (base.rank ≡ 0)) }
-    ensures { Ends «data».now limits used pooled header (dimensions_of_lem «data».now base) inner.at inner.rows inner.pooled inner.size result
-        table.old table.new pool.old pool.new }
+    requires { BaseRead «data».now limits used pooled [] inner table.old pool.old × (class_kind header.class ≡ isEnumeration) }
+    ensures { Ends «data».now limits used pooled header [] inner result table.old table.new pool.old pool.new }
 {
     let count = member_count(header);
-    let members = read_enum_members(
+    let end = read_enum_members(
         data,
         table,
         pool,
@@ -266,65 +242,32 @@ fn end_enumeration(
         used,
         header.class,
         [9, header.size, 0, 0, count, 0, 0, 0, 0, 0, 0, 0, 0, 0, 0, 0],
-        State {
-            size: header.size,
-            ..members
-        },
+        end,
+        header.size,
     )
 }
 
-// Class 9, behind its base.
-fn end_variable(
-    data: &[u8],
-    table: &mut [u32],
-    pool: &mut [u8],
-    limits: Limits,
-    used: usize,
-    pooled: usize,
-    header: Header,
-    base: Base,
-    inner: State,
-) -> Result<State, Refusal>
-    requires { (((Ready limits inner.rows inner.pooled table.old pool.old × (inner.at ≤ length «data».now + 7)) × (0 < inner.size)) × ((used < limits.rows) × (used < inner.rows)))
-        × ((class_kind header.class ≡ isVariableLength) × (base.rank ≡ 0)) }
-    ensures { Ends «data».now limits used pooled header (dimensions_of_lem «data».now base) inner.at inner.rows inner.pooled inner.size result
-        table.old table.new pool.old pool.new }
+// The row of class 9: a string's codes are stored plus 1.
+fn put_variable_row(table: &mut [u32], used: usize, header: Header)
+    requires { used * 16 + 16 ≤ length table.old }
+    ensures { StoresVariable header used table.old table.new }
 {
-    let kind = low4(header.f0);
-    if kind == 1 {
-        let padding = u32::from(high4(header.f0)) + 1;
-        let charset = u32::from(low4(header.f1)) + 1;
-        put_row(
-            table,
-            used,
-            [10, 0, 0, 0, 0, 1, padding, charset, 0, 0, 0, 0, 0, 0, 0, 0],
-        );
+    let (string, padding, charset) = if low4(header.f0) == 1 {
+        (
+            1,
+            u32::from(high4(header.f0)) + 1,
+            u32::from(low4(header.f1)) + 1,
+        )
     } else {
-        put_row(
-            table,
-            used,
-            [10, 0, 0, 0, 0, 0, 0, 0, 0, 0, 0, 0, 0, 0, 0, 0],
-        );
-    }
-    Ok(State {
-        at: inner.at,
-        rows: inner.rows,
-        pooled: inner.pooled,
-        size: 16,
-    })
-}
-
-// A size times dimensions, at most 4,294,967,295.
-fn scaled_size(data: &[u8], start: usize, rank: usize, size: u32) -> u32
-    requires { start + 4 * rank ≤ length «data».now }
-    ensures { result ≡ min (size * product (dimensions_from rank (take (4 * rank) (drop start «data».now)))) 4294967295 }
-{
-    let mut scaled = u64::from(size);
-    for i in 0..rank {
-        let dimension = u64::from(read_uint(data, start + 4 * i, 4));
-        scaled = (scaled * dimension).min(4294967295);
-    }
-    scaled as u32
+        (0, 0, 0)
+    };
+    put_row(
+        table,
+        used,
+        [
+            10, 0, 0, 0, 0, string, padding, charset, 0, 0, 0, 0, 0, 0, 0, 0,
+        ],
+    );
 }
 
 // Class 10, behind its base: the dimensions are stored in front of the base's pool bytes.
@@ -336,16 +279,17 @@ fn end_array(
     used: usize,
     pooled: usize,
     header: Header,
-    base: Base,
+    start: usize,
+    rank: usize,
     inner: State,
 ) -> Result<State, Refusal>
-    requires { (((Ready limits inner.rows inner.pooled table.old pool.old × (inner.at ≤ length «data».now + 7)) × (0 < inner.size)) × ((used < limits.rows) × (used < inner.rows)))
-        × (((class_kind header.class ≡ isArray) × (base.rank ≤ 255)) × ((base.start + 4 * base.rank ≤ length «data».now) × (pooled + 4 * base.rank ≤ inner.pooled))) }
-    ensures { Ends «data».now limits used pooled header (dimensions_of_lem «data».now base) inner.at inner.rows inner.pooled inner.size result
+    requires { BaseRead «data».now limits used pooled (dimensions_from rank (take (4 * rank) (drop start «data».now))) inner table.old pool.old
+        × ((class_kind header.class ≡ isArray) × (rank ≤ 255) × (start + 4 * rank ≤ length «data».now)) }
+    ensures { Ends «data».now limits used pooled header (dimensions_from rank (take (4 * rank) (drop start «data».now))) inner result
         table.old table.new pool.old pool.new }
 {
-    let size = scaled_size(data, base.start, base.rank, inner.size);
-    copy_bytes(data, base.start, 4 * base.rank, pool, pooled);
+    let size = capped(scaled(data, start, rank as u32, inner.size));
+    copy_bytes(data, start, 4 * rank, pool, pooled);
     end_row(
         table,
         used,
@@ -354,7 +298,7 @@ fn end_array(
             11,
             0,
             pooled as u32,
-            base.rank as u32,
+            rank as u32,
             0,
             0,
             0,
@@ -368,15 +312,12 @@ fn end_array(
             0,
             0,
         ],
-        State {
-            size: size,
-            ..inner
-        },
+        inner.end,
+        size,
     )
 }
 
-// What stands behind the base of a class 8, 9 or 10 type, and the type's own row. The base was read as a message of its own: `inner` counts
-// from where that begins.
+// What stands behind the base of a class 8, 9 or 10 type, which was read up to `inner`, and the type's own row.
 // Inlined, so that the answers of `read_type` of the reader stay in registers.
 #[inline(always)]
 pub fn end_based(
@@ -387,23 +328,27 @@ pub fn end_based(
     used: usize,
     pooled: usize,
     header: Header,
-    base: Base,
+    around: Around,
     inner: State,
 ) -> Result<State, Refusal>
-    requires { OpensBased «data».now limits used pooled header base × BaseRead «data».now limits used base inner table.old pool.old }
-    ensures { Ends «data».now limits used pooled header (dimensions_of_lem «data».now base) (base.from + inner.at) inner.rows inner.pooled inner.size result
-        table.old table.new pool.old pool.new }
+    requires { Surrounds «data».now (class_kind header.class) around × BaseRead «data».now limits used pooled (dimensions_of_lem «data».now around) inner table.old pool.old }
+    ensures { Ends «data».now limits used pooled header (dimensions_of_lem «data».now around) inner result table.old table.new pool.old pool.new }
 {
-    let outer = State {
-        at: base.from + inner.at,
-        rows: inner.rows,
-        pooled: inner.pooled,
-        size: inner.size,
-    };
-    let class = header.class;
-    match class {
-        8 => end_enumeration(data, table, pool, limits, used, pooled, header, base, outer),
-        9 => end_variable(data, table, pool, limits, used, pooled, header, base, outer),
-        _ => end_array(data, table, pool, limits, used, pooled, header, base, outer),
+    match around {
+        Around::Enumeration => {
+            end_enumeration(data, table, pool, limits, used, pooled, header, inner)
+        }
+        Around::VariableLength => {
+            put_variable_row(table, used, header);
+            Ok(State {
+                end: inner.end,
+                size: 16,
+            })
+        }
+        Around::Array(start, rank) => {
+            end_array(
+                data, table, pool, limits, used, pooled, header, start, rank, inner,
+            )
+        }
     }
 }

@@ -1,42 +1,40 @@
-// The types with no type inside: classes 0 to 5 and 7. Each checks its codes, seeks its properties whole, and stores its row.
+// The types with no type inside: classes 0 to 5 and 7. Each checks its codes and seeks its properties whole; `read_leaf` stores the
+// row.
 #![tactic(auto)]
 
-ghost use Rattle.std.specs.Prelude.{◌≡◌, true, ℕ, ◌+◌, ◌<◌, ◌≤◌, length};
+ghost use Rattle.std.specs.Prelude.{◌≡◌, ◌+◌, ◌<◌, ◌≤◌, length};
 ghost use Rattle.format.specs.Reading.{class_kind, sized};
-ghost use Rattle.format.specs.Table.{is_leaf, isFixedPoint, isFloatingPoint, isTime, is_string_of, isBitField, isOpaque, isReference};
 ghost use Rattle.reading.specs.Contract.{run, Ready, AfterType, leaf_kind, read_leaf_of};
+ghost use Rattle.reading.specs.declared.LeafKind.{LeafKind};
+ghost use Rattle.reading.specs.declared.LeafKind.TheVariants.{FloatingPoint, Time, String, Opaque, Reference};
+ghost use Rattle.reader_leaf.specs.Describing.{Describes, IsBits};
 
 use format::Header;
 use primitives::{bit, copy_bytes, float_order, high4, low4, padding_to_8, read_uint};
-use reading::{Limits, State, end_row};
+use reading::{Cursor, LeafKind, Limits, State, check_codes, end_row};
 use refusal::Refusal;
 
-fn read_fixed_point(
-    data: &[u8],
-    table: &mut [u32],
-    pool: &mut [u8],
-    limits: Limits,
-    used: usize,
-    pooled: usize,
-    header: Header,
-) -> Result<State, Refusal>
-    requires { ((Ready limits used pooled table.old pool.old × (used < limits.rows)) × (8 ≤ length «data».now)) × (class_kind header.class ≡ is_leaf isFixedPoint) }
-    ensures { AfterType (run (sized header (read_leaf_of header)) «data».now limits 8 (used + 1) pooled)
-        «data».now limits used pooled result table.old table.new pool.old pool.new }
+// The words of a leaf's row, and where its properties end.
+#[derive(Clone, Copy)]
+struct Properties {
+    words: [u32; 16],
+    end: usize,
+}
+
+// A fixed point's or a bit field's, by its kind; a bit field is not signed.
+#[inline(always)]
+fn read_bits(data: &[u8], header: Header, kind: u32, signed: u32) -> Result<Properties, Refusal>
+    ensures { (k : LeafKind) → IsBits k header kind signed → Describes «data».now header k result }
 {
     if data.len() < 12 {
         return Err(Refusal::Short(12, data.len()));
     }
     let order = bit(header.f0, 0);
-    let signed = bit(header.f0, 3);
     let offset = read_uint(data, 8, 2);
     let precision = read_uint(data, 10, 2);
-    end_row(
-        table,
-        used,
-        header.class,
-        [
-            1,
+    Ok(Properties {
+        words: [
+            kind,
             header.size,
             0,
             0,
@@ -53,27 +51,13 @@ fn read_fixed_point(
             0,
             0,
         ],
-        State {
-            at: 12,
-            rows: used + 1,
-            pooled: pooled,
-            size: header.size,
-        },
-    )
+        end: 12,
+    })
 }
 
-fn read_floating_point(
-    data: &[u8],
-    table: &mut [u32],
-    pool: &mut [u8],
-    limits: Limits,
-    used: usize,
-    pooled: usize,
-    header: Header,
-) -> Result<State, Refusal>
-    requires { ((Ready limits used pooled table.old pool.old × (used < limits.rows)) × (8 ≤ length «data».now)) × (class_kind header.class ≡ is_leaf isFloatingPoint) }
-    ensures { AfterType (run (sized header (read_leaf_of header)) «data».now limits 8 (used + 1) pooled)
-        «data».now limits used pooled result table.old table.new pool.old pool.new }
+#[inline(always)]
+fn read_floating_point(data: &[u8], header: Header) -> Result<Properties, Refusal>
+    ensures { Describes «data».now header FloatingPoint result }
 {
     if data.len() < 20 {
         return Err(Refusal::Short(20, data.len()));
@@ -86,11 +70,8 @@ fn read_floating_point(
     let mantissa_location = u32::from(data[14]);
     let mantissa_size = u32::from(data[15]);
     let bias = read_uint(data, 16, 4);
-    end_row(
-        table,
-        used,
-        header.class,
-        [
+    Ok(Properties {
+        words: [
             2,
             header.size,
             0,
@@ -108,38 +89,21 @@ fn read_floating_point(
             0,
             0,
         ],
-        State {
-            at: 20,
-            rows: used + 1,
-            pooled: pooled,
-            size: header.size,
-        },
-    )
+        end: 20,
+    })
 }
 
-fn read_time(
-    data: &[u8],
-    table: &mut [u32],
-    pool: &mut [u8],
-    limits: Limits,
-    used: usize,
-    pooled: usize,
-    header: Header,
-) -> Result<State, Refusal>
-    requires { ((Ready limits used pooled table.old pool.old × (used < limits.rows)) × (8 ≤ length «data».now)) × (class_kind header.class ≡ is_leaf isTime) }
-    ensures { AfterType (run (sized header (read_leaf_of header)) «data».now limits 8 (used + 1) pooled)
-        «data».now limits used pooled result table.old table.new pool.old pool.new }
+#[inline(always)]
+fn read_time(data: &[u8], header: Header) -> Result<Properties, Refusal>
+    ensures { Describes «data».now header Time result }
 {
     if data.len() < 10 {
         return Err(Refusal::Short(10, data.len()));
     }
     let order = bit(header.f0, 0);
     let precision = read_uint(data, 8, 2);
-    end_row(
-        table,
-        used,
-        header.class,
-        [
+    Ok(Properties {
+        words: [
             3,
             header.size,
             0,
@@ -157,47 +121,20 @@ fn read_time(
             0,
             0,
         ],
-        State {
-            at: 10,
-            rows: used + 1,
-            pooled: pooled,
-            size: header.size,
-        },
-    )
+        end: 10,
+    })
 }
 
-fn read_string(
-    data: &[u8],
-    table: &mut [u32],
-    pool: &mut [u8],
-    limits: Limits,
-    used: usize,
-    pooled: usize,
-    header: Header,
-) -> Result<State, Refusal>
-    requires { ((Ready limits used pooled table.old pool.old × (used < limits.rows)) × (8 ≤ length «data».now)) × (class_kind header.class ≡ is_leaf is_string_of) }
-    ensures { AfterType (run (sized header (read_leaf_of header)) «data».now limits 8 (used + 1) pooled)
-        «data».now limits used pooled result table.old table.new pool.old pool.new }
+#[inline(always)]
+fn read_string(data: &[u8], header: Header) -> Result<Properties, Refusal>
+    requires { 8 ≤ length «data».now }
+    ensures { Describes «data».now header String result }
 {
     let padding = low4(header.f0);
-    match padding {
-        0..=2 => {}
-        _ => {
-            return Err(Refusal::BadPadding(padding));
-        }
-    }
     let charset = high4(header.f0);
-    match charset {
-        0..=1 => {}
-        _ => {
-            return Err(Refusal::BadCharset(charset));
-        }
-    }
-    end_row(
-        table,
-        used,
-        header.class,
-        [
+    check_codes(padding, charset)?;
+    Ok(Properties {
+        words: [
             4,
             header.size,
             0,
@@ -215,48 +152,30 @@ fn read_string(
             0,
             0,
         ],
-        State {
-            at: 8,
-            rows: used + 1,
-            pooled: pooled,
-            size: header.size,
-        },
-    )
+        end: 8,
+    })
 }
 
-fn read_bit_field(
-    data: &[u8],
-    table: &mut [u32],
-    pool: &mut [u8],
-    limits: Limits,
-    used: usize,
-    pooled: usize,
-    header: Header,
-) -> Result<State, Refusal>
-    requires { ((Ready limits used pooled table.old pool.old × (used < limits.rows)) × (8 ≤ length «data».now)) × (class_kind header.class ≡ is_leaf isBitField) }
-    ensures { AfterType (run (sized header (read_leaf_of header)) «data».now limits 8 (used + 1) pooled)
-        «data».now limits used pooled result table.old table.new pool.old pool.new }
+#[inline(always)]
+fn read_reference(data: &[u8], header: Header) -> Result<Properties, Refusal>
+    requires { 8 ≤ length «data».now }
+    ensures { Describes «data».now header Reference result }
 {
-    if data.len() < 12 {
-        return Err(Refusal::Short(12, data.len()));
+    let kind = low4(header.f0);
+    if kind > 1 {
+        return Err(Refusal::BadReferenceKind(kind));
     }
-    let order = bit(header.f0, 0);
-    let offset = read_uint(data, 8, 2);
-    let precision = read_uint(data, 10, 2);
-    end_row(
-        table,
-        used,
-        header.class,
-        [
-            5,
+    Ok(Properties {
+        words: [
+            8,
             header.size,
             0,
             0,
             0,
-            order,
+            u32::from(kind),
             0,
-            offset,
-            precision,
+            0,
+            0,
             0,
             0,
             0,
@@ -265,16 +184,11 @@ fn read_bit_field(
             0,
             0,
         ],
-        State {
-            at: 12,
-            rows: used + 1,
-            pooled: pooled,
-            size: header.size,
-        },
-    )
+        end: 8,
+    })
 }
 
-// The tag's padding is counted, and need not be there.
+// The only leaf with pool bytes. The tag's padding is counted, and need not be there.
 fn read_opaque(
     data: &[u8],
     table: &mut [u32],
@@ -284,7 +198,7 @@ fn read_opaque(
     pooled: usize,
     header: Header,
 ) -> Result<State, Refusal>
-    requires { ((Ready limits used pooled table.old pool.old × (used < limits.rows)) × (8 ≤ length «data».now)) × (class_kind header.class ≡ is_leaf isOpaque) }
+    requires { ((Ready limits used pooled table.old pool.old × (used < limits.rows)) × (8 ≤ length «data».now)) × (class_kind header.class ≡ leaf_kind Opaque) }
     ensures { AfterType (run (sized header (read_leaf_of header)) «data».now limits 8 (used + 1) pooled)
         «data».now limits used pooled result table.old table.new pool.old pool.new }
 {
@@ -318,67 +232,16 @@ fn read_opaque(
             0,
             0,
         ],
-        State {
+        Cursor {
             at: 8 + n + padding_to_8(n),
             rows: used + 1,
             pooled: pooled + n,
-            size: header.size,
         },
+        header.size,
     )
 }
 
-fn read_reference(
-    data: &[u8],
-    table: &mut [u32],
-    pool: &mut [u8],
-    limits: Limits,
-    used: usize,
-    pooled: usize,
-    header: Header,
-) -> Result<State, Refusal>
-    requires { ((Ready limits used pooled table.old pool.old × (used < limits.rows)) × (8 ≤ length «data».now)) × (class_kind header.class ≡ is_leaf isReference) }
-    ensures { AfterType (run (sized header (read_leaf_of header)) «data».now limits 8 (used + 1) pooled)
-        «data».now limits used pooled result table.old table.new pool.old pool.new }
-{
-    let kind = low4(header.f0);
-    match kind {
-        0..=1 => {}
-        _ => {
-            return Err(Refusal::BadReferenceKind(kind));
-        }
-    }
-    end_row(
-        table,
-        used,
-        header.class,
-        [
-            8,
-            header.size,
-            0,
-            0,
-            0,
-            u32::from(kind),
-            0,
-            0,
-            0,
-            0,
-            0,
-            0,
-            0,
-            0,
-            0,
-            0,
-        ],
-        State {
-            at: 8,
-            rows: used + 1,
-            pooled: pooled,
-            size: header.size,
-        },
-    )
-}
-
-// A type with no type inside, behind its header.
+// A type with no type inside, behind its header; its kind is that which `open_headed` gives of the header.
 pub fn read_leaf(
     data: &[u8],
     table: &mut [u32],
@@ -387,19 +250,33 @@ pub fn read_leaf(
     used: usize,
     pooled: usize,
     header: Header,
+    leaf: LeafKind,
 ) -> Result<State, Refusal>
-    requires { ((Ready limits used pooled table.old pool.old × (used < limits.rows)) × (8 ≤ length «data».now)) × (leaf_kind (class_kind header.class) ≡ true) }
+    requires { ((Ready limits used pooled table.old pool.old × (used < limits.rows)) × (8 ≤ length «data».now)) × (class_kind header.class ≡ leaf_kind leaf) }
     ensures { AfterType (run (sized header (read_leaf_of header)) «data».now limits 8 (used + 1) pooled)
         «data».now limits used pooled result table.old table.new pool.old pool.new }
 {
-    let class = header.class;
-    match class {
-        0 => read_fixed_point(data, table, pool, limits, used, pooled, header),
-        1 => read_floating_point(data, table, pool, limits, used, pooled, header),
-        2 => read_time(data, table, pool, limits, used, pooled, header),
-        3 => read_string(data, table, pool, limits, used, pooled, header),
-        4 => read_bit_field(data, table, pool, limits, used, pooled, header),
-        5 => read_opaque(data, table, pool, limits, used, pooled, header),
-        _ => read_reference(data, table, pool, limits, used, pooled, header),
-    }
+    let properties = match leaf {
+        LeafKind::FixedPoint => read_bits(data, header, 1, bit(header.f0, 3)),
+        LeafKind::FloatingPoint => read_floating_point(data, header),
+        LeafKind::Time => read_time(data, header),
+        LeafKind::String => read_string(data, header),
+        LeafKind::BitField => read_bits(data, header, 5, 0),
+        LeafKind::Opaque => {
+            return read_opaque(data, table, pool, limits, used, pooled, header);
+        }
+        LeafKind::Reference => read_reference(data, header),
+    }?;
+    end_row(
+        table,
+        used,
+        header.class,
+        properties.words,
+        Cursor {
+            at: properties.end,
+            rows: used + 1,
+            pooled,
+        },
+        header.size,
+    )
 }

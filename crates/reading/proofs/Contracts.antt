@@ -1,6 +1,7 @@
 -- Laws that put a contract together, or take one apart.
 use Rattle.std.specs.Prelude.{Err, Ok, Result}
 use mathlib.Core.Path.{◌≡◌, refl, sym, ap, ◌∙◌}
+use mathlib.Core.Logic.{⊎_elim}
 use mathlib.Core.List.{List, [], ◌∷◌, ◌++◌}
 use Prim.Native.Nat.{ℕ, suc, ◌+◌, ◌-◌, ◌*◌, ◌<◌, ◌≤◌}
 use native.Mathlib.Omega.{arith}
@@ -9,14 +10,15 @@ use lib.Seq.{sets, length-sets, set_comm}
 use Rattle.std.specs.Result.{IsErr, IsErrAnd}
 use Rattle.std.proofs.lemmas.Result.{err_from_is_err_and}
 use Rattle.refusal.specs.declared.Refusal.{Refusal}
-use Rattle.refusal.specs.declared.Refusal.TheVariants.{ZeroSize}
+use Rattle.refusal.specs.declared.Refusal.TheVariants.{BadPadding, BadCharset, ZeroSize}
 use Rattle.format.specs.Datatype.{Datatype, type_size_of, row_count, pool_bytes}
 use Rattle.format.specs.Reading.{Answer, refused}
 use Rattle.format.specs.Table.{rows}
 use Rattle.format.proofs.Lists.{part-all}
 use Rattle.reading.specs.declared.Limits.{Limits}
+use Rattle.reading.specs.declared.Cursor.{Cursor}
 use Rattle.reading.specs.declared.State.{State}
-use Rattle.reading.specs.Contract.{here, Ready, Landed, After, EndsRow}
+use Rattle.reading.specs.Contract.{here, Ready, Landed, After, EndsRow, StringCodes}
 
 -- a property of what is returned, by cases: a result, or a refusal
 module _ {A : Type 0} (P : A → Type 0) where
@@ -37,15 +39,15 @@ module _ {A : Type 0} (P : Refusal → Type 0) where
 pub passed_on : {A : Type 0} {e : Refusal} (r : Result A Refusal) → IsErr r × IsErrAnd r (λ x. x ≡ e) → r ≡ Err e
 passed_on r h = let p = err_from_is_err_and r h.1 in rw (p.1, p.2)
 
-module _ {A : Type 0} {words : ℕ → A → List ℕ} {bytes : A → List ℕ} {count : A → ℕ} {Q : A → State → Type 0} {d : List ℕ} {lim : Limits} {used pooled : ℕ} {t t' p p' : List ℕ} {o : Answer A} where
+module _ {A S : Type 0} {end : S → Cursor} {words : ℕ → A → List ℕ} {bytes : A → List ℕ} {count : A → ℕ} {Q : S → A → Type 0} {d : List ℕ} {lim : Limits} {used pooled : ℕ} {t t' p p' : List ℕ} {o : Answer A} where
   -- what equals an answer has its contract
-  pub same : {o' : Answer A} {r : Result State Refusal} → o ≡ o' → After words bytes count Q o' d lim used pooled r t t' p p' → After words bytes count Q o d lim used pooled r t t' p p'
+  pub same : {o' : Answer A} {r : Result S Refusal} → o ≡ o' → After end words bytes count Q o' d lim used pooled r t t' p p' → After end words bytes count Q o d lim used pooled r t t' p p'
   same e w = rw e w
 
-  pub lands : {s : State} → Landed words bytes count Q o d lim used pooled s t t' p p' → After words bytes count Q o d lim used pooled (Ok s) t t' p p'
+  pub lands : {s : S} → Landed words bytes count (Q s) o d lim used pooled (end s) t t' p p' → After end words bytes count Q o d lim used pooled (Ok s) t t' p p'
   lands w = record { done = by_done _ w; denied = not-refused _ }
 
-  pub refuses : {e : Refusal} → o ≡ refused e → After words bytes count Q o d lim used pooled (Err e) t t' p p'
+  pub refuses : {e : Refusal} → o ≡ refused e → After end words bytes count Q o d lim used pooled (Err e) t t' p p'
   refuses q = record { done = not_done _; denied = by_refused (λ e. o ≡ refused e) q }
 
 -- rows and bytes more are used, and the table and the pool keep their lengths
@@ -57,14 +59,14 @@ ready_at u v r a b e f =
     record { filled = a; few = r.few; table = omega arith; room = b; small = r.small; pool = omega arith }
 
 -- a type of one row
-pub one-row : (tree : Datatype) (w b : List ℕ) {o : Answer Datatype} {d : List ℕ} {lim : Limits} {used pooled : ℕ} {s : State} {t t' p p' : List ℕ}
-    → o ≡ here tree d lim s → rows pooled tree ≡ w → pool_bytes tree ≡ b → row_count tree ≡ 1 → (s.size ≡ type_size_of tree) × (0 < type_size_of tree) → s.rows ≡ used + 1 → s.pooled ≡ pooled + length b
+pub one-row : (tree : Datatype) (w b : List ℕ) {o : Answer Datatype} {d : List ℕ} {lim : Limits} {used pooled size : ℕ} {s : Cursor} {t t' p p' : List ℕ}
+    → o ≡ here tree d lim s → rows pooled tree ≡ w → pool_bytes tree ≡ b → row_count tree ≡ 1 → (size ≡ type_size_of tree) × (0 < type_size_of tree) → s.rows ≡ used + 1 → s.pooled ≡ pooled + length b
     → t' ≡ sets t (used * 16) w → p' ≡ sets p pooled b → Ready lim used pooled t p → used < lim.rows → s.pooled ≤ lim.pool → s.at ≤ length d + 7
-    → Landed rows pool_bytes row_count (λ t s. (s.size ≡ type_size_of t) × (0 < type_size_of t)) o d lim used pooled s t t' p p'
-one-row tree w b {used = used} {pooled = pooled} {s = s} {t = t} {p = p} is ew eb one size rs ps et ep ready free room near =
+    → Landed rows pool_bytes row_count (λ t. (size ≡ type_size_of t) × (0 < type_size_of t)) o d lim used pooled s t t' p p'
+one-row tree w b {used = used} {pooled = pooled} {s = s} {t = t} {p = p} is ew eb one sized rs ps et ep ready free room near =
     record {
       tree = tree;
-      such = size;
+      such = sized;
       is = is;
       rows_are = rs ∙ ap (λ (n : ℕ). used + n) (sym one);
       pooled_are = ps ∙ ap (λ (l : List ℕ). pooled + length l) (sym eb);
@@ -75,10 +77,15 @@ one-row tree w b {used = used} {pooled = pooled} {s = s} {t = t} {p = p} is ew e
     }
 
 -- what holds of both ways out of a type's own row holds of the answer
-pub by_row : (P : Result State Refusal → Type 0) {used class : ℕ} {words : List ℕ} {end : State} {t t' : List ℕ} (r : Result State Refusal) → EndsRow used class words end r t t'
-    → (0 < end.size → t' ≡ sets t (used * 16) words → P (Ok end)) → (end.size ≡ 0 → P (Err (ZeroSize class))) → P r
+pub by_row : (P : Result State Refusal → Type 0) {used class : ℕ} {words : List ℕ} {end : Cursor} {size : ℕ} {t t' : List ℕ} (r : Result State Refusal) → EndsRow used class words end size r t t'
+    → (0 < size → t' ≡ sets t (used * 16) words → P (Ok (record { end = end; size = size }))) → (size ≡ 0 → P (Err (ZeroSize class))) → P r
 by_row P (Ok s) x f g = let e = x.done s refl in rw e.0 (f e.1 e.2)
 by_row P (Err k) x f g = let e = x.denied k refl in rw e.0 (g e.1)
+
+-- what holds of a padding that is refused, and of a charset, holds of the refusal
+pub by_code : (P : Refusal → Type 0) {padding charset : ℕ} {r : Result (Unit {0}) Refusal} {e : Refusal} → StringCodes padding charset r → r ≡ Err e
+    → (2 < padding → P (BadPadding padding)) → (padding ≤ 2 → 1 < charset → P (BadCharset charset)) → P e
+by_code P x q f g = ⊎_elim (λ h. rw h.1 (f h.0)) (λ h. rw h.2 (g h.0 h.1)) (x.unknown _ q)
 
 -- ---- facts in the form in which the code has or needs them
 

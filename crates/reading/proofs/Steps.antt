@@ -16,7 +16,7 @@ use Rattle.format.specs.Datatype.{Datatype, type_size_of}
 use Rattle.format.specs.Reading.{Answer, got, refused, Reader, then, require, bytes, skip, number, name_to, name, take_row, piece, moved, inner, header_of_lem, read_header, class_kind, read_properties, sized, read_type_of}
 use Rattle.format.proofs.Lists.{drop-take}
 use Rattle.reading.specs.declared.Limits.{Limits}
-use Rattle.reading.specs.declared.State.{State}
+use Rattle.reading.specs.declared.Cursor.{Cursor}
 use Rattle.reading.specs.Contract.{run, here}
 
 -- ---- steps in a row
@@ -161,7 +161,7 @@ module _ {A : Type 0} (rd : Reader A) (d d' : List ℕ) (at : ℕ) (part : d' �
   unfolding inner moved
   inner_no e q = rw (← part, q)
 
-  pub inner-go : (a : A) (s : State) → run rd d' lim 0 used pooled ≡ here a d' lim s
+  pub inner-go : (a : A) (s : Cursor) → run rd d' lim 0 used pooled ≡ here a d' lim s
       → run (inner rd) d lim at used pooled ≡ got a (at + s.at) (drop (at + s.at) d) (lim.rows - s.rows) (lim.pool - s.pooled)
   unfolding inner moved
   inner-go a s q =

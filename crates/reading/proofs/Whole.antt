@@ -45,28 +45,28 @@ zeroed l ys at h f =
 
 -- what the whole type took lies within what is lent
 module _ {d t t' p p' : List ℕ} {lim : Limits} {o : Answer Datatype} {r : Result State Refusal} {s : State} (n : AfterType o d lim 0 0 r t t' p p') (q : r ≡ Ok s) where
-  pub rows_fit : Fits w64 (s.rows * 16)
+  pub rows_fit : Fits w64 (s.end.rows * 16)
   rows_fit =
       let l = (n.done s q).ready in
       let f = l.filled in
       let m = l.few in
       record { fits = omega arith }
 
-  pub offset_fits : Fits w64 (s.rows * 16 * 4)
+  pub offset_fits : Fits w64 (s.end.rows * 16 * 4)
   offset_fits =
       let l = (n.done s q).ready in
       let f = l.filled in
       let m = l.few in
       record { fits = omega arith }
 
-  pub rows-held : s.rows * 16 ≤ length t'
+  pub rows-held : s.end.rows * 16 ≤ length t'
   rows-held =
       let l = (n.done s q).ready in
       let f = l.filled in
       let x = l.table in
       omega arith
 
-  pub pool-held : s.pooled ≤ length p'
+  pub pool-held : s.end.pooled ≤ length p'
   pool-held =
       let l = (n.done s q).ready in
       let m = l.room in
@@ -95,8 +95,8 @@ module _ {limit : ℕ} {d t t' p p' : List ℕ} {lim : Limits} {o : Answer Datat
       let b : length p' ≡ length p - 0 = omega arith in
       reads_as (refuses e) t'' p'' (begun ∙ ap read_outcome_of (sym is ∙ n.denied e q)) (ft (λ y z. z) ∙ ap (λ (k : ℕ). replicate k 0) a) (fp (λ y z. z) ∙ ap (λ (k : ℕ). replicate k 0) b)
 
-  pub whole-done : {s : State} {y z : List ℕ} → r ≡ Ok s → Filled (length (take (length t' - s.rows * 16) (drop (s.rows * 16) t'))) y → Filled (length (take (length p' - s.pooled) (drop s.pooled p'))) z
-      → Reads limit d t p (Ok s.at) (put_mid (s.rows * 16) (length t' - s.rows * 16) t' y) (put_mid s.pooled (length p' - s.pooled) p' z)
+  pub whole-done : {s : State} {y z : List ℕ} → r ≡ Ok s → Filled (length (take (length t' - s.end.rows * 16) (drop (s.end.rows * 16) t'))) y → Filled (length (take (length p' - s.end.pooled) (drop s.end.pooled p'))) z
+      → Reads limit d t p (Ok s.end.at) (put_mid (s.end.rows * 16) (length t' - s.end.rows * 16) t' y) (put_mid s.end.pooled (length p' - s.end.pooled) p' z)
   unfolding read_outcome_of table_after pool_after answer_of table_of pool_of
   whole-done {s} {y} {z} q ft fp =
       let w = n.done s q in
@@ -104,6 +104,6 @@ module _ {limit : ℕ} {d t t' p p' : List ℕ} {lim : Limits} {o : Answer Datat
       let b = w.pooled_are in
       let f = w.ready.filled in
       let m = w.ready.room in
-      reads_as (gives (record { type = w.tree; consumed = s.at })) _ _ (begun ∙ ap read_outcome_of (sym is ∙ w.is))
-      (filled_up (rows 0 w.tree) t t' _ (s.rows * 16) (length-rows w.tree 0 ∙ omega arith) (omega arith) w.table (zeroed t' y (s.rows * 16) (rows-held n q) ft))
-      (filled_up (pool_bytes w.tree) p p' _ s.pooled (omega arith) (omega arith) w.pool (zeroed p' z s.pooled (pool-held n q) fp))
+      reads_as (gives (record { type = w.tree; consumed = s.end.at })) _ _ (begun ∙ ap read_outcome_of (sym is ∙ w.is))
+      (filled_up (rows 0 w.tree) t t' _ (s.end.rows * 16) (length-rows w.tree 0 ∙ omega arith) (omega arith) w.table (zeroed t' y (s.end.rows * 16) (rows-held n q) ft))
+      (filled_up (pool_bytes w.tree) p p' _ s.end.pooled (omega arith) (omega arith) w.pool (zeroed p' z s.end.pooled (pool-held n q) fp))

@@ -1,16 +1,21 @@
 -- What the functions of the reader ensure, by what they return.
-use Rattle.std.specs.Prelude.{◌≡◌, Bool, true, false, List, [], ◌∷◌, ◌++◌, ℕ, suc, ◌+◌, ◌-◌, ◌*◌, ◌≤◌, ◌<◌, eqb, length, take, drop, Err, Ok, Result}
+use Rattle.std.specs.Prelude.{◌≡◌, ◌⊎◌, Bool, true, false, List, [], ◌∷◌, ◌++◌, ℕ, suc, ◌+◌, ◌-◌, ◌*◌, ◌≤◌, ◌<◌, eqb, length, take, drop, Err, Ok, Result}
 use Rattle.std.proofs.lemmas.List.Edits.{sets}
 use Rattle.refusal.specs.declared.Refusal.{Refusal}
-use Rattle.refusal.specs.declared.Refusal.TheVariants.{TooDeep, ZeroSize}
+use Rattle.refusal.specs.declared.Refusal.TheVariants.{TooDeep, BadPadding, BadCharset, ZeroSize}
 use Rattle.format.specs.declared.Header.{Header}
 use Rattle.format.specs.Bits.{low_bits, high_bits}
 use Rattle.format.specs.Bytes.{dimensions_from}
 use Rattle.format.specs.Datatype.{Datatype, compound, enumeration, variable_length, array, Members, member, EnumMember, enum_names, enum_values, member_count_of, type_size_of, row_count, member_row_count, pool_bytes, member_pool}
 use Rattle.format.specs.Reading.{Answer, got, refused, Reader, then, ◌>>=◌, give, refuse, inner, count_of, read_members_of, read_name_of, read_names_of, read_values_of, read_properties, class_kind, sized, read_type_of}
-use Rattle.format.specs.Table.{Kind, is_leaf, isCompound, isEnumeration, isVariableLength, isArray, isUnknown, rows, member_rows, member_row, enum_rows, enum_member_row}
+use Rattle.format.specs.Table.{Kind, is_leaf, isCompound, isEnumeration, isVariableLength, isArray, isUnknown, isFixedPoint, isFloatingPoint, isTime, is_string_of, isBitField, isOpaque, isReference, rows, member_rows, member_row, enum_rows, enum_member_row}
 use Rattle.reading.specs.declared.Limits.{Limits}
+use Rattle.reading.specs.declared.Cursor.{Cursor}
 use Rattle.reading.specs.declared.State.{State}
+use Rattle.reading.specs.declared.LeafKind.{LeafKind}
+use Rattle.reading.specs.declared.LeafKind.TheVariants.{FixedPoint, FloatingPoint, Time, String, BitField, Opaque, Reference}
+use Rattle.reading.specs.declared.Around.{Around}
+use Rattle.reading.specs.declared.Around.TheVariants.{Enumeration, VariableLength, Array}
 use Rattle.reading.specs.declared.Base.{Base}
 use Rattle.reading.specs.declared.Opened.{Opened}
 use Rattle.reading.specs.declared.Opened.TheVariants.{Leaf, Compound, Based}
@@ -19,8 +24,8 @@ use Rattle.reading.specs.declared.Opened.TheVariants.{Leaf, Compound, Based}
 abbrev pub run : {A : Type 0} → Reader A → List ℕ → Limits → (at used pooled : ℕ) → Answer A
 run m d lim at used pooled = m (length d) at (drop at d) (lim.rows - used) (lim.pool - pooled)
 
--- a was read, up to a state
-abbrev pub here : {A : Type 0} → A → List ℕ → Limits → State → Answer A
+-- a was read, up to a cursor
+abbrev pub here : {A : Type 0} → A → List ℕ → Limits → Cursor → Answer A
 here a d lim s = got a s.at (drop s.at d) (lim.rows - s.rows) (lim.pool - s.pooled)
 
 -- the table and the pool hold what the limits say, of which some is used
@@ -33,9 +38,9 @@ pub record Ready (lim : Limits) (used pooled : ℕ) (t p : List ℕ) : Type 0 wh
   pub pool : lim.pool ≤ length p
 
 -- what was read stands in the table and the pool: its words, and its pool bytes
-pub record Landed {A : Type 0} (words : ℕ → A → List ℕ) (bytes : A → List ℕ) (count : A → ℕ) (Q : A → State → Type 0) (o : Answer A) (d : List ℕ) (lim : Limits) (used pooled : ℕ) (s : State) (t t' p p' : List ℕ) : Type 0 where
+pub record Landed {A : Type 0} (words : ℕ → A → List ℕ) (bytes : A → List ℕ) (count : A → ℕ) (Q : A → Type 0) (o : Answer A) (d : List ℕ) (lim : Limits) (used pooled : ℕ) (s : Cursor) (t t' p p' : List ℕ) : Type 0 where
   pub tree : A
-  pub such : Q tree s
+  pub such : Q tree
   pub is : o ≡ here tree d lim s
   pub rows_are : s.rows ≡ used + count tree
   pub pooled_are : s.pooled ≡ pooled + length (bytes tree)
@@ -44,34 +49,40 @@ pub record Landed {A : Type 0} (words : ℕ → A → List ℕ) (bytes : A → L
   pub ready : Ready lim s.rows s.pooled t' p'
   pub near : s.at ≤ length d + 7
 
--- by what is returned; a refusal says nothing of the table and the pool
-pub record After {A : Type 0} (words : ℕ → A → List ℕ) (bytes : A → List ℕ) (count : A → ℕ) (Q : A → State → Type 0) (o : Answer A) (d : List ℕ) (lim : Limits) (used pooled : ℕ) (r : Result State Refusal) (t t' p p' : List ℕ) : Type 0 where
-  pub done : (s : State) → r ≡ Ok s → Landed words bytes count Q o d lim used pooled s t t' p p'
+-- by what is returned, which says where it ends; a refusal says nothing of the table and the pool
+pub record After {A S : Type 0} (end : S → Cursor) (words : ℕ → A → List ℕ) (bytes : A → List ℕ) (count : A → ℕ) (Q : S → A → Type 0) (o : Answer A) (d : List ℕ) (lim : Limits) (used pooled : ℕ) (r : Result S Refusal) (t t' p p' : List ℕ) : Type 0 where
+  pub done : (s : S) → r ≡ Ok s → Landed words bytes count (Q s) o d lim used pooled (end s) t t' p p'
   pub denied : (e : Refusal) → r ≡ Err e → o ≡ refused e
 
 -- a type and its size, which is not 0
 abbrev pub AfterType : Answer Datatype → List ℕ → Limits → (used pooled : ℕ) → Result State Refusal → (t t' p p' : List ℕ) → Type 0
-AfterType = After rows pool_bytes row_count (λ t s. (s.size ≡ type_size_of t) × (0 < type_size_of t))
+AfterType = After (λ s. s.end) rows pool_bytes row_count (λ s t. (s.size ≡ type_size_of t) × (0 < type_size_of t))
 
 -- so many members
-abbrev pub AfterMembers : (count : ℕ) → Answer Members → List ℕ → Limits → (used pooled : ℕ) → Result State Refusal → (t t' p p' : List ℕ) → Type 0
-AfterMembers k = After member_rows member_pool member_row_count (λ ms s. member_count_of ms ≡ k)
+abbrev pub AfterMembers : (count : ℕ) → Answer Members → List ℕ → Limits → (used pooled : ℕ) → Result Cursor Refusal → (t t' p p' : List ℕ) → Type 0
+AfterMembers k = After (λ s. s) member_rows member_pool member_row_count (λ s ms. member_count_of ms ≡ k)
 
 -- a type's own row is stored and ends it, or its size is 0
-pub record EndsRow (used class : ℕ) (words : List ℕ) (end : State) (r : Result State Refusal) (t t' : List ℕ) : Type 0 where
-  pub done : (s : State) → r ≡ Ok s → (s ≡ end) × (0 < end.size) × (t' ≡ sets t (used * 16) words)
-  pub denied : (e : Refusal) → r ≡ Err e → (e ≡ ZeroSize class) × (end.size ≡ 0) × (t' ≡ t)
+pub record EndsRow (used class : ℕ) (words : List ℕ) (end : Cursor) (size : ℕ) (r : Result State Refusal) (t t' : List ℕ) : Type 0 where
+  pub done : (s : State) → r ≡ Ok s → (s ≡ record { end = end; size = size }) × (0 < size) × (t' ≡ sets t (used * 16) words)
+  pub denied : (e : Refusal) → r ≡ Err e → (e ≡ ZeroSize class) × (size ≡ 0) × (t' ≡ t)
+
+-- the codes of a string are known, or the first that is not is refused
+pub record StringCodes (padding charset : ℕ) (r : Result (Unit {0}) Refusal) : Type 0 where
+  pub known : r ≡ Ok tt → (padding ≤ 2) × (charset ≤ 1)
+  pub unknown : (e : Refusal) → r ≡ Err e → ((2 < padding) × (e ≡ BadPadding padding)) ⊎ ((padding ≤ 2) × (1 < charset) × (e ≡ BadCharset charset))
 
 -- ---- before a nested message
 
--- classes 0 to 5 and 7 have no type inside
-unfoldable pub leaf_kind : Kind → Bool
-leaf_kind (is_leaf k) = true
-leaf_kind isCompound = false
-leaf_kind isEnumeration = false
-leaf_kind isVariableLength = false
-leaf_kind isArray = false
-leaf_kind isUnknown = false
+-- the kinds of type with no type inside
+unfoldable pub leaf_kind : LeafKind → Kind
+leaf_kind FixedPoint = is_leaf isFixedPoint
+leaf_kind FloatingPoint = is_leaf isFloatingPoint
+leaf_kind Time = is_leaf isTime
+leaf_kind String = is_leaf is_string_of
+leaf_kind BitField = is_leaf isBitField
+leaf_kind Opaque = is_leaf isOpaque
+leaf_kind Reference = is_leaf isReference
 
 -- a type with no type inside: the reader of the types inside is never asked
 unfoldable pub read_leaf_of : Header → Reader Datatype
@@ -122,9 +133,9 @@ pub record Heads (d : List ℕ) (lim : Limits) (used : ℕ) (r : Result Header R
   pub begun : (h : Header) → r ≡ Ok h → Begun d lim used h
   pub shut : (e : Refusal) → r ≡ Err e → (n pooled : ℕ) → run (read_type_of lim.version (suc n)) d lim 0 used pooled ≡ refused e
 
-pub record OpensLeaf (d : List ℕ) (lim : Limits) (used pooled : ℕ) (h : Header) : Type 0 where
+pub record OpensLeaf (d : List ℕ) (lim : Limits) (used pooled : ℕ) (h : Header) (k : LeafKind) : Type 0 where
   pub is : (n : ℕ) → run (read_type_of lim.version (suc n)) d lim 0 used pooled ≡ run (sized h (read_leaf_of h)) d lim 8 (used + 1) pooled
-  pub leaf : leaf_kind (class_kind h.class) ≡ true
+  pub kind : class_kind h.class ≡ leaf_kind k
   pub long : 8 ≤ length d
   pub free : used < lim.rows
 
@@ -133,31 +144,30 @@ pub record OpensCompound (d : List ℕ) (lim : Limits) (used pooled : ℕ) (h : 
   pub long : 8 ≤ length d
   pub free : used < lim.rows
 
--- classes 8, 9 and 10; only class 10 has dimensions
-unfoldable pub BasedKind : Kind → (rank : ℕ) → Type 0
-BasedKind isEnumeration k = k ≡ 0
-BasedKind isVariableLength k = k ≡ 0
-BasedKind isArray k = k ≤ 255
-BasedKind (is_leaf x) k = ⊥
-BasedKind isCompound k = ⊥
-BasedKind isUnknown k = ⊥
+-- the dimensions in the message, of class 10 alone
+unfoldable pub dimensions_of_lem : List ℕ → Around → List ℕ
+dimensions_of_lem d Enumeration = []
+dimensions_of_lem d VariableLength = []
+dimensions_of_lem d (Array start rank) = dimensions_from rank (take (4 * rank) (drop start d))
 
--- the dimensions in the message
-unfoldable pub dimensions_of_lem : List ℕ → Base → List ℕ
-dimensions_of_lem d b = dimensions_from b.rank (take (4 * b.rank) (drop b.start d))
+-- what stands around the base is of the header's class, and the dimensions stand in the message
+pub record Surrounds (d : List ℕ) (k : Kind) (a : Around) : Type 0 where
+  pub enumeration : a ≡ Enumeration → k ≡ isEnumeration
+  pub variable : a ≡ VariableLength → k ≡ isVariableLength
+  pub array : (start rank : ℕ) → a ≡ Array start rank → (k ≡ isArray) × (rank ≤ 255) × (start + 4 * rank ≤ length d)
 
 pub record OpensBased (d : List ℕ) (lim : Limits) (used pooled : ℕ) (h : Header) (b : Base) : Type 0 where
   pub is : (n : ℕ) → run (read_type_of lim.version (suc n)) d lim 0 used pooled
-      ≡ run (sized h (read_based (read_type_of lim.version n) h (dimensions_of_lem d b))) d lim b.from (used + 1) b.place
-  pub based : BasedKind (class_kind h.class) b.rank
+      ≡ run (sized h (read_based (read_type_of lim.version n) h (dimensions_of_lem d b.around))) d lim b.from (used + 1) b.place
+  pub around : Surrounds d (class_kind h.class) b.around
   pub within : b.from ≤ length d
-  pub sought : b.start + 4 * b.rank ≤ b.from
-  pub place_is : b.place ≡ pooled + 4 * b.rank
+  pub sought : (start rank : ℕ) → b.around ≡ Array start rank → start + 4 * rank ≤ b.from
+  pub place_is : b.place ≡ pooled + 4 * length (dimensions_of_lem d b.around)
   pub room : b.place ≤ lim.pool
   pub free : used < lim.rows
 
 pub record Opens (d : List ℕ) (lim : Limits) (used pooled : ℕ) (h : Header) (r : Result Opened Refusal) : Type 0 where
-  pub leaf : r ≡ Ok Leaf → OpensLeaf d lim used pooled h
+  pub leaf : (k : LeafKind) → r ≡ Ok (Leaf k) → OpensLeaf d lim used pooled h k
   pub compound : (v : ℕ) → r ≡ Ok (Compound v) → OpensCompound d lim used pooled h v
   pub based : (b : Base) → r ≡ Ok (Based b) → OpensBased d lim used pooled h b
   pub shut : (e : Refusal) → r ≡ Err e → (n : ℕ) → run (read_type_of lim.version (suc n)) d lim 0 used pooled ≡ refused e
@@ -165,39 +175,39 @@ pub record Opens (d : List ℕ) (lim : Limits) (used pooled : ℕ) (h : Header) 
 -- ---- a member
 
 -- a member is begun: its row and its name are stored, and its type comes next
-pub record Entered (d : List ℕ) (lim : Limits) (v size at used pooled : ℕ) (s : State) (t t' p p' : List ℕ) : Type 0 where
+pub record Entered (d : List ℕ) (lim : Limits) (v size : ℕ) (c s : Cursor) (t t' p p' : List ℕ) : Type 0 where
   pub name : List ℕ
   pub offset : ℕ
-  pub is : (rd : Reader Datatype) (k : ℕ) → run (read_members_of rd v size (suc k)) d lim at used pooled
+  pub is : (rd : Reader Datatype) (k : ℕ) → run (read_members_of rd v size (suc k)) d lim c.at c.rows c.pooled
       ≡ then (run (inner rd) d lim s.at s.rows s.pooled) (λ t at s r p. then (read_members_of rd v size k (length d) at s r p) (λ ms at s r p. got (member name offset t ms) at s r p))
-  pub rows_are : s.rows ≡ used + 1
-  pub pooled_are : s.pooled ≡ pooled + length name
-  pub table : t' ≡ sets t (used * 16) (member_row pooled offset (length name))
-  pub pool : p' ≡ sets p pooled name
+  pub rows_are : s.rows ≡ c.rows + 1
+  pub pooled_are : s.pooled ≡ c.pooled + length name
+  pub table : t' ≡ sets t (c.rows * 16) (member_row c.pooled offset (length name))
+  pub pool : p' ≡ sets p c.pooled name
   pub ready : Ready lim s.rows s.pooled t' p'
   pub within : s.at ≤ length d
 
-pub record Enters (d : List ℕ) (lim : Limits) (v size at used pooled : ℕ) (r : Result State Refusal) (t t' p p' : List ℕ) : Type 0 where
-  pub entered : (s : State) → r ≡ Ok s → Entered d lim v size at used pooled s t t' p p'
-  pub stopped : (e : Refusal) → r ≡ Err e → (rd : Reader Datatype) (k : ℕ) → run (read_members_of rd v size (suc k)) d lim at used pooled ≡ refused e
+pub record Enters (d : List ℕ) (lim : Limits) (v size : ℕ) (c : Cursor) (r : Result Cursor Refusal) (t t' p p' : List ℕ) : Type 0 where
+  pub entered : (s : Cursor) → r ≡ Ok s → Entered d lim v size c s t t' p p'
+  pub stopped : (e : Refusal) → r ≡ Err e → (rd : Reader Datatype) (k : ℕ) → run (read_members_of rd v size (suc k)) d lim c.at c.rows c.pooled ≡ refused e
 
 -- ---- an enumeration's members
 
 -- a name's row and bytes, the value's length beside it
-pub record Named (d : List ℕ) (lim : Limits) (v width at used pooled : ℕ) (s : State) (t t' p p' : List ℕ) : Type 0 where
+pub record Named (d : List ℕ) (lim : Limits) (v width : ℕ) (c s : Cursor) (t t' p p' : List ℕ) : Type 0 where
   pub name : List ℕ
-  pub is : run (read_name_of v) d lim at used pooled ≡ here name d lim s
-  pub rows_are : s.rows ≡ used + 1
-  pub pooled_are : s.pooled ≡ pooled + length name
-  pub table : t' ≡ sets t (used * 16) (enum_member_row pooled (length name) width)
-  pub pool : p' ≡ sets p pooled name
+  pub is : run (read_name_of v) d lim c.at c.rows c.pooled ≡ here name d lim s
+  pub rows_are : s.rows ≡ c.rows + 1
+  pub pooled_are : s.pooled ≡ c.pooled + length name
+  pub table : t' ≡ sets t (c.rows * 16) (enum_member_row c.pooled (length name) width)
+  pub pool : p' ≡ sets p c.pooled name
   pub filled : s.rows ≤ lim.rows
   pub room : s.pooled ≤ lim.pool
   pub near : s.at ≤ length d + 7
 
-pub record Names (d : List ℕ) (lim : Limits) (v width at used pooled : ℕ) (r : Result State Refusal) (t t' p p' : List ℕ) : Type 0 where
-  pub named : (s : State) → r ≡ Ok s → Named d lim v width at used pooled s t t' p p'
-  pub stopped : (e : Refusal) → r ≡ Err e → run (read_name_of v) d lim at used pooled ≡ refused e
+pub record Names (d : List ℕ) (lim : Limits) (v width : ℕ) (c : Cursor) (r : Result Cursor Refusal) (t t' p p' : List ℕ) : Type 0 where
+  pub named : (s : Cursor) → r ≡ Ok s → Named d lim v width c s t t' p p'
+  pub stopped : (e : Refusal) → r ≡ Err e → run (read_name_of v) d lim c.at c.rows c.pooled ≡ refused e
 
 -- rows of names whose values have one width
 unfoldable pub name_rows : (width place : ℕ) → List (List ℕ) → List ℕ
@@ -209,11 +219,11 @@ joined_names [] = []
 joined_names (b ∷ bs) = b ++ joined_names bs
 
 -- so many names
-abbrev pub AfterNames : (count width : ℕ) → Answer (List (List ℕ)) → List ℕ → Limits → (used pooled : ℕ) → Result State Refusal → (t t' p p' : List ℕ) → Type 0
-AfterNames k w = After (name_rows w) joined_names length (λ bs s. length bs ≡ k)
+abbrev pub AfterNames : (count width : ℕ) → Answer (List (List ℕ)) → List ℕ → Limits → (used pooled : ℕ) → Result Cursor Refusal → (t t' p p' : List ℕ) → Type 0
+AfterNames k w = After (λ s. s) (name_rows w) joined_names length (λ s bs. length bs ≡ k)
 
 -- values, which take no rows
-pub record Valued (o : Answer (List EnumMember)) (bs : List (List ℕ)) (width : ℕ) (d : List ℕ) (lim : Limits) (used pooled : ℕ) (s : State) (p p' : List ℕ) : Type 0 where
+pub record Valued (o : Answer (List EnumMember)) (bs : List (List ℕ)) (width : ℕ) (d : List ℕ) (lim : Limits) (used pooled : ℕ) (s : Cursor) (p p' : List ℕ) : Type 0 where
   pub members : List EnumMember
   pub is : o ≡ here members d lim s
   pub rows_same : (place : ℕ) → enum_rows place members ≡ name_rows width place bs
@@ -225,28 +235,28 @@ pub record Valued (o : Answer (List EnumMember)) (bs : List (List ℕ)) (width :
   pub room : s.pooled ≤ lim.pool
   pub near : s.at ≤ length d + 7
 
-pub record Values (bs : List (List ℕ)) (o : Answer (List EnumMember)) (width : ℕ) (d : List ℕ) (lim : Limits) (used pooled : ℕ) (r : Result State Refusal) (p p' : List ℕ) : Type 0 where
-  pub done : (s : State) → r ≡ Ok s → Valued o bs width d lim used pooled s p p'
+pub record Values (bs : List (List ℕ)) (o : Answer (List EnumMember)) (width : ℕ) (d : List ℕ) (lim : Limits) (used pooled : ℕ) (r : Result Cursor Refusal) (p p' : List ℕ) : Type 0 where
+  pub done : (s : Cursor) → r ≡ Ok s → Valued o bs width d lim used pooled s p p'
   pub denied : (e : Refusal) → r ≡ Err e → o ≡ refused e
 
 -- names and values together: rows behind rows, names and values behind what is in the pool
-abbrev pub AfterEnum : (count : ℕ) → Answer (List EnumMember) → List ℕ → Limits → (used pooled : ℕ) → Result State Refusal → (t t' p p' : List ℕ) → Type 0
-AfterEnum k = After enum_rows (λ ms. enum_names ms ++ enum_values ms) length (λ ms s. length ms ≡ k)
+abbrev pub AfterEnum : (count : ℕ) → Answer (List EnumMember) → List ℕ → Limits → (used pooled : ℕ) → Result Cursor Refusal → (t t' p p' : List ℕ) → Type 0
+AfterEnum k = After (λ s. s) enum_rows (λ ms. enum_names ms ++ enum_values ms) length (λ s ms. length ms ≡ k)
 
 -- ---- behind a nested message
 
--- a base was read, as a message of its own, that begins where the header says
-pub record BaseRead (d : List ℕ) (lim : Limits) (used : ℕ) (b : Base) (inner : State) (t p : List ℕ) : Type 0 where
-  pub ready : Ready lim inner.rows inner.pooled t p
-  pub near : inner.at ≤ length (take (length d - b.from) (drop b.from d)) + 7
+-- a base was read behind the dimensions ds, up to `inner` in the message d
+pub record BaseRead (d : List ℕ) (lim : Limits) (used pooled : ℕ) (ds : List ℕ) (inner : State) (t p : List ℕ) : Type 0 where
+  pub ready : Ready lim inner.end.rows inner.end.pooled t p
+  pub near : inner.end.at ≤ length d + 7
   pub some_size : 0 < inner.size
-  pub more : used < inner.rows
-  pub place : b.place ≤ inner.pooled
+  pub more : used < inner.end.rows
+  pub place : pooled + 4 * length ds ≤ inner.end.pooled
 
 -- the rest of a type over a base that stands in the table and the pool already: its own row, and rows, pool bytes before and behind
-pub record Ended (d : List ℕ) (lim : Limits) (used pooled : ℕ) (h : Header) (ds : List ℕ) (base : Datatype) (at rows₀ pooled₀ : ℕ) (s : State) (t t' p p' : List ℕ) : Type 0 where
+pub record Ended (d : List ℕ) (lim : Limits) (used pooled : ℕ) (h : Header) (ds : List ℕ) (base : Datatype) (c : Cursor) (s : State) (t t' p p' : List ℕ) : Type 0 where
   pub tree : Datatype
-  pub is : run (sized h (behind h ds (class_kind h.class) base)) d lim at rows₀ pooled₀ ≡ here tree d lim s
+  pub is : run (sized h (behind h ds (class_kind h.class) base)) d lim c.at c.rows c.pooled ≡ here tree d lim s.end
   pub size_is : s.size ≡ type_size_of tree
   pub some_size : 0 < type_size_of tree
   pub head : List ℕ
@@ -257,17 +267,17 @@ pub record Ended (d : List ℕ) (lim : Limits) (used pooled : ℕ) (h : Header) 
   pub before-long : length before ≡ 4 * length ds
   pub words_are : rows pooled tree ≡ head ++ (rows (pooled + length before) base ++ more)
   pub bytes-are : pool_bytes tree ≡ before ++ (pool_bytes base ++ after)
-  pub table : t' ≡ sets (sets t (rows₀ * 16) more) (used * 16) head
-  pub pool : p' ≡ sets (sets p pooled₀ after) pooled before
-  pub rows_are : s.rows ≡ used + row_count tree
-  pub pooled_are : s.pooled ≡ pooled + length (pool_bytes tree)
-  pub filled : s.rows ≤ lim.rows
-  pub room : s.pooled ≤ lim.pool
-  pub near : s.at ≤ length d + 7
+  pub table : t' ≡ sets (sets t (c.rows * 16) more) (used * 16) head
+  pub pool : p' ≡ sets (sets p c.pooled after) pooled before
+  pub rows_are : s.end.rows ≡ used + row_count tree
+  pub pooled_are : s.end.pooled ≡ pooled + length (pool_bytes tree)
+  pub filled : s.end.rows ≤ lim.rows
+  pub room : s.end.pooled ≤ lim.pool
+  pub near : s.end.at ≤ length d + 7
 
 -- for every base of this size whose rows and pool bytes end where the state says
-pub record Ends (d : List ℕ) (lim : Limits) (used pooled : ℕ) (h : Header) (ds : List ℕ) (at rows₀ pooled₀ size : ℕ) (r : Result State Refusal) (t t' p p' : List ℕ) : Type 0 where
-  pub done : (s : State) → r ≡ Ok s → (base : Datatype) → type_size_of base ≡ size → rows₀ ≡ used + 1 + row_count base → pooled₀ ≡ pooled + 4 * length ds + length (pool_bytes base)
-      → Ended d lim used pooled h ds base at rows₀ pooled₀ s t t' p p'
-  pub denied : (e : Refusal) → r ≡ Err e → (base : Datatype) → type_size_of base ≡ size
-      → run (sized h (behind h ds (class_kind h.class) base)) d lim at rows₀ pooled₀ ≡ refused e
+pub record Ends (d : List ℕ) (lim : Limits) (used pooled : ℕ) (h : Header) (ds : List ℕ) (inner : State) (r : Result State Refusal) (t t' p p' : List ℕ) : Type 0 where
+  pub done : (s : State) → r ≡ Ok s → (base : Datatype) → type_size_of base ≡ inner.size → inner.end.rows ≡ used + 1 + row_count base → inner.end.pooled ≡ pooled + 4 * length ds + length (pool_bytes base)
+      → Ended d lim used pooled h ds base inner.end s t t' p p'
+  pub denied : (e : Refusal) → r ≡ Err e → (base : Datatype) → type_size_of base ≡ inner.size
+      → run (sized h (behind h ds (class_kind h.class) base)) d lim inner.end.at inner.end.rows inner.end.pooled ≡ refused e

@@ -9,8 +9,10 @@ use native.Mathlib.Nat.{add-zero, suc-mul, mul-le-mul_right}
 use native.Mathlib.Numerals.{add-one}
 use native.Mathlib.Omega.{arith}
 use lib.ListN.{length, get_or, take, drop, set, length-take, length-drop}
-use lib.Seq.{sets, drop-cons, take_all}
-use lib.Dec.{leb}
+use lib.Seq.{sets, take_all}
+use native.Mathlib.Decide.{dec_le}
+use lib.Dec.{leb, ltb}
+use Rattle.std.specs.List.{list_any}
 use mir.Syntax.{w64}
 use borrow.Author.Tests.{lt-ltb, le-ltb, le-leb, lt-leb}
 use Rattle.refusal.specs.declared.Refusal.{Refusal}
@@ -25,23 +27,17 @@ use Rattle.references.specs.References.{references_values, ReferencesAre, places
 
 -- ---- a slot outside a record
 
-outside_cons : (n : ℕ) (ss : List ℕ) (i : ℕ) → i < length ss → some_outside_of n (drop i ss) ≡ some_outside_of n (get_or ss i 0 ∷ drop (suc i) ss)
-outside_cons n ss i h = ap (some_outside_of n) (drop-cons ss i 0 h)
+outside_test : (n v : ℕ) → ltb (n - v) 8 ≡ ltb n (v + 8)
+outside_test n v = go (dec_le (v + 8) n)
+  where
+    go : Dec (v + 8 ≤ n) → ltb (n - v) 8 ≡ ltb n (v + 8)
+    go (yes h) = le-ltb (n - v) 8 (omega (arith, h)) ∙ sym (le-ltb n (v + 8) h)
+    go (no h) = lt-ltb (n - v) 8 (omega (arith, h)) ∙ sym (lt-ltb n (v + 8) (omega (arith, h)))
 
-pub outside-here : (n : ℕ) (ss : List ℕ) (i : ℕ) → i < length ss → n - get_or ss i 0 < 8 → some_outside_of n (drop i ss) ≡ true
+pub outside-any : (n : ℕ) (ss : List ℕ) → list_any (λ v. ltb (n - v) 8) ss ≡ some_outside_of n ss
 unfolding some_outside_of
-outside-here n ss i h g = outside_cons n ss i h ∙ rw (lt-ltb n (get_or ss i 0 + 8) (omega arith))
-
-pub outside-next : (n : ℕ) (ss : List ℕ) (i : ℕ) → i < length ss → 8 ≤ n - get_or ss i 0 → some_outside_of n (drop i ss) ≡ some_outside_of n (drop (i + 1) ss)
-unfolding some_outside_of
-outside-next n ss i h g = outside_cons n ss i h ∙ rw (le-ltb n (get_or ss i 0 + 8) (omega arith), add-one)
-
-pub outside-none : (n : ℕ) (ss : List ℕ) (i : ℕ) → length ss ≤ i → some_outside_of n (drop i ss) ≡ false
-unfolding some_outside_of
-outside-none n [] zero h = refl
-outside-none n [] (suc i) h = refl
-outside-none n (s ∷ ss) zero h = absurd (omega arith)
-outside-none n (s ∷ ss) (suc i) h = outside-none n ss i (omega arith)
+outside-any n [] = refl
+outside-any n (s ∷ ss) = rw (outside_test n s, outside-any n ss) refl
 
 -- ---- numbers of 8 bytes
 

@@ -9,16 +9,11 @@ ghost use Rattle.references.specs.References.{ReferencesAre};
 
 use refusal::Refusal;
 
-// Whether a slot + 8 exceeds the size. A `for`, since with `any` it is not proved.
+// Whether a slot + 8 exceeds the size.
 fn some_outside(slots: &[u64], size: u64) -> bool
     ensures { result ≡ some_outside_of size slots.now }
 {
-    for slot in slots {
-        if size.saturating_sub(*slot) < 8 {
-            return true;
-        }
-    }
-    false
+    slots.iter().any(|slot| size.saturating_sub(*slot) < 8)
 }
 
 // The 8 bytes at a place, little-endian.

@@ -1,5 +1,6 @@
 -- Document 01, "The numbered refusals": the number and the values of each.
-use Rattle.std.specs.Prelude.{ℕ, List, [], ◌∷◌, slice_get, Result, Ok, Err}
+use Rattle.std.specs.Prelude.{ℕ, List, [], ◌∷◌, ◌++◌, slice_get, codes, Result, Ok, Err}
+use Rattle.std.specs.Fmt.{decimal}
 use Rattle.refusal.specs.declared.Refusal.{Refusal}
 use Rattle.refusal.specs.declared.Refusal.TheVariants.{BadTable, TooDeep, TooMany, Short, TooNew, BadClass, BadVersion, BadPadding, BadCharset, BadReferenceKind, PoolFull, ZeroSize, NoSuchEdition, Unstorable, NotInEdition, OutsideRecord, HeapHeld, WrongLength, Unmapped, SlotOutside, NoRoom}
 use Rattle.refusal.specs.declared.RefusalValues.{RefusalValues}
@@ -55,6 +56,14 @@ values_of (NoRoom needed) = needed ∷ []
 -- the first and the second of the values, where there are so many
 abbrev pub values_from : Refusal → RefusalValues
 values_from e = record { first = slice_get (values_of e) 0; second = slice_get (values_of e) 1 }
+
+-- "`refused`, number and values on one line, spaces between"
+unfoldable pub spaced : List ℕ → List ℕ
+spaced [] = []
+spaced (n ∷ ns) = codes " " ++ decimal n ++ spaced ns
+
+unfoldable pub refused_text : Refusal → List ℕ
+refused_text e = codes "refused" ++ spaced (number_of e ∷ values_of e)
 
 -- the number of an answer: 0 for a result, or the refusal's; and its values
 unfoldable pub answer_number : {A : Type 0} → Result A Refusal → ℕ

@@ -2,7 +2,9 @@
 #![tactic(auto)]
 
 ghost use Rattle.std.specs.Prelude.{◌≡◌, Some, None};
-ghost use Rattle.refusal.specs.Refusal.{number_of, values_from};
+ghost use Rattle.refusal.specs.Refusal.{number_of, values_from, refused_text};
+
+use std::fmt;
 
 // Why a call gives no result. The comment names the Rust's `FormatError` that the case stands for, where there is one.
 #[derive(Clone, Copy, Debug, PartialEq, Eq)]
@@ -49,6 +51,21 @@ pub enum Refusal {
     SlotOutside,
     // 21. (needed): the lent output is too short.
     NoRoom(u64),
+}
+
+// `refused`, number and values.
+impl fmt::Display for Refusal {
+    ghost output = { λ e. Some (refused_text e) };
+
+    fn fmt<W: fmt::Write>(&self, f: &mut fmt::Formatter<W>) -> fmt::Result {
+        let number = number(*self);
+        let values = values(*self);
+        match (values.first, values.second) {
+            (Some(first), Some(second)) => write!(f, "refused {number} {first} {second}"),
+            (Some(first), None) => write!(f, "refused {number} {first}"),
+            (None, _) => write!(f, "refused {number}"),
+        }
+    }
 }
 
 // The values of a refusal.

@@ -59,31 +59,23 @@ fn is_answered(got: Result<usize, Refusal>, answer: Answer) -> bool {
     said == answer
 }
 
-// Whether writing in edition 3 gives the number and bytes given.
-fn is_written(table: &[u32], pool: &[u8], given: Given, out: &mut [u8]) -> bool {
-    let got = writer::write(table, pool, 3, out);
+// Whether a call that lists numbers, of so many bytes each, gives the number and the bytes given.
+fn is_given<T: Copy + Into<u64>>(
+    got: Result<usize, Refusal>,
+    list: &[T],
+    given: Given,
+    size: usize,
+) -> bool
+    requires { 0 < size }
+{
     match got {
         Ok(n) => {
-            let Some((message, _)) = out.split_at_checked(n) else {
-                return false;
-            };
-            given.number == 0 && message == given.bytes
-        }
-        Err(e) => given.bytes.is_empty() && given.number == refusal::number(e),
-    }
-}
-
-// Whether listing the slots gives the number and slots given.
-fn is_listed(table: &[u32], pool: &[u8], given: Given, out: &mut [u64]) -> bool {
-    let got = slots::embedded_reference_slots(table, pool, out);
-    match got {
-        Ok(n) => {
-            let Some((slots, _)) = out.split_at_checked(n as usize) else {
+            let Some((listed, _)) = list.split_at_checked(n) else {
                 return false;
             };
             given.number == 0
-                && slots.len() == given.bytes.len() / 8
-                && holds(slots, given.bytes, 8)
+                && listed.len() == given.bytes.len() / size
+                && holds(listed, given.bytes, size)
         }
         Err(e) => given.bytes.is_empty() && given.number == refusal::number(e),
     }
@@ -109,10 +101,16 @@ fn compare_facts(sample: Sample, table: &[u32], pool: &[u8]) -> Result<(), Diffe
 fn compare_results(sample: Sample, table: &[u32], pool: &[u8]) -> Result<(), Difference> {
     let mut out = [7u8; 131072];
     let mut slots = [7u64; 4096];
-    let written = is_written(table, pool, sample.written, &mut out);
-    expect(written, Difference::Message)?;
-    let listed = is_listed(table, pool, sample.listed, &mut slots);
-    expect(listed, Difference::Slots)
+    let written = writer::write(table, pool, 3, &mut out);
+    expect(
+        is_given(written, &out, sample.written, 1),
+        Difference::Message,
+    )?;
+    let listed = slots::embedded_reference_slots(table, pool, &mut slots).map(|n| n as usize);
+    expect(
+        is_given(listed, &slots, sample.listed, 8),
+        Difference::Slots,
+    )
 }
 
 // Reads the message and compares all that the entry says. A refused message leaves a table and a pool of zeros.

@@ -74,20 +74,24 @@ impl<'a> Rest<'a> {
         Some(*next)
     }
 
+    fn chunk<const N: usize>(&mut self) -> Option<&'a [u8; N]>
+        ensures { IfSome result (λ _. length self.new.bytes.now + N ≡ length self.old.bytes.now) }
+    {
+        let (next, rest) = self.bytes.split_first_chunk::<N>()?;
+        self.bytes = rest;
+        Some(next)
+    }
+
     fn four(&mut self) -> Option<u32>
         ensures { IfSome result (λ _. length self.new.bytes.now + 4 ≡ length self.old.bytes.now) }
     {
-        let (next, rest) = self.bytes.split_first_chunk::<4>()?;
-        self.bytes = rest;
-        Some(u32::from_le_bytes(*next))
+        Some(u32::from_le_bytes(*self.chunk()?))
     }
 
     fn eight(&mut self) -> Option<u64>
         ensures { IfSome result (λ _. length self.new.bytes.now ≤ length self.old.bytes.now) }
     {
-        let (next, rest) = self.bytes.split_first_chunk::<8>()?;
-        self.bytes = rest;
-        Some(u64::from_le_bytes(*next))
+        Some(u64::from_le_bytes(*self.chunk()?))
     }
 
     // A count, and so many items of a size.

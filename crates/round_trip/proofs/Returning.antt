@@ -91,7 +91,7 @@ module _ (table pool : List ℕ) (edition limit : ℕ) (buffer t p : List ℕ) w
         }
 
     -- what was written is read, or refused
-    answered : Back table pool edition limit r buffer buffer' t t' p p'
+    pub answered : Back table pool edition limit r buffer buffer' t t' p p'
     unfolding answer_of output_after table_of pool_of answer_number answer_values
     answered =
         record {
@@ -128,6 +128,3 @@ module _ (table pool : List ℕ) (edition limit : ℕ) (buffer t p : List ℕ) w
               table_is = x.table_is ∙ ap (padded (length t)) (sym (front-rows o));
               pool-is = x.pool-is ∙ ap (padded (length p)) (sym (front-pool o));
             }
-
-    pub read_back : {x : Result ℕ Refusal} → r ≡ x → Back table pool edition limit x buffer buffer' t t' p p'
-    read_back i = rw i at answered

@@ -6,10 +6,10 @@ use mathlib.Core.List.{List}
 use native.Mathlib.Omega.{arith}
 use native.Mathlib.Nat.{mul-one}
 use lib.ListN.{length, get_or}
-use lib.Dec.{leb, ltb, eqb}
+use lib.Dec.{leb, eqb}
 use mir.Syntax.{w64}
 use mir.Val.{Fits}
-use borrow.Author.Tests.{leb-true, leb-false, le-leb, lt-leb, ne_eqb, ltb-true, ltb-false}
+use borrow.Author.Tests.{leb-true, leb-false, le-leb, lt-leb, ne_eqb}
 use Rattle.format.specs.Columns.{place_column}
 use Rattle.format.specs.Datatype.{Datatype, Members}
 use Rattle.format.specs.Table.{word_at, row_is_of, row, array_row, member_row, enum_member_row, Found, bad, Walk, Kind, is_leaf, isCompound, isEnumeration, isVariableLength, isArray, isUnknown, kind_of, members_at, enum_names_at, type_at}
@@ -17,12 +17,13 @@ use Rattle.format.proofs.Booleans.{and_both}
 use Rattle.format.proofs.TableSteps.{row_is-true}
 use Rattle.std.specs.Prelude.{Option, Some, None, is_some}
 use Rattle.std.specs.Bool.{then_some}
-use Rattle.rows.specs.Entries.{leaf_entry, entry_of, entry_at, member_in, member_at_of, enum_member_at_of, PieceInside, EntryInside, IfKnown, entry_fits_of, RowSays, RowNames, ColumnsSay, MemberInside, from_entry, from_member, from_enum_member}
+use Rattle.rows.specs.Entries.{leaf_entry, entry_of, entry_at, member_in, member_at_of, enum_member_at_of, PieceInside, EntryInside, IfKnown, entry_fits_of, RowSays, RowNames, MemberInside, from_entry, from_member, from_enum_member}
 use Rattle.rows.specs.declared.Entry.{Entry}
 use Rattle.rows.specs.declared.Entry.TheVariants.{Leaf, Compound, Enumeration, VariableLength, Array}
 use Rattle.rows.specs.declared.Member.{Member}
 use Rattle.std.proofs.lemmas.Option.{same_Some}
-use Rattle.rows.specs.Columns.{piece_columns_of}
+use Rattle.rows.specs.Columns.{piece_columns_of, IsRow}
+use Rattle.rows.proofs.Words.{one-row, stands, same-columns, same-member, same-enum-member}
 use Rattle.rows.proofs.Columns.{NoKind, answered, no_kind_entry, short-entry, answered-member, short-member, answered_enum_member, short_enum_member, member-entry, enum_member_entry}
 use Rattle.rows.proofs.Decode.{leaf-entry, entry-kind, opaque_picked, type_at_entry, members_at-entry, enum_names_at-entry, entry-inside}
 
@@ -227,32 +228,6 @@ module _ {e : Entry} (p bytes : ℕ) where
   fits-variable_length h = rw h
 
 -- a member's row
-module _ (table : List ℕ) (r k : ℕ) {o : Option Member} (s : ColumnsSay table r k o) where
-  pub columns_none : o ≡ None → length table / 16 ≤ r
-  columns_none i = go (ltb r (length table / 16)) refl (sym s.is ∙ i)
-    where
-      go : (b : Bool) → ltb r (length table / 16) ≡ b → then_some b (member_in table r k) ≡ None → length table / 16 ≤ r
-      go true t e = cc
-      go false t e = ltb-false r (length table / 16) t
-
-  pub record Columns (m : Member) : Type 0 where
-    pub row : r < length table / 16
-    pub is : m ≡ member_in table r k
-
-  pub columns_some : {m : Member} → o ≡ Some m → Columns m
-  columns_some {m = m} i = go (ltb r (length table / 16)) refl (sym s.is ∙ i)
-    where
-      go : (b : Bool) → ltb r (length table / 16) ≡ b → then_some b (member_in table r k) ≡ Some m → Columns m
-      go true t e = record { row = ltb-true r (length table / 16) t; is = cc }
-      go false t e = cc
-
-pub names-columns : (table : List ℕ) (r : ℕ) {o : Option Member} → ColumnsSay table r 1 o → RowNames table r o
-names-columns table r {o = o} s = go o refl
-  where
-    go : (m : Option Member) → o ≡ m → RowNames table r m
-    go (Some m) e = let c = columns_some table r 1 s e in rw c.is (names-member table r c.row)
-    go None e = names-short table r (columns_none table r 1 s e)
-
 module _ (table pool : List ℕ) (r p : ℕ) where
   abbrev MemberAnswered : (of x : Option Member) → Type 0
   MemberAnswered of x = IfKnown of x × MemberInside x (length table) (length pool) r p
@@ -262,41 +237,46 @@ module _ (table pool : List ℕ) (r p : ℕ) where
   fitting m true h t = (omega arith, leb-true _ _ t)
   fitting m false h t = tt
 
-  -- a member's row that is tested
-  pub member-none : {o x : Option Member} → ColumnsSay table r 1 o → o ≡ None → x ≡ None → (x ≡ member_at_of table pool r p) × MemberInside x (length table) (length pool) r p
-  member-none s i g = rw g (answered-member table pool r p (short-member table pool r p (columns_none table r 1 s i)))
+  -- that is tested
+  pub member-none : {x : Option Member} → length table / 16 ≤ r → x ≡ None → (x ≡ member_at_of table pool r p) × MemberInside x (length table) (length pool) r p
+  member-none h g = answered-member table pool r p (g ∙ short-member table pool r p h)
 
-  pub member-tested : {o x : Option Member} {m : Member} {b : Bool} → ColumnsSay table r 1 o → o ≡ Some m → x ≡ then_some b m
-      → b ≡ (eqb (get_or table (r * 16) 0) 12 && piece_columns_of table pool r p 4 1) → (x ≡ member_at_of table pool r p) × MemberInside x (length table) (length pool) r p
-  member-tested s i g f = let c = columns_some table r 1 s i in answered-member table pool r p (g ∙ rw (f, c.is) (sym (member-entry table pool r p c.row)))
+  pub enum_member_none : {x : Option Member} → length table / 16 ≤ r → x ≡ None → (x ≡ enum_member_at_of table pool r p) × MemberInside x (length table) (length pool) r p
+  enum_member_none h g = answered_enum_member table pool r p (g ∙ short_enum_member table pool r p h)
 
-  pub enum_member_none : {o x : Option Member} → ColumnsSay table r 4 o → o ≡ None → x ≡ None → (x ≡ enum_member_at_of table pool r p) × MemberInside x (length table) (length pool) r p
-  enum_member_none s i g = rw g (answered_enum_member table pool r p (short_enum_member table pool r p (columns_none table r 4 s i)))
+  module _ {words : List ℕ} (s : IsRow table r words) {x : Option Member} {m : Member} {b : Bool} (g : x ≡ then_some b m) where
+    pub member-tested : m ≡ member_in words 0 1 → b ≡ (eqb (get_or words 0 0) 12 && piece_columns_of words pool 0 p 4 1)
+        → (x ≡ member_at_of table pool r p) × MemberInside x (length table) (length pool) r p
+    member-tested e f = answered-member table pool r p (g ∙ rw (e, f) (sym (member-entry words pool 0 p (one-row s))) ∙ same-member s pool p)
 
-  pub enum_member_tested : {o x : Option Member} {m : Member} {b : Bool} → ColumnsSay table r 4 o → o ≡ Some m → x ≡ then_some b m
-      → b ≡ ((eqb (get_or table (r * 16) 0) 13 && eqb (word_at table r 1) 0) && piece_columns_of table pool r p 5 1) → (x ≡ enum_member_at_of table pool r p) × MemberInside x (length table) (length pool) r p
-  enum_member_tested s i g f = let c = columns_some table r 4 s i in answered_enum_member table pool r p (g ∙ rw (f, c.is) (sym (enum_member_entry table pool r p c.row)))
+    pub enum_member_tested : m ≡ member_in words 0 4 → b ≡ ((eqb (get_or words 0 0) 13 && eqb (get_or words 1 0) 0) && piece_columns_of words pool 0 p 5 1)
+        → (x ≡ enum_member_at_of table pool r p) × MemberInside x (length table) (length pool) r p
+    enum_member_tested e f = answered_enum_member table pool r p (g ∙ rw (e, f) (sym (enum_member_entry words pool 0 p (one-row s))) ∙ same-enum-member s pool p)
 
-  -- and one that is read again
-  pub named-again : {o x : Option Member} {m : Member} → ColumnsSay table r 1 o → o ≡ Some m → x ≡ then_some (leb (p + m.name) (length pool)) m → MemberAnswered (member_at_of table pool r p) x
-  unfolding member_at_of member_in
-  named-again s i g =
-      let c = columns_some table r 1 s i in
-      rw (g, c.is) (known-part (row_is_of table r (member_row p (word_at table r 1) (word_at table r 3))) (leb (p + word_at table r 3) (length pool)) (member_in table r 1), fitting _ _ c.row refl)
-
-  pub unnamed-again : {o x : Option Member} → ColumnsSay table r 1 o → o ≡ None → x ≡ None → MemberAnswered (member_at_of table pool r p) x
+  -- and that is read again
+  pub unnamed-again : {x : Option Member} → length table / 16 ≤ r → x ≡ None → MemberAnswered (member_at_of table pool r p) x
   unfolding IfKnown
-  unnamed-again s i g = let e = member-none s i refl in rw g (rw (← e.0) tt, e.1)
+  unnamed-again h g = let e = member-none h refl in rw g (rw (← e.0) tt, e.1)
 
-  pub enum_named_again : {o x : Option Member} {m : Member} → ColumnsSay table r 4 o → o ≡ Some m → x ≡ then_some (leb (p + m.name) (length pool)) m → MemberAnswered (enum_member_at_of table pool r p) x
-  unfolding enum_member_at_of member_in
-  enum_named_again s i g =
-      let c = columns_some table r 4 s i in
-      rw (g, c.is) (known-part (row_is_of table r (enum_member_row p (word_at table r 3) (word_at table r 4))) (leb (p + word_at table r 3) (length pool)) (member_in table r 4), fitting _ _ c.row refl)
-
-  pub enum_unnamed_again : {o x : Option Member} → ColumnsSay table r 4 o → o ≡ None → x ≡ None → MemberAnswered (enum_member_at_of table pool r p) x
+  pub enum_unnamed_again : {x : Option Member} → length table / 16 ≤ r → x ≡ None → MemberAnswered (enum_member_at_of table pool r p) x
   unfolding IfKnown
-  enum_unnamed_again s i g = let e = enum_member_none s i refl in rw g (rw (← e.0) tt, e.1)
+  enum_unnamed_again h g = let e = enum_member_none h refl in rw g (rw (← e.0) tt, e.1)
+
+  module _ {words : List ℕ} (s : IsRow table r words) {x : Option Member} {m : Member} (g : x ≡ then_some (leb (p + m.name) (length pool)) m) where
+    pub named-again : m ≡ member_in words 0 1 → MemberAnswered (member_at_of table pool r p) x
+    unfolding member_at_of member_in
+    named-again e =
+        let f : m ≡ member_in table r 1 = e ∙ same-columns s 1 refl in
+        rw (g, f) (known-part (row_is_of table r (member_row p (word_at table r 1) (word_at table r 3))) (leb (p + word_at table r 3) (length pool)) (member_in table r 1), fitting _ _ (stands s) refl)
+
+    pub enum_named_again : m ≡ member_in words 0 4 → MemberAnswered (enum_member_at_of table pool r p) x
+    unfolding enum_member_at_of member_in
+    enum_named_again e =
+        let f : m ≡ member_in table r 4 = e ∙ same-columns s 4 refl in
+        rw (g, f) (known-part (row_is_of table r (enum_member_row p (word_at table r 3) (word_at table r 4))) (leb (p + word_at table r 3) (length pool)) (member_in table r 4), fitting _ _ (stands s) refl)
+
+pub names-columns : {table words : List ℕ} {r : ℕ} → IsRow table r words → {m : Member} → m ≡ member_in words 0 1 → RowNames table r (Some m)
+names-columns {table = table} {r = r} s e = rw (e ∙ same-columns s 1 refl) (names-member table r (stands s))
 
 -- what a caller knows of a row that it has read by its words alone
 module _ {o : Option Entry} {e : Entry} (table : List ℕ) (r : ℕ) (s : RowSays table r o) (i : o ≡ Some e) where

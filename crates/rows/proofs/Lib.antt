@@ -4,3 +4,4 @@ pub mod Columns
 pub mod Known
 pub mod Leaves
 pub mod EnumNames
+pub mod Words

@@ -1,7 +1,12 @@
 -- Tests of a row's columns, as the code makes them (proofs/Columns.antt: for each kind they are the tests of `entry_at`).
-use Rattle.std.specs.Prelude.{ℕ, ◌+◌, ◌-◌, ◌*◌, Bool, ◌&&◌, List, length, take, drop, leb, ltb, eqb}
+use Rattle.std.specs.Prelude.{ℕ, ◌+◌, ◌-◌, ◌*◌, ◌≤◌, ◌≡◌, Bool, ◌&&◌, List, length, take, drop, leb, ltb, eqb}
 use Rattle.format.specs.Bytes.{all_zero}
-use Rattle.format.specs.Table.{word_at}
+use Rattle.format.specs.Table.{word_at, words_at}
+
+-- the words of row r, which lies in the table
+pub record IsRow (table : List ℕ) (r : ℕ) (words : List ℕ) : Type 0 where
+  pub fits : r * 16 + 16 ≤ length table
+  pub words-are : words ≡ words_at table r
 
 -- columns a up to b of row r are zero
 unfoldable pub clear_columns_of : (table : List ℕ) (r a b : ℕ) → Bool

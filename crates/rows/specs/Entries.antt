@@ -1,5 +1,5 @@
 -- What a row says, by its words: the same tests that `type_at` makes of a row (proofs/Decode.antt: typeAt by entries).
-use Rattle.std.specs.Prelude.{ℕ, suc, ◌+◌, ◌*◌, ◌/◌, ◌≤◌, max, Bool, true, not, ◌&&◌, ◌||◌, ◌≡◌, List, [], ◌∷◌, length, get_or, take, drop, leb, ltb, eqb, Option, Some, None, is_some}
+use Rattle.std.specs.Prelude.{ℕ, suc, ◌+◌, ◌-◌, ◌*◌, ◌≤◌, max, Bool, true, not, ◌&&◌, ◌||◌, ◌≡◌, List, [], ◌∷◌, length, get_or, take, drop, leb, ltb, eqb, Option, Some, None, is_some}
 use Rattle.std.specs.Bool.{then_some}
 use Rattle.format.specs.Bytes.{dimensions_from}
 use Rattle.format.specs.Columns.{kind_column, size_column, member_offset_column, length_column, count_column, value_length_column, code_column, is_string_column, variable_padding_column, variable_charset_column}
@@ -7,6 +7,7 @@ use Rattle.format.specs.Datatype.{Leaf as LeafType, leaf_class, leaf_pool, Datat
 use Rattle.format.specs.Table.{leaf_row, compound_row, enumeration_row, variable_length_row, array_row, member_row, enum_member_row, leaf_known, Found, found, bad, Walk, and_then, word_at, row_is_of, LeafKind, isFixedPoint, isFloatingPoint, isTime, is_string_of, isBitField, isOpaque, isReference, Kind, is_leaf, isCompound, isEnumeration, isVariableLength, isArray, isUnknown, has_tag, leaf_of, kind_of, members_at, enum_names_at, enum_values_at}
 use Rattle.rows.specs.declared.Entry.{Entry}
 use Rattle.rows.specs.declared.Entry.TheVariants.{Leaf, Compound, Enumeration, VariableLength, Array}
+use Rattle.rows.specs.declared.EnumPlace.{EnumPlace}
 use Rattle.rows.specs.declared.Member.{Member}
 
 -- the leaf of a kind that row r says, its tag at p
@@ -74,6 +75,10 @@ unfoldable pub MemberInside : Option Member → (words bytes r p : ℕ) → Type
 MemberInside (Some m) words bytes r p = (r * 16 + 16 ≤ words) × (p + m.name ≤ bytes)
 MemberInside None words bytes r p = Unit {0}
 
+-- the place behind an enumeration's member, if the values up to it are no longer than a pool of so many bytes
+unfoldable pub behind_of : (bytes : ℕ) → EnumPlace → Member → Option EnumPlace
+behind_of bytes at m = then_some (leb m.number (bytes - at.values)) (record { row = at.row + 1; place = at.place + m.name; values = at.values + m.number })
+
 -- whether an entry's piece of the pool, at p, lies in a pool of so many bytes
 unfoldable pub entry_fits_of : Entry → (p bytes : ℕ) → Bool
 entry_fits_of (Leaf c n l x) p bytes = eqb l 0 || leb (p + l) bytes
@@ -95,10 +100,6 @@ pub record RowSays (table : List ℕ) (r : ℕ) (e : Option Entry) : Type 0 wher
 pub record RowNames (table : List ℕ) (r : ℕ) (m : Option Member) : Type 0 where
   pub is : (pool : List ℕ) (p : ℕ) → IfKnown (member_at_of table pool r p) m
   pub inside : is_some m ≡ true → r * 16 + 16 ≤ length table
-
--- the member that a row says, if the row lies in the table
-pub record ColumnsSay (table : List ℕ) (r column : ℕ) (m : Option Member) : Type 0 where
-  pub is : m ≡ then_some (ltb r (length table / 16)) (member_in table r column)
 
 -- a leaf's kind, by its class
 unfoldable pub leaf_kind_of : (class : ℕ) → LeafKind

@@ -1,11 +1,11 @@
 // The rows of a lent table, one at a time: which columns a row of a kind uses, its codes, and its piece of the pool.
 #![tactic(auto)]
 
-ghost use Rattle.std.specs.Prelude.{◌≡◌, ◌+◌, ◌*◌, ◌/◌, ◌-◌, ◌≤◌, ◌<◌, length, take, drop, leb, is_some};
+ghost use Rattle.std.specs.Prelude.{◌≡◌, ◌+◌, ◌*◌, ◌/◌, ◌≤◌, ◌<◌, length, leb, is_some, MatchOption};
 ghost use Rattle.std.specs.Bool.{then_some};
 ghost use Rattle.format.specs.Bytes.{all_zero};
-ghost use Rattle.rows.specs.Columns.{clear_columns_of, leaf_columns_of, group_columns_of, variable_length_columns_of, piece_columns_of};
-ghost use Rattle.rows.specs.Entries.{entry_at, member_at_of, enum_member_at_of, EntryInside, IfKnown, entry_fits_of, RowSays, RowNames, ColumnsSay, MemberInside};
+ghost use Rattle.rows.specs.Columns.{clear_columns_of, leaf_columns_of, group_columns_of, variable_length_columns_of, piece_columns_of, IsRow};
+ghost use Rattle.rows.specs.Entries.{entry_at, member_in, member_at_of, enum_member_at_of, EntryInside, behind_of, IfKnown, entry_fits_of, RowSays, RowNames, MemberInside};
 
 // A type's row. Leaf: class, size, length of the tag, and column 5 (order, padding or reference kind). Compound and Enumeration: size and
 // number of members. VariableLength: is a string, padding, charset. Array: rank.
@@ -25,94 +25,93 @@ pub struct Member {
     pub number: u32,
 }
 
-// Whether the words from `from` up to `to` are all zero: without leaving early, so that they are tested side by side.
-pub fn clear_words(table: &[u32], from: usize, to: usize) -> bool
-    requires { (from ≤ to) × (to ≤ length table.now) }
-    ensures { result ≡ all_zero (take (to - from) (drop from table.now)) }
-{
-    table[from..to].iter().fold(0, |all, word| all | *word) == 0
+// A place among the rows of an enumeration's members: the row, where its name is in the pool, and how many bytes the values of the members
+// before it have in all, which stand behind all names.
+#[derive(Clone, Copy)]
+pub struct EnumPlace {
+    pub row: usize,
+    pub place: usize,
+    pub values: usize,
 }
 
-// Whether the bytes from `from` up to `to` are all zero, as above.
-pub fn clear_bytes(pool: &[u8], from: usize, to: usize) -> bool
-    requires { (from ≤ to) × (to ≤ length pool.now) }
-    ensures { result ≡ all_zero (take (to - from) (drop from pool.now)) }
+// Whether words are all zero: without leaving early, so that they are tested side by side.
+pub fn clear_words(words: &[u32]) -> bool
+    ensures { result ≡ all_zero words.now }
 {
-    pool[from..to].iter().fold(0, |all, byte| all | *byte) == 0
+    words.iter().fold(0, |all, word| all | *word) == 0
 }
 
-// Whether columns `from` up to `to` are zero.
-fn clear_columns(table: &[u32], row: usize, from: usize, to: usize) -> bool
-    requires { (row * 16 + 16 ≤ length table.now) × ((from ≤ to) × (to ≤ 16)) }
-    ensures { result ≡ clear_columns_of table.now row from to }
+// Whether bytes are all zero, as above.
+pub fn clear_bytes(bytes: &[u8]) -> bool
+    ensures { result ≡ all_zero bytes.now }
 {
-    clear_words(table, row * 16 + from, row * 16 + to)
+    bytes.iter().fold(0, |all, byte| all | *byte) == 0
+}
+
+// The words of a row; None past the table.
+fn row_words(table: &[u32], row: usize) -> Option<&[u32; 16]>
+    ensures { MatchOption result (length table.now / 16 ≤ row) (λ words. IsRow table.now row words.now) }
+{
+    table.as_chunks::<16>().0.get(row)
+}
+
+// Whether columns `from` up to `to` of a row are zero. Here and below a row that is given by its words is the first of a table of its own.
+fn clear_columns(words: &[u32; 16], from: usize, to: usize) -> bool
+    requires { (from ≤ to) × (to ≤ 16) }
+    ensures { result ≡ clear_columns_of words.now 0 from to }
+{
+    clear_words(&words[from..to])
 }
 
 // The row of a leaf: columns 2 to 4, 6 up to `from`, and from `to` on are zero, and the code in column 5 is below `limit`.
-fn leaf_columns(table: &[u32], row: usize, from: usize, to: usize, limit: u32) -> bool
-    requires { (row * 16 + 16 ≤ length table.now) × ((6 ≤ from) × ((from ≤ to) × (to ≤ 16))) }
-    ensures { result ≡ leaf_columns_of table.now row from to limit }
+fn leaf_columns(words: &[u32; 16], from: usize, to: usize, limit: u32) -> bool
+    requires { (6 ≤ from) × ((from ≤ to) × (to ≤ 16)) }
+    ensures { result ≡ leaf_columns_of words.now 0 from to limit }
 {
-    let common = clear_columns(table, row, 2, 5);
-    let middle = clear_columns(table, row, 6, from);
-    let last = clear_columns(table, row, to, 16);
-    common & middle & last & (table[row * 16 + 5] < limit)
+    let common = clear_columns(words, 2, 5);
+    let middle = clear_columns(words, 6, from);
+    let last = clear_columns(words, to, 16);
+    common & middle & last & (words[5] < limit)
 }
 
 // The row of a compound or an enumeration: only columns 1 and 4 are used.
-fn group_columns(table: &[u32], row: usize) -> bool
-    requires { row * 16 + 16 ≤ length table.now }
-    ensures { result ≡ group_columns_of table.now row }
+fn group_columns(words: &[u32; 16]) -> bool
+    ensures { result ≡ group_columns_of words.now 0 }
 {
-    let middle = clear_columns(table, row, 2, 4);
-    let last = clear_columns(table, row, 5, 16);
+    let middle = clear_columns(words, 2, 4);
+    let last = clear_columns(words, 5, 16);
     middle & last
 }
 
-fn variable_length_columns(table: &[u32], row: usize) -> bool
-    requires { row * 16 + 16 ≤ length table.now }
-    ensures { result ≡ variable_length_columns_of table.now row }
+fn variable_length_columns(words: &[u32; 16]) -> bool
+    ensures { result ≡ variable_length_columns_of words.now 0 }
 {
-    let at = row * 16;
-    let common = clear_columns(table, row, 1, 5);
-    let last = clear_columns(table, row, 8, 16);
-    common & last & (table[at + 5] < 2) & (table[at + 6] < 4) & (table[at + 7] < 3)
+    let common = clear_columns(words, 1, 5);
+    let last = clear_columns(words, 8, 16);
+    common & last & (words[5] < 2) & (words[6] < 4) & (words[7] < 3)
 }
 
 // The row of a piece of the pool: it is at `place`, so many times `width` bytes long, and the columns from `from` on are zero.
-fn piece_columns(
-    table: &[u32],
-    pool: &[u8],
-    row: usize,
-    place: usize,
-    from: usize,
-    width: usize,
-) -> bool
-    requires { (row * 16 + 16 ≤ length table.now) × ((from ≤ 16) × (width ≤ 4)) }
-    ensures { result ≡ piece_columns_of table.now pool.now row place from width }
+fn piece_columns(words: &[u32; 16], pool: &[u8], place: usize, from: usize, width: usize) -> bool
+    requires { (from ≤ 16) × (width ≤ 4) }
+    ensures { result ≡ piece_columns_of words.now pool.now 0 place from width }
 {
-    let at = row * 16;
-    if table[at + 2] as usize != place {
+    if words[2] as usize != place {
         return false;
     }
-    let end = place + (table[at + 3] as usize) * width;
-    clear_columns(table, row, from, 16) & (end <= pool.len())
+    let end = place + (words[3] as usize) * width;
+    clear_columns(words, from, 16) & (end <= pool.len())
 }
 
-// What a type's row has in its columns, not tested: none past the table and for a kind that is no type's.
-pub fn row_entry(table: &[u32], row: usize) -> Option<Entry>
-    ensures { RowSays table.now row result }
+// What a type's row has in its columns, not tested: none for a kind that is no type's.
+fn words_entry(words: &[u32; 16]) -> Option<Entry>
+    ensures { RowSays words.now 0 result }
 {
-    if table.len() / 16 <= row {
-        return None;
-    }
-    let at = row * 16;
-    let kind = table[at];
-    let size = table[at + 1];
-    let length = table[at + 3];
-    let count = table[at + 4];
-    let code = table[at + 5];
+    let kind = words[0];
+    let size = words[1];
+    let length = words[3];
+    let count = words[4];
+    let code = words[5];
     Some(match kind {
         1 => Entry::Leaf(0, size, 0, code),
         2 => Entry::Leaf(1, size, 0, code),
@@ -123,31 +122,35 @@ pub fn row_entry(table: &[u32], row: usize) -> Option<Entry>
         7 => Entry::Compound(size, count),
         8 => Entry::Leaf(7, size, 0, code),
         9 => Entry::Enumeration(size, count),
-        10 => Entry::VariableLength(code, table[at + 6], table[at + 7]),
+        10 => Entry::VariableLength(code, words[6], words[7]),
         11 => Entry::Array(length),
         _ => return None,
     })
 }
 
-// Whether a row is a type's, its pool bytes at `place`: it uses the columns of its kind only, with known codes, and its piece lies in the pool.
-fn row_known(table: &[u32], pool: &[u8], row: usize, place: usize) -> bool
-    requires { row < length table.now / 16 }
-    ensures { result ≡ is_some (entry_at table.now pool.now row place) }
+// The same, of a row of a table: none past the table.
+pub fn row_entry(table: &[u32], row: usize) -> Option<Entry>
+    ensures { RowSays table.now row result }
 {
-    let at = row * 16;
-    let kind = table[at];
-    match kind {
-        1 => leaf_columns(table, row, 6, 9, 3) & (table[at + 6] < 2),
-        2 => leaf_columns(table, row, 7, 14, 3),
-        3 => leaf_columns(table, row, 8, 9, 3),
-        4 => leaf_columns(table, row, 6, 7, 3) & (table[at + 6] < 2),
-        5 => leaf_columns(table, row, 7, 9, 3),
-        6 => piece_columns(table, pool, row, place, 4, 1),
-        7 => group_columns(table, row),
-        8 => leaf_columns(table, row, 6, 6, 2),
-        9 => group_columns(table, row),
-        10 => variable_length_columns(table, row),
-        11 => (table[at + 1] == 0) & piece_columns(table, pool, row, place, 4, 4),
+    words_entry(row_words(table, row)?)
+}
+
+// Whether a row is a type's, its pool bytes at `place`: it uses the columns of its kind only, with known codes, and its piece lies in the pool.
+fn row_known(words: &[u32; 16], pool: &[u8], place: usize) -> bool
+    ensures { result ≡ is_some (entry_at words.now pool.now 0 place) }
+{
+    match words[0] {
+        1 => leaf_columns(words, 6, 9, 3) & (words[6] < 2),
+        2 => leaf_columns(words, 7, 14, 3),
+        3 => leaf_columns(words, 8, 9, 3),
+        4 => leaf_columns(words, 6, 7, 3) & (words[6] < 2),
+        5 => leaf_columns(words, 7, 9, 3),
+        6 => piece_columns(words, pool, place, 4, 1),
+        7 => group_columns(words),
+        8 => leaf_columns(words, 6, 6, 2),
+        9 => group_columns(words),
+        10 => variable_length_columns(words),
+        11 => (words[1] == 0) & piece_columns(words, pool, place, 4, 4),
         _ => false,
     }
 }
@@ -157,23 +160,20 @@ pub fn entry_at(table: &[u32], pool: &[u8], row: usize, place: usize) -> Option<
     ensures is { result ≡ entry_at table.now pool.now row place }
     ensures inside { EntryInside result (length table.now) (length pool.now) row place }
 {
-    let entry = row_entry(table, row)?;
-    row_known(table, pool, row, place).then_some(entry)
+    let words = row_words(table, row)?;
+    let entry = words_entry(words)?;
+    row_known(words, pool, place).then_some(entry)
 }
 
-// What a member's row has in its columns, not tested, its number in a column: none past the table.
-fn member_columns(table: &[u32], row: usize, number: usize) -> Option<Member>
+// What a member's row has in its columns, not tested, its number in a column.
+fn member_columns(words: &[u32; 16], number: usize) -> Member
     requires { number < 16 }
-    ensures { ColumnsSay table.now row number result }
+    ensures { result ≡ member_in words.now 0 number }
 {
-    if table.len() / 16 <= row {
-        return None;
+    Member {
+        name: words[3],
+        number: words[number],
     }
-    let at = row * 16;
-    Some(Member {
-        name: table[at + 3],
-        number: table[at + number],
-    })
 }
 
 // The row of a compound's member, its name at `place`.
@@ -181,9 +181,9 @@ pub fn member_at(table: &[u32], pool: &[u8], row: usize, place: usize) -> Option
     ensures is { result ≡ member_at_of table.now pool.now row place }
     ensures inside { MemberInside result (length table.now) (length pool.now) row place }
 {
-    let member = member_columns(table, row, 1)?;
-    let known = (table[row * 16] == 12) & piece_columns(table, pool, row, place, 4, 1);
-    known.then_some(member)
+    let words = row_words(table, row)?;
+    let known = (words[0] == 12) & piece_columns(words, pool, place, 4, 1);
+    known.then_some(member_columns(words, 1))
 }
 
 // The row of an enumeration's member, its name at `place`.
@@ -191,10 +191,10 @@ pub fn enum_member_at(table: &[u32], pool: &[u8], row: usize, place: usize) -> O
     ensures is { result ≡ enum_member_at_of table.now pool.now row place }
     ensures inside { MemberInside result (length table.now) (length pool.now) row place }
 {
-    let member = member_columns(table, row, 4)?;
-    let begins = (table[row * 16] == 13) & (table[row * 16 + 1] == 0);
-    let known = begins & piece_columns(table, pool, row, place, 5, 1);
-    known.then_some(member)
+    let words = row_words(table, row)?;
+    let begins = (words[0] == 13) & (words[1] == 0);
+    let known = begins & piece_columns(words, pool, place, 5, 1);
+    known.then_some(member_columns(words, 4))
 }
 
 // Whether a piece of so many times `width` bytes at a place lies in the pool.
@@ -242,7 +242,7 @@ pub fn known_entry_at(table: &[u32], pool: &[u8], row: usize, place: usize) -> O
 pub fn row_member(table: &[u32], row: usize) -> Option<Member>
     ensures { RowNames table.now row result }
 {
-    member_columns(table, row, 1)
+    Some(member_columns(row_words(table, row)?, 1))
 }
 
 // A member whose name lies in the pool at `place`.
@@ -257,7 +257,7 @@ pub fn known_member_at(table: &[u32], pool: &[u8], row: usize, place: usize) -> 
     ensures is { IfKnown (member_at_of table.now pool.now row place) result }
     ensures inside { MemberInside result (length table.now) (length pool.now) row place }
 {
-    named_at(pool, place, member_columns(table, row, 1)?)
+    named_at(pool, place, member_columns(row_words(table, row)?, 1))
 }
 
 // What `enum_member_at` answers of a row that is known to be an enumeration member's.
@@ -265,5 +265,36 @@ pub fn known_enum_member_at(table: &[u32], pool: &[u8], row: usize, place: usize
     ensures is { IfKnown (enum_member_at_of table.now pool.now row place) result }
     ensures inside { MemberInside result (length table.now) (length pool.now) row place }
 {
-    named_at(pool, place, member_columns(table, row, 4)?)
+    named_at(pool, place, member_columns(row_words(table, row)?, 4))
+}
+
+impl EnumPlace {
+    // The place behind a member; None where the values are longer than the pool.
+    pub fn behind(self, pool: &[u8], member: Member) -> Option<EnumPlace>
+        requires { (self.row < 18446744073709551615) × ((self.place + member.name ≤ length pool.now) × (self.values ≤ length pool.now)) }
+        ensures { result ≡ behind_of (length pool.now) self member }
+    {
+        let length = member.number as usize;
+        if pool.len() - self.values < length {
+            return None;
+        }
+        Some(EnumPlace {
+            row: self.row + 1,
+            place: self.place + member.name as usize,
+            values: self.values + length,
+        })
+    }
+
+    // Where the values end that begin here, behind the last name; None where they are not in the pool.
+    pub fn end(self, pool: &[u8]) -> Option<usize>
+        ensures { result ≡ then_some (leb (self.place + self.values) (length pool.now)) (self.place + self.values) }
+    {
+        if pool.len() < self.place {
+            return None;
+        }
+        if pool.len() - self.place < self.values {
+            return None;
+        }
+        Some(self.place + self.values)
+    }
 }

@@ -92,7 +92,7 @@ pub members-start : (most levels : ℕ) (table pool : List ℕ) (count row limit
 members-start most levels table pool count row limit at s w = let e : count - 0 ≡ count = omega arith in record { same = refl; leads = λ s' w' h. rw e at h }
 
 module _ (table pool : List ℕ) (most depth k r count row limit at : ℕ) (s : Runs) (w : List ℕ) (s₁ : Runs) (w₁ : List ℕ) (inv : Leads most (32 - depth) table pool k r count row limit at s w s₁ w₁) where
-  pub members_end : count ≤ k → ListsMembers most (32 - depth) table pool count row limit at s w (record { row = r; closed = s₁.closed; place = s₁.place; size = s₁.size; ended = s₁.ended }) w₁
+  pub members_end : count ≤ k → ListsMembers most (32 - depth) table pool count row limit at s w (record { row = r; closed = s₁.closed; last = s₁.last }) w₁
   members_end e =
       let k : count - k ≡ 0 = omega arith in
       inv.leads _ _ (record { grows = grows_same s₁.closed; lists = λ z p. rw k (unfold members_at ListsIn in λ n d l. unfold fields_of move_fields add_runs in (record { row_is = refl; holds = λ len v h. record { open_is = h.open_is; low = h.low; closed_is = h.closed_is; stored = h.stored } })) })

@@ -18,7 +18,7 @@ use Rattle.runs.specs.declared.Runs.{Runs}
 
 -- no run but an empty one
 abbrev started : Runs
-started = record { row = 0; closed = 0; place = 0; size = 0; ended = false }
+started = record { row = 0; closed = 0; last = record { place = 0; size = 0; ended = false } }
 
 abbrev none : RunList
 none = record { last = no_run; before = [] }

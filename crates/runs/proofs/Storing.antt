@@ -1,7 +1,7 @@
 -- One field added to the runs that a state and a workspace hold, and a run stored: one law for each way out.
 use Prim.Native.Nat.{ℕ, suc, ◌+◌, ◌-◌, ◌*◌, ◌/◌, ◌<◌, ◌≤◌}
 use mathlib.Core.Path.{◌≡◌, refl, sym, ◌∙◌}
-use mathlib.Core.Bool.{Bool, true, false}
+use mathlib.Core.Bool.{Bool, true, false, cond}
 use mathlib.Core.List.{List, ◌∷◌}
 use native.Mathlib.Omega.{arith}
 use native.Mathlib.Numerals.{add-one}
@@ -14,42 +14,46 @@ use Rattle.format.proofs.Booleans.{same_test}
 use Rattle.compare.specs.Agreeing.{field_at}
 use Rattle.groups.specs.Runs.{RunList, joins, joined, add_runs, run_code_of, words_of}
 use Rattle.groups.proofs.Runs.{joins-says, run-longer, run-new}
-use Rattle.runs.specs.Listing.{open_run, Grows, Stores, ListsOne, ListsField}
+use Rattle.runs.specs.Listing.{as_field, open_run, Grows, Stores, ListsOne, ListsField}
+use Rattle.runs.specs.declared.Run.{Run}
 use Rattle.runs.specs.declared.Runs.{Runs}
 
 -- ---- whether a field lengthens the open run
 
-module _ (s : Runs) (place : ℕ) (ended : Bool) where
-  pub joins-ended-run : s.ended ≡ true → false ≡ joins (open_run s) (field_at place 0 ended)
+module _ (s f : Run) where
+  pub joins-ended-run : s.ended ≡ true → false ≡ joins (as_field s) (as_field f)
   unfolding joins
   joins-ended-run e = rw e
 
   module _ (run : s.ended ≡ false) where
-    pub joins-ended-field : ended ≡ true → false ≡ joins (open_run s) (field_at place 0 ended)
+    pub joins-ended-field : f.ended ≡ true → false ≡ joins (as_field s) (as_field f)
     unfolding joins
     joins-ended-field e = rw (run, e)
 
-    module _ (field : ended ≡ false) where
-      joins_by_place : joins (open_run s) (field_at place 0 ended) ≡ eqb (s.place + s.size) place
+    module _ (field : f.ended ≡ false) where
+      joins_by_place : joins (as_field s) (as_field f) ≡ eqb (s.place + s.size) f.place
       unfolding joins
       joins_by_place = rw (run, field)
 
-      pub joins-before : place < s.place → false ≡ joins (open_run s) (field_at place 0 ended)
-      joins-before l = sym (joins_by_place ∙ ne_eqb (s.place + s.size) place (λ e. omega arith))
+      pub joins-before : f.place < s.place → false ≡ joins (as_field s) (as_field f)
+      joins-before l = sym (joins_by_place ∙ ne_eqb (s.place + s.size) f.place (λ e. omega arith))
 
-      pub joins_touching : s.place ≤ place → eqb (place - s.place) s.size ≡ joins (open_run s) (field_at place 0 ended)
+      pub joins_touching : s.place ≤ f.place → eqb (f.place - s.place) s.size ≡ joins (as_field s) (as_field f)
       joins_touching l =
-          same_test (eqb (place - s.place) s.size) (eqb (s.place + s.size) place)
-          (λ e. eq-eqb (s.place + s.size) place (omega (arith, eqb-true (place - s.place) s.size e)))
-          (λ e. eq-eqb (place - s.place) s.size (omega (arith, eqb-true (s.place + s.size) place e)))
+          same_test (eqb (f.place - s.place) s.size) (eqb (s.place + s.size) f.place)
+          (λ e. eq-eqb (s.place + s.size) f.place (omega (arith, eqb-true (f.place - s.place) s.size e)))
+          (λ e. eq-eqb (f.place - s.place) s.size (omega (arith, eqb-true (s.place + s.size) f.place e)))
           ∙ sym joins_by_place
 
 -- ---- a run's second word
 
-pub code_is : (n : ℕ) (e : Bool) → n * 2 + bool_byte e ≡ run_code_of (field_at 0 n e)
+pub code_is : (g : Run) → g.size * 2 + bool_byte g.ended ≡ run_code_of (as_field g)
 unfolding run_code_of
-code_is n true = refl
-code_is n false = omega arith
+code_is g = go g.size g.ended
+  where
+    go : (n : ℕ) (e : Bool) → n * 2 + bool_byte e ≡ cond e (n * 2 + 1) (n * 2)
+    go n true = refl
+    go n false = omega arith
 
 -- ---- the count of closed runs
 
@@ -84,14 +88,14 @@ module _ (s : Runs) (w : List ℕ) where
   store_full h l = record { grows = grows_same s.closed; stores = λ len rs z e g. (omega arith, record { long = g.long; words = λ q. absurd (omega (arith, g.long)) }) }
 
   module _ (few : s.closed < 9223372036854775808) where
-    pub store_large : 4294967296 ≤ s.size → Stores s w (s.closed + 1) w
+    pub store_large : 4294967296 ≤ s.last.size → Stores s w (s.closed + 1) w
     store_large h = record { grows = grows_one s.closed few; stores = λ len rs z e g. absurd (omega arith) }
 
     pub store_past : length w / 2 ≤ s.closed → Stores s w (s.closed + 1) w
     store_past h = record { grows = grows_one s.closed few; stores = λ len rs z e g. (omega arith, record { long = g.long; words = λ q. absurd (omega (arith, g.long)) }) }
 
-    pub store_here : {code : ℕ} → code ≡ run_code_of (field_at 0 s.size s.ended) → s.closed < length w / 2
-        → Stores s w (s.closed + 1) (set (set w (length w - 2 * s.closed - 2) s.place) (length w - 2 * s.closed - 2 + 1) code)
+    pub store_here : {code : ℕ} → code ≡ run_code_of (open_run s) → s.closed < length w / 2
+        → Stores s w (s.closed + 1) (set (set w (length w - 2 * s.closed - 2) s.last.place) (length w - 2 * s.closed - 2 + 1) code)
     unfolding words_of run_code_of
     store_here {code = code} c h =
         record {
@@ -100,41 +104,40 @@ module _ (s : Runs) (w : List ℕ) where
               let at : ℕ = length w - 2 * s.closed - 2 in (
                 omega arith,
                 record {
-                  long = length-set (set w at s.place) (at + 1) code ∙ length-set w at s.place ∙ g.long;
+                  long = length-set (set w at s.last.place) (at + 1) code ∙ length-set w at s.last.place ∙ g.long;
                   words = λ q.
                       let i : len - 2 * length (open_run s ∷ rs) ≡ at = omega (arith, g.long) in
                       let j : suc (suc at) ≡ len - 2 * length rs = omega (arith, g.long) in
-                      rw (i, add-one at, drop-two w at s.place code (omega arith), j, g.words (omega arith), c);
+                      rw (i, add-one at, drop-two w at s.last.place code (omega arith), j, g.words (omega arith), c);
                 },
               );
         }
 
 -- ---- one field more
 
-module _ (s : Runs) (place size : ℕ) (ended : Bool) (row : ℕ) (w : List ℕ) {j : Bool} (is : j ≡ joins (open_run s) (field_at place 0 ended)) where
-  test-is : {c : Bool} → j ≡ c → joins (open_run s) (field_at place size ended) ≡ c
-  unfolding joins
+module _ (s : Runs) (f : Run) (row : ℕ) (w : List ℕ) {j : Bool} (is : j ≡ joins (open_run s) (as_field f)) where
+  test-is : {c : Bool} → j ≡ c → joins (open_run s) (as_field f) ≡ c
   test-is e = sym is ∙ e
 
   module _ (so : j ≡ true) where
-    touches : s.place + s.size ≡ place
-    touches = (joins-says (open_run s) (field_at place size ended) (test-is so)).touches
+    touches : s.last.place + s.last.size ≡ f.place
+    touches = (joins-says (open_run s) (as_field f) (test-is so)).touches
 
-    pub longer-from : s.place ≤ place
+    pub longer-from : s.last.place ≤ f.place
     longer-from = omega (arith, touches)
 
     -- a run that is lengthened counts whole
-    whole : s.ended ≡ false
-    whole = (joins-says (open_run s) (field_at place size ended) (test-is so)).whole_run
+    whole : s.last.ended ≡ false
+    whole = (joins-says (open_run s) (as_field f) (test-is so)).whole_run
 
-    longer : (v : RunList) → open_run s ≡ v.last → field_at s.place (place - s.place + size) s.ended ≡ joined v.last (field_at place size ended)
+    longer : (v : RunList) → open_run s ≡ v.last → field_at s.last.place (f.place - s.last.place + f.size) s.last.ended ≡ joined v.last (as_field f)
     unfolding joined
     longer v h =
-        let n : place - s.place + size ≡ s.size + size = omega (arith, touches) in
+        let n : f.place - s.last.place + f.size ≡ s.last.size + f.size = omega (arith, touches) in
         rw (n, whole, ← h)
 
-    pub add_longer : place + size < 4294967296
-        → ListsOne (field_at place size ended) row s w (record { row = row; closed = s.closed; place = s.place; size = place - s.place + size; ended = s.ended }) w
+    pub add_longer : f.place + f.size < 4294967296
+        → ListsOne (as_field f) row s w (record { row = row; closed = s.closed; last = record { place = s.last.place; size = f.place - s.last.place + f.size; ended = s.last.ended } }) w
     unfolding add_runs
     add_longer l =
         record {
@@ -142,14 +145,14 @@ module _ (s : Runs) (place size : ℕ) (ended : Bool) (row : ℕ) (w : List ℕ)
           lists = record {
             row_is = refl;
             holds = λ len v h.
-                let e : joins v.last (field_at place size ended) ≡ true = rw (← h.open_is) (test-is so) in
-                rw (run-longer v (field_at place size ended) e)
+                let e : joins v.last (as_field f) ≡ true = rw (← h.open_is) (test-is so) in
+                rw (run-longer v (as_field f) e)
                 (record { open_is = longer v h.open_is; low = omega arith; closed_is = h.closed_is; stored = h.stored });
           };
         }
 
-  pub add_new : {w' : List ℕ} {closed : ℕ} → Stores s w closed w' → j ≡ false → place + size < 4294967296
-      → ListsOne (field_at place size ended) row s w (record { row = row; closed = closed; place = place; size = size; ended = ended }) w'
+  pub add_new : {w' : List ℕ} {closed : ℕ} → Stores s w closed w' → j ≡ false → f.place + f.size < 4294967296
+      → ListsOne (as_field f) row s w (record { row = row; closed = closed; last = f }) w'
   unfolding add_runs
   add_new k not_so l =
       record {
@@ -157,9 +160,9 @@ module _ (s : Runs) (place size : ℕ) (ended : Bool) (row : ℕ) (w : List ℕ)
         lists = record {
           row_is = refl;
           holds = λ len v h.
-              let e : joins v.last (field_at place size ended) ≡ false = rw (← h.open_is) (test-is not_so) in
+              let e : joins v.last (as_field f) ≡ false = rw (← h.open_is) (test-is not_so) in
               let d = k.stores len v.before h.low h.closed_is h.stored in
-              rw (run-new v (field_at place size ended) e)
+              rw (run-new v (as_field f) e)
               (record { open_is = refl; low = omega arith; closed_is = d.0; stored = rw h.open_is at d.1 });
         };
       }

@@ -22,13 +22,13 @@ use Rattle.rows.specs.declared.Entry.TheVariants.{Leaf, Compound, Enumeration, V
 use Rattle.rows.proofs.Known.{claim_of-type}
 use Rattle.table.specs.Known.{PassesTo, PassesType, TotalAt, SizedTo, SizedAt}
 use Rattle.table.specs.Path.{top_of, Entered}
-use Rattle.table.specs.declared.Path.{Path}
+use Rattle.table.specs.declared.path.Path.{Path}
 use Rattle.compare.specs.Agreeing.{nul_terminated_of, is_field_of, is_string_of}
 use Rattle.compare.proofs.Fields.{IsField, field-moved, leaf-field, enumeration-field, OneField, type-field}
 use Rattle.compare.proofs.Types.{base-admitted, base-sized, total-is, count-is, count-some, untyped}
 use Rattle.groups.specs.Runs.{RunList, add_runs}
 use Rattle.groups.proofs.Runs.{whole_at, runs_entries}
-use Rattle.runs.specs.Listing.{Standing, Grows, Lists, ListsField, ListsAs, ListsIn, ListsEach, ListsAt, ListsMembers, ListsEntries, ListsArray}
+use Rattle.runs.specs.Listing.{Grows, Lists, ListsField, ListsAs, ListsIn, ListsEach, ListsAt, ListsMembers, ListsEntries, ListsArray}
 use Rattle.runs.specs.declared.Runs.{Runs}
 
 -- ---- one field
@@ -192,9 +192,6 @@ module _ (table pool : List ℕ) (most depth row k limit at : ℕ) (s : Runs) (w
           }
 
 -- ---- one level further down
-
-pub standing-entered : {limit at row : ℕ} {path : Path} (inner : Path) → Entered path row inner → path.depth < 32 → at ≤ limit → limit < 4294967296 → Standing inner limit at
-standing-entered inner e h b l = let d = e.deeper in record { deep = omega arith; shallow = omega arith; begins = b; low = l }
 
 pub member-entered : (table pool : List ℕ) (most depth row limit at : ℕ) (s : Runs) (w : List ℕ) (s' : Runs) (w' : List ℕ) {path : Path} (inner : Path) → path.depth ≡ depth → depth < 32 → Entered path row inner
     → ListsAt most (33 - inner.depth) table pool (top_of inner) limit at s w s' w' → ListsAt most (32 - depth) table pool row limit at s w s' w'

@@ -5,21 +5,18 @@ use Rattle.format.specs.Image.{Field, move_fields, field_entries, fields_of, mem
 use Rattle.format.specs.Table.{Found, found, bad, type_at, members_at}
 use Rattle.rows.specs.Entries.{entry_at, from_entry}
 use Rattle.rows.specs.declared.Entry.TheVariants.{Array}
-use Rattle.table.specs.declared.Path.{Path}
 use Rattle.compare.specs.Agreeing.{field_at, Admitted, AdmittedIn}
 use Rattle.groups.specs.Runs.{RunList, add_runs, words_of}
+use Rattle.runs.specs.declared.Run.{Run}
 use Rattle.runs.specs.declared.Runs.{Runs}
+
+-- a run, as the field that it counts as
+abbrev pub as_field : Run → Field
+as_field g = record { place = g.place; size = g.size; ended = g.ended }
 
 -- the run that is open
 abbrev pub open_run : Runs → Field
-open_run s = record { place = s.place; size = s.size; ended = s.ended }
-
--- the path has a row at its end, and a type begins within a record, which is shorter than 4 GiB
-pub record Standing (path : Path) (limit at : ℕ) : Type 0 where
-  pub deep : 0 < path.depth
-  pub shallow : path.depth ≤ 32
-  pub begins : at ≤ limit
-  pub low : limit < 4294967296
+open_run s = as_field s.last
 
 abbrev pub most_runs : ℕ → ℕ
 most_runs n = min n 9223372036854775808
@@ -32,7 +29,7 @@ pub record StoredIn (len : ℕ) (rs : List Field) (w : List ℕ) : Type 0 where
 -- the state and a workspace of a length hold a list of runs
 pub record Held (len : ℕ) (v : RunList) (s : Runs) (w : List ℕ) : Type 0 where
   pub open_is : open_run s ≡ v.last
-  pub low : s.size < 4294967296
+  pub low : s.last.size < 4294967296
   pub closed_is : s.closed ≡ most_runs (length v.before)
   pub stored : StoredIn len v.before w
 
@@ -44,7 +41,7 @@ pub record Grows (c c' : ℕ) : Type 0 where
 -- the open run stored before those that are
 pub record Stores (s : Runs) (w : List ℕ) (r : ℕ) (w' : List ℕ) : Type 0 where
   pub grows : Grows s.closed r
-  pub stores : (len : ℕ) (rs : List Field) → s.size < 4294967296 → s.closed ≡ most_runs (length rs) → StoredIn len rs w
+  pub stores : (len : ℕ) (rs : List Field) → s.last.size < 4294967296 → s.closed ≡ most_runs (length rs) → StoredIn len rs w
       → (r ≡ most_runs (length (open_run s ∷ rs))) × StoredIn len (open_run s ∷ rs) w'
 
 -- fields listed, and the row behind them

@@ -54,17 +54,19 @@ pub fn shown_text(s: &[u8], count: usize) {
     }
 }
 
-// `refused`, number and values.
+// A refusal, on a line.
 pub fn refusal_line(e: Refusal) {
-    let values = refusal::values(e);
-    out!("refused {}", refusal::number(e));
-    if let Some(first) = values.first {
-        out!(" {first}");
+    out!("{e}\n");
+}
+
+// The line of an answer: a refusal, or what `line` writes of a result.
+pub fn answer_line<T, F: FnOnce(T)>(answer: Result<T, Refusal>, line: F)
+    requires { F.IsAlwaysCallable line }
+{
+    match answer {
+        Err(e) => refusal_line(e),
+        Ok(x) => line(x),
     }
-    if let Some(second) = values.second {
-        out!(" {second}");
-    }
-    out!("\n");
 }
 
 // What there is up to the last that is not 0.
@@ -105,18 +107,11 @@ fn table_and_pool(table: &[u32], pool: &[u8]) {
     }
 }
 
-fn answer_line(answer: Result<usize, Refusal>) {
-    match answer {
-        Err(e) => refusal_line(e),
-        Ok(n) => out!("read {n}\n"),
-    }
-}
-
 fn read_and_show(label: &[u8], message: &[u8], limit: u32, table: &mut [u32], pool: &mut [u8]) {
     let answer = reader::read(message, limit, table, pool);
     text(label);
     out!(": ");
-    answer_line(answer);
+    answer_line(answer, |n| out!("read {n}\n"));
     table_and_pool(table, pool);
 }
 

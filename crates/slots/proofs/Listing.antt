@@ -13,7 +13,7 @@ use Rattle.rows.specs.declared.Entry.TheVariants.{Leaf, Compound, Enumeration, V
 use Rattle.rows.proofs.Leaves.{leaf_law}
 use Rattle.table.specs.Known.{TotalAt, SizedTo, SizedAt}
 use Rattle.table.specs.Path.{top_of, Entered}
-use Rattle.table.specs.declared.Path.{Path}
+use Rattle.table.specs.declared.path.Path.{Path}
 use Rattle.table.proofs.Passing.{passes_none, passes-leaf, passes-compound, passes-array}
 use Rattle.slots.specs.Slots.{AllBelow, Fits, Listed, Listable, PutAs, PutIn, PutAt, PutInside, Passed, PutLeaf, Repeats}
 use Rattle.slots.specs.declared.Put.{Put}

@@ -1,5 +1,5 @@
 -- The small counts: sums, products and ends that stop, and what a leaf counts.
-use Rattle.std.proofs.Common.{◌≡◌, ℕ, zero, suc, ◌+◌, ◌-◌, ◌*◌, ◌<◌, ◌≤◌, min, max, Bool, true, false, cond, not, ◌&&◌, ◌||◌, eqb, ltb, sym, refl, ap, ◌∙◌, mul-le-mul_right, mul-le-mul, one-mul, mul-zero, zero-mul, le-mul_of_pos_right, arith}
+use Rattle.std.proofs.Common.{◌≡◌, ℕ, zero, suc, ◌+◌, ◌-◌, ◌*◌, ◌<◌, ◌≤◌, min, max, Bool, true, false, cond, not, ◌&&◌, ◌||◌, eqb, ltb, sym, refl, ap, ◌∙◌, mul-le-mul_right, one-mul, mul-zero, zero-mul, le-mul_of_pos_right, arith}
 use native.Mathlib.Decide.{dec_le}
 use Rattle.format.specs.Slots.{is_slot, last_end, moved_end_of}
 use Rattle.format.proofs.Slots.{moved_end}
@@ -37,7 +37,7 @@ module _ (most o e : ℕ) where
   unfolding moved_end_of
   further-none z = rw z (omega arith)
 
-  pub further-moved : (e ≡ 0 → ⊥) → most_end (max most (o + most_end e)) ≡ most_end (max most (moved_end_of o e))
+  pub further-moved : (e ≡ 0 → ⊥) → most_end (max most (min (o + e) 18446744073709551615)) ≡ most_end (max most (moved_end_of o e))
   further-moved z = rw (moved_end o e (omega (arith, z))) (omega arith)
 
 -- ---- the end of the last of n entries
@@ -61,7 +61,7 @@ module _ (stride end n : ℕ) (e : end ≡ 0 → ⊥) (k : n ≡ 0 → ⊥) wher
   last_as : last_end stride end n ≡ (n - 1) * stride + end
   last_as = last_entry stride end n (omega (arith, e)) (omega (arith, k))
 
-  pub last-is : most_end ((n - 1) * stride + most_end end) ≡ most_end (last_end stride end n)
+  pub last-is : most_end (min (min ((n - 1) * stride) 18446744073709551615 + end) 18446744073709551615) ≡ most_end (last_end stride end n)
   last-is = rw last_as (omega arith)
 
 -- ---- a leaf

@@ -18,18 +18,12 @@ use Rattle.rows.proofs.Known.{claim_of-members}
 use Rattle.rows.proofs.Leaves.{leaf_law}
 use Rattle.table.specs.Known.{PassesTo, PassesType, PassesMembers, PassesNames, TotalAt, SizedTo, SizedAt}
 use Rattle.table.specs.Path.{top_of, Entered}
-use Rattle.table.specs.declared.Path.{Path}
+use Rattle.table.specs.declared.path.Path.{Path}
 use Rattle.table.proofs.Passing.{passes_none, passes_unknown, passes-leaf, passes-compound, passes-enumeration, passes-variable_length, passes-array, passes-start, passes_end, passes_unnamed, passes-next}
 use Rattle.slots.specs.Slots.{most_slots, most_end, leaf_tally_of, hidden_tally_of, entries_tally_of, Counted, CountedAs, CountedIn, TallyAt, TallyIn}
 use Rattle.slots.specs.declared.Tally.{Tally}
 use Rattle.slots.proofs.Numbers.{times_stop, last-stops, sums_stop, moved-stops, ends_stop}
 use Rattle.slots.proofs.Rows.{above, below, by_row}
-
--- ---- the number of entries
-
--- a total is never above its cap, so an answer past it is of no array
-pub total-past : (table pool : List ℕ) (row rank : ℕ) (x : ℕ) {n : ℕ} → TotalAt table pool row rank 1 n → 4294967296 < n → TotalAt table pool row rank 1 x
-total-past table pool row rank x t h = record { total = λ p q. let w = t.total p q in absurd (omega arith) }
 
 -- ---- a leaf
 

@@ -9,7 +9,6 @@ use Rattle.format.specs.Slots.{is_slot, shifted, entries, slots, member_slots, l
 use Rattle.format.specs.Table.{Found, found, bad, type_at, members_at}
 use Rattle.slots.specs.declared.Tally.{Tally}
 use Rattle.slots.specs.declared.Put.{Put}
-use Rattle.table.specs.declared.Path.{Path}
 use Rattle.table.specs.Known.{PassesType, PassesMembers}
 
 abbrev pub most_slots : ℕ → ℕ
@@ -59,12 +58,6 @@ unfoldable pub entries_tally_of : (stride n : ℕ) → Tally → Tally
 entries_tally_of stride n b = record { row = b.row; unmapped = b.unmapped; count = most_slots (n * b.count); end = most_end (last_end stride b.end n) }
 
 -- ---- listing
-
--- the path has a row at its end, and a type begins at a place that 32 bits hold
-pub record Standing (path : Path) (base : ℕ) : Type 0 where
-  pub deep : 0 < path.depth
-  pub shallow : path.depth ≤ 32
-  pub low : base < 4294967296
 
 unfoldable pub AllBelow : (limit : ℕ) → List ℕ → Type 0
 AllBelow m [] = Unit {0}

@@ -8,12 +8,12 @@ ghost use Rattle.rows.specs.declared.Entry.TheVariants.{Array};
 ghost use Rattle.table.specs.Known.{TotalAt};
 ghost use Rattle.table.specs.Path.{top_of};
 ghost use Rattle.table.specs.Survey.{Sets};
-ghost use Rattle.slots.specs.Slots.{most_slots, most_end, leaf_tally_of, hidden_tally_of, entries_tally_of, TallyAt, TallyIn, Standing, Passed, PutLeaf, moved_on, Repeats, PutAt, PutInside, SlotsAre};
+ghost use Rattle.slots.specs.Slots.{most_slots, most_end, leaf_tally_of, hidden_tally_of, entries_tally_of, TallyAt, TallyIn, Passed, PutLeaf, moved_on, Repeats, PutAt, PutInside, SlotsAre};
 
 use refusal::Refusal;
 use rows::{Entry, row_entry, row_member};
 use std::num::wrapping_add_u64;
-use table::{Path, Survey, array_total, behind_enum_members, check, enter, next_row, size_at};
+use table::{Path, Survey, array_total, behind_enum_members, check, next_row, size_at};
 
 // What a first walk finds, before anything is listed: the row behind the type, whether the type holds a reference that is no slot's, the number
 // of slots and the greatest slot + 8; the last two stop at 1,073,741,824 and 4,294,967,296, past all that a type of 32-bit size can have.
@@ -36,15 +36,14 @@ pub struct Put {
 fn sum_slots(a: u64, b: u64) -> u64
     ensures { result ≡ most_slots (a + b) }
 {
-    (a.min(1073741824) + b.min(1073741824)).min(1073741824)
+    a.saturating_add(b).min(1073741824)
 }
 
 // The slots of n entries.
 fn times_slots(n: u64, count: u64) -> u64
-    requires { n ≤ 4294967296 }
     ensures { result ≡ most_slots (n * count) }
 {
-    (n * count.min(1073741824)).min(1073741824)
+    n.saturating_mul(count).min(1073741824)
 }
 
 // The greater of an end and a member's, which is moved by the member's offset.
@@ -54,24 +53,34 @@ fn further_end(most: u64, offset: u32, end: u64) -> u64
     if end == 0 {
         return most.min(4294967296);
     }
-    let moved = u64::from(offset) + end.min(4294967296);
+    let moved = u64::from(offset).saturating_add(end);
     most.max(moved).min(4294967296)
 }
 
 // The end of the last of n entries.
 fn last_end(stride: u32, end: u64, n: u64) -> u64
-    requires { n ≤ 4294967296 }
     ensures { result ≡ most_end (last_end stride end n) }
 {
     if end == 0 || n == 0 {
         return 0;
     }
-    let last = (n - 1) * u64::from(stride) + end.min(4294967296);
-    last.min(4294967296)
+    let last = (n - 1).saturating_mul(u64::from(stride));
+    last.saturating_add(end).min(4294967296)
 }
 
-// A leaf, the row behind it given: an 8-byte object reference is a slot, every other reference no slot's. One of class 0 counts nothing, and
-// stands where no type is found.
+// Where no type is found: nothing is counted.
+fn untyped_tally(row: usize) -> Tally
+    ensures { result.row ≡ row }
+{
+    Tally {
+        row,
+        unmapped: false,
+        count: 0,
+        end: 0,
+    }
+}
+
+// A leaf, the row behind it given: an 8-byte object reference is a slot, every other reference no slot's.
 fn leaf_tally(class: u32, size: u32, code: u32, row: usize) -> Tally
     ensures { result ≡ leaf_tally_of class size code row }
 {
@@ -108,7 +117,6 @@ fn hidden_tally(row: usize, base: Tally) -> Tally
 
 // So many entries of a base, a stride apart.
 fn entries_tally(stride: u32, n: u64, base: Tally) -> Tally
-    requires { n ≤ 4294967296 }
     ensures { result ≡ entries_tally_of stride n base }
 {
     Tally {
@@ -125,23 +133,18 @@ fn entry_count(table: &[u32], pool: &[u8], row: usize, rank: u32) -> u64
     ensures total { TotalAt table.now pool.now row rank 1 result }
     ensures low { result ≤ 4294967296 }
 {
-    let n = array_total(table, pool, row, rank, 1);
-    if 4294967296 < n { 0 } else { n }
+    array_total(table, pool, row, rank, 1).min(4294967296)
 }
 
 // Counts the type at the top of the path. No row is tested again, and an enumeration's members are passed by their number: the cost is a step
 // for each other row, and the steps of `size_at` for each array.
 #[cycle(tally)]
 fn tally_type(table: &[u32], pool: &[u8], path: Path) -> Tally
-    requires { (0 < path.depth) × (path.depth ≤ 32) }
     ensures { TallyAt (33 - path.depth) table.now pool.now (top_of path) result }
 {
-    let depth = path.depth;
-    // In a local of its own: read out of the path, the array is compiled to one copy more.
-    let rows = path.rows;
-    let row = rows[depth - 1];
+    let row = path.top();
     let Some(entry) = row_entry(table, row) else {
-        return leaf_tally(0, 0, 0, row);
+        return untyped_tally(row);
     };
     match entry {
         Entry::Leaf(class, size, _, code) => leaf_tally(class, size, code, row + 1),
@@ -156,7 +159,7 @@ fn tally_type(table: &[u32], pool: &[u8], path: Path) -> Tally
         }
         Entry::Array(rank) => {
             let base = tally_inner(table, pool, path, row + 1);
-            let size = size_at(table, pool, row + 1, 32 - depth);
+            let size = size_at(table, pool, row + 1, 32 - path.depth);
             entries_tally(size, entry_count(table, pool, row, rank), base)
         }
     }
@@ -166,22 +169,20 @@ fn tally_type(table: &[u32], pool: &[u8], path: Path) -> Tally
 // more than it; any other row is read again.
 #[cycle(tally)]
 fn tally_inner(table: &[u32], pool: &[u8], path: Path, row: usize) -> Tally
-    requires { path.depth ≤ 32 }
     ensures { TallyAt (32 - path.depth) table.now pool.now row result }
 {
     if path.depth == 32 {
-        return leaf_tally(0, 0, 0, row);
+        return untyped_tally(row);
     }
     match row_entry(table, row) {
         Some(Entry::Leaf(class, size, _, code)) => leaf_tally(class, size, code, row + 1),
-        _ => tally_type(table, pool, enter(path, row)),
+        _ => tally_type(table, pool, path.enter(row)),
     }
 }
 
 // The same of so many members of the compound at the top of the path, from a row on.
 #[cycle(tally)]
 fn tally_members(table: &[u32], pool: &[u8], path: Path, row: usize, count: u32) -> Tally
-    requires { path.depth ≤ 32 }
     ensures { TallyIn (32 - path.depth) table.now pool.now row count result }
 {
     let mut r = row;
@@ -190,7 +191,7 @@ fn tally_members(table: &[u32], pool: &[u8], path: Path, row: usize, count: u32)
     let mut end: u64 = 0;
     for _ in 0..count {
         let Some(member) = row_member(table, r) else {
-            return leaf_tally(0, 0, 0, r);
+            return untyped_tally(r);
         };
         let t = tally_inner(table, pool, path, r + 1);
         r = t.row;
@@ -202,7 +203,7 @@ fn tally_members(table: &[u32], pool: &[u8], path: Path, row: usize, count: u32)
         row: r,
         unmapped,
         count: slots,
-        end: end,
+        end,
     }
 }
 
@@ -217,13 +218,13 @@ fn pass(table: &[u32], row: usize, levels: usize, at: usize) -> Put
 }
 
 // Lists a leaf of a class that begins at `base` in the record, the row behind it given.
-fn put_leaf(row: usize, class: u32, base: u64, out: &mut [u64], at: usize) -> Put
+fn put_leaf(row: usize, class: u32, base: u32, out: &mut [u64], at: usize) -> Put
     ensures { PutLeaf row class base out.old at result out.new }
 {
     if class != 7 || out.len() <= at {
         return Put { row, next: at };
     }
-    out[at] = base;
+    out[at] = u64::from(base);
     Put { row, next: at + 1 }
 }
 
@@ -269,14 +270,11 @@ fn repeat_slots(out: &mut [u64], at: usize, next: usize, stride: u32, count: u64
 // Lists the slots of the type at the top of the path, which begins at `base` in the record: from `at` on. Each row is looked at once, and an
 // enumeration's members are passed by their number.
 #[cycle(put)]
-fn put_type(table: &[u32], pool: &[u8], path: Path, base: u64, out: &mut [u64], at: usize) -> Put
-    requires { Standing path base }
+fn put_type(table: &[u32], pool: &[u8], path: Path, base: u32, out: &mut [u64], at: usize) -> Put
     ensures { PutAt (33 - path.depth) table.now pool.now (top_of path) base out.old at result out.new }
 {
     let depth = path.depth;
-    // In a local of its own, as above.
-    let rows = path.rows;
-    let row = rows[depth - 1];
+    let row = path.top();
     let Some(entry) = row_entry(table, row) else {
         return pass(table, row, 33 - depth, at);
     };
@@ -297,15 +295,15 @@ fn put_array(
     path: Path,
     row: usize,
     rank: u32,
-    base: u64,
+    base: u32,
     out: &mut [u64],
     at: usize,
 ) -> Put
-    requires { Standing path base × RowSays table.now row (Some (Array rank)) }
+    requires { RowSays table.now row (Some (Array rank)) }
     ensures { PutAt (33 - path.depth) table.now pool.now row base out.old at result out.new }
 {
     let depth = path.depth;
-    let first = put_inner(table, pool, path, row + 1, base, out, at);
+    let first = put_inner(table, pool, path, row + 1, u64::from(base), out, at);
     let stride = size_at(table, pool, row + 1, 32 - depth);
     let count = entry_count(table, pool, row, rank);
     let next = repeat_slots(out, at, first.next, stride, count);
@@ -323,11 +321,10 @@ fn put_members(
     path: Path,
     row: usize,
     count: u32,
-    base: u64,
+    base: u32,
     out: &mut [u64],
     at: usize,
 ) -> Put
-    requires { Standing path base }
     ensures { PutInside (32 - path.depth) table.now pool.now row count base out.old at result out.new }
 {
     let mut r = row;
@@ -336,7 +333,7 @@ fn put_members(
         let Some(member) = row_member(table, r) else {
             return Put { row: r, next };
         };
-        let begins = base + u64::from(member.number);
+        let begins = u64::from(base) + u64::from(member.number);
         let put = put_inner(table, pool, path, r + 1, begins, out, next);
         r = put.row;
         next = put.next;
@@ -345,7 +342,7 @@ fn put_members(
 }
 
 // The same of a type at a row one level below the path, which begins at `base` in the record. One that begins past all 32-bit places lists
-// nothing; where no level is left, none is found there. A leaf is listed here, as above.
+// nothing; where no level is left, none is found there. A leaf is listed here, since a path costs more than it.
 #[cycle(put)]
 fn put_inner(
     table: &[u32],
@@ -356,19 +353,18 @@ fn put_inner(
     out: &mut [u64],
     at: usize,
 ) -> Put
-    requires { path.depth ≤ 32 }
     ensures { PutAt (32 - path.depth) table.now pool.now row base out.old at result out.new }
 {
     let depth = path.depth;
-    if base >= 4294967296 {
+    let Ok(near) = u32::try_from(base) else {
         return pass(table, row, 32 - depth, at);
-    }
+    };
     if depth == 32 {
         return pass(table, row, 0, at);
     }
     match row_entry(table, row) {
-        Some(Entry::Leaf(class, _, _, _)) => put_leaf(row + 1, class, base, out, at),
-        _ => put_type(table, pool, enter(path, row), base, out, at),
+        Some(Entry::Leaf(class, _, _, _)) => put_leaf(row + 1, class, near, out, at),
+        _ => put_type(table, pool, path.enter(row), near, out, at),
     }
 }
 
@@ -380,10 +376,7 @@ fn slots_checked(table: &[u32], pool: &[u8], out: &mut [u64], s: Survey) -> Resu
     if let Some(class) = s.zero {
         return Err(Refusal::ZeroSize(class));
     }
-    let path = Path {
-        rows: [0; 32],
-        depth: 1,
-    };
+    let path = Path::outermost();
     let t = tally_type(table, pool, path);
     let size = u64::from(s.size);
     if t.unmapped || size / 8 < t.count || size < t.end {

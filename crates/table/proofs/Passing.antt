@@ -1,13 +1,14 @@
 -- Rows that are not tested again: the row behind a type, its size, and the entries of an array. One law for each way out of the code.
 use Prim.Native.Nat.{ℕ, zero, suc, ◌+◌, ◌-◌, ◌*◌, ◌/◌, ◌<◌, ◌≤◌, min}
 use mathlib.Core.Path.{◌≡◌, refl, sym, ap, ◌∙◌}
-use mathlib.Core.Bool.{Bool, true, false, cond}
+use mathlib.Core.Bool.{Bool, true, false, cond, not, false≢true}
 use mathlib.Core.List.{List, [], ◌∷◌}
 use native.Mathlib.Omega.{arith}
 use native.Mathlib.Numerals.{add-one}
 use lib.ListN.{length, get_or, take, drop}
 use lib.Dec.{leb}
 use Rattle.std.specs.Prelude.{Option, Some, None}
+use Rattle.std.specs.Option.{is_some}
 use Rattle.format.specs.Bytes.{dimensions_from}
 use Rattle.format.specs.Datatype.{Datatype, compound, enumeration, variable_length, array, Members, member, EnumMember, product, type_size_of}
 use Rattle.format.specs.Table.{Found, found, bad, and_then, type_at, members_at, enum_names_at, enum_values_at}
@@ -119,6 +120,10 @@ pub record PassesOn (levels : ℕ) (table : List ℕ) (r left row count : ℕ) :
 pub passes-start : (levels : ℕ) (table : List ℕ) (row count : ℕ) → PassesOn levels table row count row count
 passes-start levels table row count = record { on = λ x h. h }
 
+unnamed : (o : Option Member) {b : Bool} → is_some o ≡ not b → b ≡ true → o ≡ None
+unnamed None i e = refl
+unnamed (Some f) i e = absurd (false≢true (sym (i ∙ ap not e)))
+
 module _ (levels : ℕ) (table : List ℕ) (r left row count : ℕ) (inv : PassesOn levels table r left row count) where
   pub passes_end : left ≤ 0 → PassesMembers levels table row count r
   passes_end e =
@@ -142,6 +147,16 @@ module _ (levels : ℕ) (table : List ℕ) (r left row count : ℕ) (inv : Passe
             → PassesTo (and_then z (λ t r₁ p₁. and_then (members_at (type_at levels table pool) table pool (left - 1) r₁ p₁) (λ ms r₂ p₂. found (member (take f.name (drop p pool)) f.number t ms) r₂ p₂))) x
         go x w pool p (found t r₁ p₁) g = unfold PassesTo and_then in passes_then (members_at (type_at levels table pool) table pool (left - 1) r₁ p₁) (member (take f.name (drop p pool)) f.number t) x (rw g at (w.passes pool p₁))
         go x w pool p bad g = unfold and_then PassesTo in tt
+
+    pub passes-is_none : (x : ℕ) {b : Bool} → is_some m ≡ not b → b ≡ true → PassesMembers levels table row count x
+    passes-is_none x i e = passes_unnamed x (unnamed m i e)
+
+    passes-some : (o : Option Member) → m ≡ o → {b : Bool} → is_some o ≡ not b → b ≡ false → {y rest : ℕ} → PassesType levels table (r + 1) y → rest ≡ left - 1 → PassesOn levels table y rest row count
+    passes-some (Some f) h i e v w = passes-next h v w
+    passes-some None h i e v w = absurd (false≢true (i ∙ ap not e))
+
+    pub passes-is_some : {b : Bool} {y rest : ℕ} → is_some m ≡ not b → b ≡ false → PassesType levels table (r + 1) y → rest ≡ left - 1 → PassesOn levels table y rest row count
+    passes-is_some i e v w = passes-some m refl i e v w
 
 -- ---- sizes
 

@@ -8,6 +8,7 @@ use native.Mathlib.Decide.{dec_le}
 use lib.ListN.{length}
 use Rattle.std.specs.Prelude.{Option, Some, None}
 use Rattle.table.specs.declared.Spot.{Spot}
+use Rattle.rows.specs.declared.EnumPlace.{EnumPlace}
 use lib.Dec.{leb}
 use borrow.Author.Tests.{le-leb, lt-leb}
 use Rattle.format.specs.Datatype.{EnumMember}
@@ -97,8 +98,11 @@ module _ (table pool : List ℕ) where
     pub skip_unnamed : {w : Option Spot} → x ≡ None → w ≡ None → w ≡ z
     skip_unnamed e d = d ∙ sym (inv ∙ rw (names-none table pool r p k h q e) (unfold values_end_of in refl))
 
-    pub skip-next : {m : Member} {rest : ℕ} → x ≡ Some m → rest ≡ k - 1 → z ≡ values_end_of pool (v + m.number) (enum_names_at table pool rest (r + 1) (p + m.name))
+    skip-next : {m : Member} {rest : ℕ} → x ≡ Some m → rest ≡ k - 1 → z ≡ values_end_of pool (v + m.number) (enum_names_at table pool rest (r + 1) (p + m.name))
     skip-next {m = m} e d = rw d (inv ∙ ap (values_end_of pool v) (names_as table pool r p k h q e) ∙ next-then pool v m.number _ _)
+
+    pub skip-behind : {m : Member} {rest : ℕ} {at : EnumPlace} → x ≡ Some m → rest ≡ k - 1 → at ≡ record { row = r + 1; place = p + m.name; values = v + m.number } → z ≡ values_end_of pool at.values (enum_names_at table pool rest at.row at.place)
+    skip-behind e d f = rw f (skip-next e d)
 
     pub skip-past : {m : Member} → x ≡ Some m → length pool - v < m.number → None ≡ z
     skip-past {m = m} e s = sym (skip-next e refl ∙ past-then pool (v + m.number) _ (omega arith))
@@ -115,6 +119,6 @@ module _ (table pool : List ℕ) where
     pub skip-lost : length pool < p + v → None ≡ z
     skip-lost g = sym (ended ∙ ends-past pool r (p + v) g)
 
-    pub skip-ended : p ≤ length pool → v ≤ length pool - p → Some (record { row = r; place = p + v }) ≡ z
+    pub skip-ended : {w : ℕ} → (p + v ≤ length pool) × (w ≡ p + v) → Some (record { row = r; place = w }) ≡ z
     unfolding ends_at
-    skip-ended f g = sym (ended ∙ rw (le-leb (p + v) (length pool) (omega arith)))
+    skip-ended f = rw f.1 (sym (ended ∙ rw (le-leb (p + v) (length pool) f.0)))

@@ -1,6 +1,6 @@
 -- The path of open levels.
 use Rattle.std.specs.Prelude.{ℕ, ◌+◌, ◌-◌, ◌≡◌, get_or, set}
-use Rattle.table.specs.declared.Path.{Path}
+use Rattle.table.specs.declared.path.Path.{Path}
 
 -- the row at its end
 abbrev pub top_of : Path → ℕ

@@ -2,21 +2,24 @@
 // carries.
 #![tactic(auto)]
 
-ghost use Rattle.std.specs.Prelude.{◌≡◌, true, ◌&&◌, ℕ, ◌+◌, ◌*◌, ◌-◌, ◌≤◌, ◌<◌, min, eqb, ltb, length, take, drop};
+mod path;
+
+ghost use Rattle.std.specs.Prelude.{◌≡◌, true, ◌+◌, ◌*◌, ◌-◌, ◌≤◌, ◌<◌, min, length, take, drop};
 ghost use Rattle.format.specs.Bytes.{dimensions_from};
 ghost use Rattle.format.specs.Datatype.{product};
 ghost use Rattle.format.specs.Sizes.{sizing, element_sizing, class_may_hold_object_address_of, object_address_held, file_address_held};
 ghost use Rattle.format.specs.Table.{type_at, members_at};
-ghost use Rattle.table.specs.Path.{Entered};
 ghost use Rattle.table.specs.Known.{PassesNames, PassesType, PassesMembers, TotalAt, SizedAt};
 ghost use Rattle.table.specs.Survey.{survey_of, survey_in, leaf_survey_of, enumeration_survey_of, variable_survey_of, array_survey_of, enum_spot_of, ends_at, Checks, SizedAs, HeldAs};
 ghost use Rattle.table.specs.Names.{name_of, name_place, further, PartIs};
 ghost use Rattle.table.specs.Extent.{extending, UsedAs};
 
-use primitives::{low4, read_uint};
+pub use path::Path;
+use primitives::{capped, low4, scaled};
 use refusal::Refusal;
 use rows::{
-    Entry, clear_bytes, clear_words, entry_at, enum_member_at, member_at, row_entry, row_member,
+    Entry, EnumPlace, clear_bytes, clear_words, entry_at, enum_member_at, member_at, row_entry,
+    row_member,
 };
 
 // What a walk over a type finds: the next row and pool place, the size, the class of the first row of size 0, whether something reaches
@@ -54,48 +57,6 @@ pub struct NamePart {
     pub length: usize,
 }
 
-// The rows of the open levels, outermost first: its top is the row at hand. Document 01 has the path as a struct of 32 row numbers and a
-// depth, passed by value.
-#[derive(Clone, Copy)]
-pub struct Path {
-    pub rows: [usize; 32],
-    pub depth: usize,
-}
-
-// One level further down, at a row.
-pub fn enter(path: Path, row: usize) -> Path
-    requires { path.depth < 32 }
-    ensures { Entered path row result }
-{
-    let depth = path.depth;
-    let mut rows = path.rows;
-    rows[depth] = row;
-    Path {
-        rows,
-        depth: depth + 1,
-    }
-}
-
-// A size times an array's dimensions: true up to 4,294,967,295, and 4,294,967,296 for all that is more.
-pub fn scaled(pool: &[u8], place: usize, rank: u32, size: u32) -> u64
-    requires { place + rank * 4 ≤ length pool.now }
-    ensures { result ≡ min (size * product (dimensions_from rank (take (rank * 4) (drop place pool.now)))) 4294967296 }
-{
-    let mut total = u64::from(size);
-    for i in 0..rank as usize {
-        let dimension = u64::from(read_uint(pool, place + 4 * i, 4));
-        total = (total * dimension).min(4294967296);
-    }
-    total
-}
-
-// At most 4,294,967,295.
-pub fn capped(total: u64) -> u32
-    ensures { result ≡ min total 4294967295 }
-{
-    total.min(4294967295) as u32
-}
-
 // The members of an enumeration: all names, then all values.
 pub fn skip_enum_members(
     table: &[u32],
@@ -109,25 +70,19 @@ pub fn skip_enum_members(
     if count == 0 {
         return Some(Spot { row, place });
     }
-    let mut r = row;
-    let mut p = place;
-    let mut values: usize = 0;
+    let mut at = EnumPlace {
+        row,
+        place,
+        values: 0,
+    };
     for _ in 0..count {
-        let member = enum_member_at(table, pool, r, p)?;
-        let length = member.number as usize;
-        if pool.len() - values < length {
-            return None;
-        }
-        r += 1;
-        p += member.name as usize;
-        values += length;
+        let member = enum_member_at(table, pool, at.row, at.place)?;
+        at = at.behind(pool, member)?;
     }
-    if pool.len() < p || pool.len() - p < values {
-        return None;
-    }
+    let end = at.end(pool)?;
     Some(Spot {
-        row: r,
-        place: p + values,
+        row: at.row,
+        place: end,
     })
 }
 
@@ -172,15 +127,16 @@ fn next_member_row(table: &[u32], row: usize, count: u32, levels: usize) -> usiz
 {
     let mut r = row;
     for _ in 0..count {
-        let Some(_) = row_member(table, r) else {
+        if row_member(table, r).is_none() {
             return r;
-        };
+        }
         r = next_row(table, r + 1, levels);
     }
     r
 }
 
-// A size times the dimensions of an array that is known, as `scaled` gives it: its row says where they lie in the pool.
+// A size times the dimensions of an array that is known, as `scaled` gives it: its row says where they lie in the pool. It cannot fail: of a
+// row that is no array's nothing is said, and 0 is answered where the piece that its words name is not in the pool.
 pub fn array_total(table: &[u32], pool: &[u8], row: usize, rank: u32, size: u32) -> u64
     requires { row * 16 + 16 ≤ length table.now }
     ensures { TotalAt table.now pool.now row rank size result }
@@ -192,7 +148,8 @@ pub fn array_total(table: &[u32], pool: &[u8], row: usize, rank: u32, size: u32)
     scaled(pool, place, rank, size)
 }
 
-// The size of the type at a row that is known, with so many levels left; no row is tested. Costs a step for each array above one another.
+// The size of the type at a row that is known, with so many levels left; no row is tested. It cannot fail: of a row that is no type's, and
+// of a type of more levels, nothing is said, and 0 is answered. Costs a step for each array above one another.
 pub fn size_at(table: &[u32], pool: &[u8], row: usize, levels: usize) -> u32
     ensures { SizedAt levels table.now pool.now row result }
 {
@@ -392,10 +349,10 @@ pub fn ends_at(table: &[u32], pool: &[u8], row: usize, place: usize) -> bool
     if place > 65536 {
         return false;
     }
-    if !clear_words(table, row * 16, table.len()) {
+    if !clear_words(&table[row * 16..]) {
         return false;
     }
-    clear_bytes(pool, place, pool.len())
+    clear_bytes(&pool[place..])
 }
 
 // Whether a table and pool set out exactly one type, and what a walk over it finds: row and place are its numbers of rows and pool bytes.
@@ -438,11 +395,7 @@ pub fn element_size(table: &[u32], pool: &[u8]) -> Result<u32, Refusal>
 pub fn class_may_hold_object_address(byte: u8) -> bool
     ensures { result ≡ class_may_hold_object_address_of byte }
 {
-    let class = low4(byte);
-    match class {
-        6..=10 => true,
-        _ => false,
-    }
+    matches!(low4(byte), 6..=10)
 }
 
 // Whether the type holds a reference at any level. Refused: BadTable. Cost: as `type_size`.
@@ -461,8 +414,9 @@ pub fn datatype_holds_file_address(table: &[u32], pool: &[u8]) -> Result<bool, R
     Ok(s.file)
 }
 
-// Where in the pool the name of the member lies whose row this is; the empty part at the pool's start for a bad table, a row that is no
-// member's and a row past the type. An enumeration's members count as a compound's, which document 01 leaves free. Cost: as `type_size`.
+// Where in the pool the name of the member lies whose row this is. It cannot fail: for a bad table, a row that is no member's and a row past
+// the type it answers the empty part at the pool's start, as document 01 has it. An enumeration's members count as a compound's, which
+// document 01 leaves free. Cost: as `type_size`.
 pub fn name_part(table: &[u32], pool: &[u8], row: usize) -> NamePart
     ensures { PartIs table.now pool.now row result }
 {
@@ -486,7 +440,7 @@ pub fn name_part(table: &[u32], pool: &[u8], row: usize) -> NamePart
     NamePart { place, length }
 }
 
-// The name of the member whose row this is, as the part of the pool that holds it; the empty part at the pool's start where there is none.
+// The name of the member whose row this is, as the part of the pool that holds it; where there is none, the empty part at the pool's start.
 // Which rows and what cost: as `name_part`.
 pub fn member_name<'a>(table: &[u32], pool: &'a [u8], row: usize) -> &'a [u8]
     ensures is { result.now ≡ name_of table.now pool.now row }

@@ -1,6 +1,6 @@
 -- The answers of `write`, refusal by refusal, and what it leaves in `out`.
 use Rattle.std.specs.Prelude.{Option, Some, None, Result, Ok, Err}
-use Rattle.std.specs.Result.{result_ok}
+use Rattle.std.specs.Result.{OkIff, result_ok}
 use Rattle.std.specs.Option.{ok_or}
 use Prim.Native.Nat.{ℕ, ◌+◌, ◌*◌, ◌<◌, ◌≤◌}
 use mathlib.Core.Path.{◌≡◌, refl, sym, ap, ◌∙◌}
@@ -8,6 +8,7 @@ use mathlib.Core.Logic.{inl, inr}
 use mathlib.Core.Bool.{Bool, true, false, not}
 use mathlib.Core.List.{List, ◌++◌}
 use native.Mathlib.Omega.{arith}
+use native.Mathlib.Decide.{dec_le}
 use native.Mathlib.Nat.{min-eq_left}
 use lib.ListN.{length, get_or, drop}
 use borrow.Author.Tests.{not-true, not-false}
@@ -152,6 +153,24 @@ module _ (table pool : List ℕ) (e : ℕ) {y : Option Measure} (q : y ≡ measu
                   (stood.written fits ∙ sets-front (message e t) out (omega (arith, fits)))
 
 -- ---- an edition that there is not
+
+-- by the byte that it is turned to
+module _ {E : Type 0} (e : ℕ) (r : Result ℕ E) (i : OkIff r (e < 256) e) where
+  tried : {v : ℕ} → r ≡ Ok v → v ≡ e
+  tried h = (rw h at i).1
+
+  pub tried_low : (v : ℕ) → r ≡ Ok v → v < 1 → e < 1
+  tried_low v h l = rw (tried h) at l
+
+  pub tried_high : (v : ℕ) → r ≡ Ok v → 4 ≤ v → 4 ≤ e
+  tried_high v h l = rw (tried h) at l
+
+  pub untried : {f : E} → r ≡ Err f → 4 ≤ e
+  untried h = go (dec_le 4 e)
+    where
+      go : Dec (4 ≤ e) → 4 ≤ e
+      go (yes y) = y
+      go (no n) = absurd ((rw h at i) (omega (arith, n)))
 
 module _ (table pool : List ℕ) (e : ℕ) (out : List ℕ) {x : Option Survey} (k : Checks table pool x) where
   pub write_bad : x ≡ None → Writes table pool e (Err BadTable) out out

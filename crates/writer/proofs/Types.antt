@@ -30,7 +30,8 @@ use Rattle.writer_parts.specs.declared.Written.{Written}
 use Rattle.writer_parts.proofs.Placing.{stands-behind, lost-behind, row-known, placed, unplaced, where_fits}
 use Rattle.writer_parts.proofs.Leaves.{leaf-class, leaf-codes, leaf-message}
 use Rattle.writer_parts.proofs.Enums.{enum_count}
-use Rattle.writer.specs.Writes.{PutsFound, PutsType, PutsMembers, size_in}
+use Rattle.table.specs.Known.{SizedTo, SizedAt}
+use Rattle.writer.specs.Writes.{PutsFound, PutsType, PutsMembers}
 use Rattle.writer.proofs.Compounds.{member-count, found-puts, found-members}
 
 -- ---- what a type that can be stored says of the types inside
@@ -178,7 +179,7 @@ module _ (levels e at : ℕ) (table pool : List ℕ) (r p : ℕ) (out : List ℕ
       -- ---- an array
 
       module _ {k : ℕ} (i : y ≡ Array k) (inside : EntryInside o (length table) (length pool) r p) (small : (b : ℕ) → get_or pool b 0 < 256)
-          {size : ℕ} (sized : size ≡ size_in (type_at levels table pool r p)) {w : Option ℕ} {out₁ : List ℕ}
+          {size : ℕ} (sized : SizedAt levels table pool r size) {w : Option ℕ} {out₁ : List ℕ}
           (g : k < 256 → PlacesFrom pool p (k * 4) (array_head_of e size k p pool) at w out out₁) where
         array-is : (z : Found Datatype) → type_at levels table pool r p ≡ and_then z (λ t r' p'. found (array (dimensions_from k (take (k * 4) (drop p pool))) t) r' p') → (x : Option Written) (out₂ : List ℕ)
             → ((t : Datatype) (r' p' : ℕ) → z ≡ found t r' p' → Places (array_head_of e size k p pool) at w out out₁ → storable t ≡ true → carried e t ≡ true → Stands ((array_head_of e size k p pool) ++ message e t) r' p' at x out out₂)
@@ -187,7 +188,7 @@ module _ (levels e at : ℕ) (table pool : List ℕ) (r p : ℕ) (out : List ℕ
         array-is (found t r' p') f x out₂ s =
             let b = array-inside (length table) (length pool) r p inside says i in
             let ds = dimensions_from k (take (k * 4) (drop p pool)) in
-            let m : size ≡ type_size_of (array ds t) = sized ∙ ap size_in f ∙ (unfold size_in and_then in refl) in
+            let m : size ≡ type_size_of (array ds t) = unfold SizedTo and_then in rw f at (sized.sized p) in
             let l : length ds ≡ k = length-dimensions_from k (take (k * 4) (drop p pool)) in
             λ u d.
             let v = array-storable ds t u in

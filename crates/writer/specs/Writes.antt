@@ -1,7 +1,7 @@
 -- What the writing functions ensure of a type that is found and can be stored; and what `write` promises.
 use Rattle.std.specs.Prelude.{ℕ, ◌≡◌, true, List, [], ◌∷◌, length, Option, Result}
 use Rattle.refusal.specs.declared.Refusal.{Refusal}
-use Rattle.format.specs.Datatype.{Datatype, Members, type_size_of}
+use Rattle.format.specs.Datatype.{Datatype, Members}
 use Rattle.format.specs.Message.{message, member_bytes, storable, storable_members, carried, carried_members, writing}
 use Rattle.format.specs.Outcome.{output_after, Answers}
 use Rattle.format.specs.Table.{Found, found, bad}
@@ -22,11 +22,6 @@ PutsFoundMembers e n at bad x out out' = Unit {0}
 
 pub record PutsMembers (e n at : ℕ) (y : Found Members) (x : Option Written) (out out' : List ℕ) : Type 0 where
   pub puts : PutsFoundMembers e n at y x out out'
-
--- the size of the type that is found
-unfoldable pub size_in : Found Datatype → ℕ
-size_in (found t r p) = type_size_of t
-size_in bad = 0
 
 -- `write`: the length of the message or why it is refused, and every byte of `out`. "Success writes the result and nothing past it", a refusal
 -- leaves `out` as it was

@@ -1,28 +1,18 @@
 // Writing the message of the type in a table: `serialize`, in editions 1 to 3.
 #![tactic(auto)]
 
-ghost use Rattle.std.specs.Prelude.{Some, ◌≡◌, ◌+◌, ◌*◌, ◌-◌, ◌≤◌, ◌<◌, length};
+ghost use Rattle.std.specs.Prelude.{◌+◌, ◌*◌, ◌-◌, ◌≤◌, ◌<◌, length};
 ghost use Rattle.format.specs.Table.{type_at, members_at};
-ghost use Rattle.rows.specs.Entries.{from_entry};
-ghost use Rattle.rows.specs.declared.Entry.TheVariants.{Enumeration};
-ghost use Rattle.writer.specs.Writes.{PutsType, PutsMembers, size_in, Writes};
+ghost use Rattle.writer.specs.Writes.{PutsType, PutsMembers, Writes};
 
 use measure::measure_type;
 use refusal::Refusal;
 use rows::{Entry, known_entry_at, known_member_at};
-use table::{check, ends_at, survey_type};
+use table::{check, ends_at, size_at};
 use writer_parts::{
     Written, put_array_head, put_enum_members, put_group_header, put_leaf, put_member_head,
     put_variable_header,
 };
-
-// The size of the type at a row; 0 where there is none.
-#[tactic(auto, unfolding(crate::specs::Writes::size_in, table::specs::Survey::survey_of))]
-fn size_at(table: &[u32], pool: &[u8], row: usize, place: usize, levels: usize) -> u32
-    ensures { result ≡ size_in (type_at levels table.now pool.now row place) }
-{
-    survey_type(table, pool, row, place, levels).map_or(0, |s| s.size)
-}
 
 // The members of a compound of a size, into `out` at a place. Here and in `put_type` a row is not tested again: measuring tested it.
 #[cycle(put)]
@@ -136,15 +126,19 @@ fn put_type(
                 behind,
             )
         }
-        Entry::Enumeration(size, count) => put_enumeration(
-            table, pool, row, place, size, count, inner, edition, out, at,
-        ),
+        Entry::Enumeration(size, count) => {
+            let behind = put_group_header(out, at, 8, edition, count, size)?;
+            let base = put_type(table, pool, row + 1, place, inner, edition, out, behind)?;
+            put_enum_members(
+                table, pool, base.row, base.place, count, out, base.at, edition,
+            )
+        }
         Entry::VariableLength(string, padding, charset) => {
             let behind = put_variable_header(out, at, string, padding, charset)?;
             put_type(table, pool, row + 1, place, inner, edition, out, behind)
         }
         Entry::Array(rank) => {
-            let size = size_at(table, pool, row, place, levels);
+            let size = size_at(table, pool, row, levels);
             let behind = put_array_head(pool, place, rank, size, out, at, edition)?;
             let from = place + (rank as usize) * 4;
             put_type(table, pool, row + 1, from, inner, edition, out, behind)
@@ -152,42 +146,18 @@ fn put_type(
     }
 }
 
-// An enumeration's row, with so many levels left below it: header, base, names and values.
-#[cycle(put)]
-fn put_enumeration(
-    table: &[u32],
-    pool: &[u8],
-    row: usize,
-    place: usize,
-    size: u32,
-    count: u32,
-    levels: usize,
-    edition: u8,
-    out: &mut [u8],
-    at: usize,
-) -> Option<Written>
-    requires { (edition ≤ 3) × (row * 16 + 16 ≤ length table.now) }
-    ensures { PutsType edition at (from_entry (type_at levels table.now pool.now) table.now pool.now row place (Some (Enumeration size count))) result out.old out.new }
-{
-    let behind = put_group_header(out, at, 8, edition, count, size)?;
-    let base = put_type(table, pool, row + 1, place, levels, edition, out, behind)?;
-    put_enum_members(
-        table, pool, base.row, base.place, count, out, base.at, edition,
-    )
-}
-
 // Writes the message of the type that a table and pool set out, in an edition, to the start of `out`. Refused, in this order: BadTable,
-// NoSuchEdition, Unstorable, NotInEdition, NoRoom. Costs two passes over the rows, and one more for each array that holds a row; what is
-// behind the type in table and pool is looked at once.
+// NoSuchEdition, Unstorable, NotInEdition, NoRoom. Costs two passes over the rows, and for each array a step for each
+// array right inside it; what is behind the type in table and pool is looked at once.
 pub fn write(table: &[u32], pool: &[u8], edition: u32, out: &mut [u8]) -> Result<usize, Refusal>
     ensures { Writes table.now pool.now edition result out.old out.new }
 {
-    match edition {
-        1..=3 => write_edition(table, pool, edition as u8, out),
-        _ => match check(table, pool) {
-            None => Err(Refusal::BadTable),
-            Some(_) => Err(Refusal::NoSuchEdition),
-        },
+    match u8::try_from(edition) {
+        Ok(known @ 1..=3) => write_edition(table, pool, known, out),
+        _ => {
+            check(table, pool).ok_or(Refusal::BadTable)?;
+            Err(Refusal::NoSuchEdition)
+        }
     }
 }
 

@@ -15,6 +15,7 @@ use Rattle.format.specs.Datatype.{EnumMember, enum_values}
 use Rattle.format.specs.Message.{name_bytes, enum_name_bytes}
 use Rattle.format.specs.Table.{Found, found, bad, and_then, enum_names_at, enum_values_at, next_piece}
 use Rattle.rows.specs.Entries.{enum_member_at_of, MemberInside, IfKnown, from_enum_member}
+use Rattle.rows.specs.declared.EnumPlace.{EnumPlace}
 use Rattle.rows.specs.declared.Member.{Member}
 use Rattle.rows.proofs.Decode.{enum_names_at-entry, named-inside}
 use Rattle.rows.proofs.Known.{claim_of-enum_names}
@@ -120,15 +121,15 @@ unfolding Rest and_then values_long
 rest-past e pool v a w b (found ns r p) h x out out' = λ i. absurd (omega arith)
 rest-past e pool v a w b bad h x out out' = tt
 
--- i names are stored, the others are those from row r on, and the answer of the whole is that of these and the values
-pub record EnumLeft (e : ℕ) (table pool : List ℕ) (count row place at : ℕ) (out₀ : List ℕ) (i r p a values : ℕ) (out : List ℕ) : Type 0 where
+-- i names are stored, the others are those from a place on, and the answer of the whole is that of these and the values
+pub record EnumLeft (e : ℕ) (table pool : List ℕ) (count row place at : ℕ) (out₀ : List ℕ) (i : ℕ) (from : EnumPlace) (a : ℕ) (out : List ℕ) : Type 0 where
   pub long : length out ≡ length out₀
-  pub some : values ≤ length pool
-  pub near : p ≤ max (length pool) place
-  pub rest : (x : Option Written) (out' : List ℕ) → Rest e pool values a (enum_names_at table pool (count - i) r p) x out out' → PutsEnum e at table pool count row place x out₀ out'
+  pub some : from.values ≤ length pool
+  pub near : from.place ≤ max (length pool) place
+  pub rest : (x : Option Written) (out' : List ℕ) → Rest e pool from.values a (enum_names_at table pool (count - i) from.row from.place) x out out' → PutsEnum e at table pool count row place x out₀ out'
 
 module _ {e : ℕ} {table pool : List ℕ} {count row place at : ℕ} {out₀ : List ℕ} where
-  pub enum_begun : EnumLeft e table pool count row place at out₀ 0 row place at 0 out₀
+  pub enum_begun : EnumLeft e table pool count row place at out₀ 0 (record { row = row; place = place; values = 0 }) at out₀
   enum_begun =
       record {
         long = refl;
@@ -139,7 +140,16 @@ module _ {e : ℕ} {table pool : List ℕ} {count row place at : ℕ} {out₀ : 
             record { puts = from-rest e pool at x out₀ o (enum_names_at table pool count row place) (rw z at h) };
       }
 
-  module _ {j r p a v : ℕ} {out : List ℕ} (i : EnumLeft e table pool count row place at out₀ j r p a v out) where
+  module _ {j : ℕ} {from : EnumPlace} {a : ℕ} {out : List ℕ} (i : EnumLeft e table pool count row place at out₀ j from a out) where
+    abbrev r : ℕ
+    r = from.row
+
+    abbrev p : ℕ
+    p = from.place
+
+    abbrev v : ℕ
+    v = from.values
+
     abbrev k : ℕ
     k = count - j
 
@@ -159,8 +169,8 @@ module _ {e : ℕ} {table pool : List ℕ} {count row place at : ℕ} {out₀ : 
         pub enum_past : length pool - v < u.number → PutsEnum e at table pool count row place None out₀ out₁
         enum_past s = known None out₁ (λ q. rw (names_as table pool r p k (omega arith) q f) (rest-past e pool v a u.number (take u.name (drop p pool)) (enum_names_at table pool (k - 1) (r + 1) (p + u.name)) s None out out₁))
 
-        pub enum_next : {b : ℕ} → y ≡ Some b → u.number ≤ length pool - v → length out₁ ≡ length out → EnumLeft e table pool count row place at out₀ (j + 1) (r + 1) (p + u.name) b (v + u.number) out₁
-        enum_next s l t =
+        enum_step : {b : ℕ} → y ≡ Some b → length out₁ ≡ length out → u.number ≤ length pool - v → EnumLeft e table pool count row place at out₀ (j + 1) (record { row = r + 1; place = p + u.name; values = v + u.number }) b out₁
+        enum_step s t l =
             let z : count - (j + 1) ≡ k - 1 = omega arith in
             record {
               long = t ∙ i.long;
@@ -168,6 +178,10 @@ module _ {e : ℕ} {table pool : List ℕ} {count row place at : ℕ} {out₀ : 
               near = omega (arith, i.near, g.inside _ s);
               rest = λ x o d. known x o (λ q. rw (names_as table pool r p k (omega arith) q f) (rest-next e pool v a p u.name u.number out g (enum_names_at table pool (k - 1) (r + 1) (p + u.name)) s x o (rw z at d)));
             }
+
+        pub enum_next : {b : ℕ} {next : EnumPlace} → y ≡ Some b → length out₁ ≡ length out → (u.number ≤ length pool - v) × (next ≡ record { row = r + 1; place = p + u.name; values = v + u.number })
+            → EnumLeft e table pool count row place at out₀ (j + 1) next b out₁
+        enum_next s t q = rw q.1 (enum_step s t q.0)
 
     -- behind the last name
     module _ (h : count ≤ j) {y : Option ℕ} {out₁ : List ℕ} (g : PlacesFrom pool p v (take v (drop p pool)) a y out out₁) where

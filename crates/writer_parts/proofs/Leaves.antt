@@ -9,6 +9,7 @@ use mathlib.Core.Bool.{Bool, true, false, ◌&&◌}
 use mathlib.Core.List.{List, [], ◌++◌, append-nil}
 use native.Mathlib.Omega.{arith}
 use native.Mathlib.Numerals.{add-one}
+use native.Mathlib.Nat.{zero-add}
 use lib.ListN.{length, get_or, take, drop, length-drop}
 use lib.Seq.{length-take-le}
 use lib.Dec.{leb, ltb}
@@ -25,7 +26,10 @@ use Rattle.format.specs.Table.{word_at, leaf_of, isFixedPoint, isFloatingPoint, 
 use Rattle.format.proofs.Facts.{StorableLeaf, Storable}
 use Rattle.format.proofs.Storable.{storable_fact}
 use Rattle.std.specs.Bool.{then_some}
+use Rattle.std.specs.Option.{unwrap_or}
 use Rattle.rows.specs.Entries.{leaf_at, tag_inside, leaf_entry, entry_of, entry_at, leaf_kind_of, leaf_type}
+use Rattle.rows.specs.Columns.{IsRow}
+use Rattle.rows.proofs.Words.{same-word}
 use Rattle.rows.specs.declared.Entry.{Entry}
 use Rattle.rows.specs.declared.Entry.TheVariants.{Leaf, Compound, Enumeration, VariableLength, Array}
 
@@ -128,28 +132,28 @@ module _ (k : ℕ) where
   width_four g h = rw (le-ltb k 9 g, le-ltb k 13 h)
 
 -- the columns from c on are left to store, and the answer of the whole is that of these
-pub record ColumnsLeft (table : List ℕ) (r from to at : ℕ) (out₀ : List ℕ) (c a : ℕ) (out : List ℕ) : Type 0 where
+pub record ColumnsLeft (words : List ℕ) (from to at : ℕ) (out₀ : List ℕ) (c a : ℕ) (out : List ℕ) : Type 0 where
   pub left : c ≤ to
   pub long : length out ≡ length out₀
-  pub rest : {x : Option ℕ} {out' : List ℕ} → Places (column_bytes table r c (to - c)) a x out out' → Places (column_bytes table r from (to - from)) at x out₀ out'
+  pub rest : {x : Option ℕ} {out' : List ℕ} → Places (column_bytes words 0 c (to - c)) a x out out' → Places (column_bytes words 0 from (to - from)) at x out₀ out'
 
-module _ {table : List ℕ} {r from to at : ℕ} {out₀ : List ℕ} where
-  module _ {c a : ℕ} {out : List ℕ} (i : ColumnsLeft table r from to at out₀ c a out) where
-    pub columns-ended : to ≤ c → Places (column_bytes table r from (to - from)) at (Some a) out₀ out
+module _ {words : List ℕ} {from to at : ℕ} {out₀ : List ℕ} where
+  module _ {c a : ℕ} {out : List ℕ} (i : ColumnsLeft words from to at out₀ c a out) where
+    pub columns-ended : to ≤ c → Places (column_bytes words 0 from (to - from)) at (Some a) out₀ out
     unfolding column_bytes
     columns-ended h = let e : to - c ≡ 0 = omega arith in i.rest (rw e none-placed)
 
-    module _ (h : c < to) {w : ℕ} {y : Option ℕ} {out₁ : List ℕ} (e : w ≡ column_width_of c) (p : Places (little_endian w (get_or table (r * 16 + c) 0)) a y out out₁) where
-      more : column_bytes table r c (to - c) ≡ little_endian w (get_or table (r * 16 + c) 0) ++ column_bytes table r (c + 1) (to - (c + 1))
+    module _ (h : c < to) {w : ℕ} {y : Option ℕ} {out₁ : List ℕ} (e : w ≡ column_width_of c) (p : Places (little_endian w (get_or words c 0)) a y out out₁) where
+      more : column_bytes words 0 c (to - c) ≡ little_endian w (get_or words c 0) ++ column_bytes words 0 (c + 1) (to - (c + 1))
       unfolding column_bytes
       more =
           let q : to - c ≡ suc (to - (c + 1)) = omega arith in
-          rw (q, add-one c, e)
+          rw (q, add-one c, zero-add, e)
 
-      pub columns-full : {out' : List ℕ} → y ≡ None → Places (column_bytes table r from (to - from)) at None out₀ out'
+      pub columns-full : {out' : List ℕ} → y ≡ None → Places (column_bytes words 0 from (to - from)) at None out₀ out'
       columns-full f = i.rest (rw more (full-behind _ _ a out p f))
 
-      pub columns-next : {b : ℕ} → y ≡ Some b → length out₁ ≡ length out → ColumnsLeft table r from to at out₀ (c + 1) b out₁
+      pub columns-next : {b : ℕ} → y ≡ Some b → length out₁ ≡ length out → ColumnsLeft words from to at out₀ (c + 1) b out₁
       columns-next f l = record { left = omega arith; long = l ∙ i.long; rest = λ q. i.rest (rw more (behind _ _ a out p f q)) }
 
 no_rest : (table pool : List ℕ) (r p l c : ℕ) → (c ≡ 0 → ⊥) → (c ≡ 1 → ⊥) → (c ≡ 2 → ⊥) → (c ≡ 4 → ⊥) → (c ≡ 5 → ⊥) → leaf_rest table pool r p c l ≡ []
@@ -187,29 +191,35 @@ module _ (table pool : List ℕ) (r p c l at : ℕ) {out : List ℕ} where
   pub rest-none : (c ≡ 0 → ⊥) → (c ≡ 1 → ⊥) → (c ≡ 2 → ⊥) → (c ≡ 4 → ⊥) → (c ≡ 5 → ⊥) → Places (leaf_rest table pool r p c l) at (Some at) out out
   rest-none a b d e f = rw (no_rest table pool r p l c a b d e f) none-placed
 
+-- where the row stands, as in its words
+same-rest : {table words : List ℕ} {r : ℕ} → IsRow table r words → (pool : List ℕ) (p c l : ℕ) → leaf_rest words pool 0 p c l ≡ leaf_rest table pool r p c l
+unfolding leaf_rest column_bytes
+same-rest s pool p c l =
+    rw (same-word s 7 refl, same-word s 8 refl, same-word s 9 refl, same-word s 10 refl, same-word s 11 refl, same-word s 12 refl, same-word s 13 refl)
+
 -- ---- a leaf
 
-module _ (table pool : List ℕ) (r p c n l x at : ℕ) {out : List ℕ} {o : Option ℕ} (h : leaf_codes c x (word_at table r 6) l ≡ true → o ≡ Some (leaf_flags_of c x (word_at table r 6) l)) where
-  pub leaf_flagless : o ≡ None → PutsLeaf table pool r p c n l x at None out out
-  leaf_flagless e = record { puts = λ q. absurd (none-some _ (sym e ∙ h q)) }
+module _ (table pool : List ℕ) (r p c n l x at : ℕ) {words : List ℕ} (s : IsRow table r words) {o : Option ℕ}
+    (h : leaf_codes c x (word_at words 0 6) l ≡ true → o ≡ Some (leaf_flags_of c x (word_at words 0 6) l)) where
+  flagged : leaf_codes c x (word_at table r 6) l ≡ true → o ≡ Some (leaf_flags_of c x (word_at table r 6) l)
+  flagged = rw (same-word s 6 refl) at h
 
-module _ (table pool : List ℕ) (r p c n l x at : ℕ) {out out₁ : List ℕ} {o : Option ℕ} {f g : ℕ} {y : Option ℕ}
-    (h : leaf_codes c x (word_at table r 6) l ≡ true → o ≡ Some (leaf_flags_of c x (word_at table r 6) l)) (v : o ≡ Some f) (b : g ≡ leaf_bits_of c n) (k : Places (header c 1 f g n) at y out out₁) where
-  headed : leaf_codes c x (word_at table r 6) l ≡ true → Places (header c 1 (leaf_flags_of c x (word_at table r 6) l) (leaf_bits_of c n) n) at y out out₁
-  headed q = let w = same_Some _ _ (sym v ∙ h q) in rw (← w, ← b) k
+  module _ {out out₁ : List ℕ} {f g : ℕ} {y : Option ℕ} (v : f ≡ unwrap_or o 0) (b : g ≡ leaf_bits_of c n) (k : Places (header c 1 f g n) at y out out₁) where
+    headed : leaf_codes c x (word_at table r 6) l ≡ true → Places (header c 1 (leaf_flags_of c x (word_at table r 6) l) (leaf_bits_of c n) n) at y out out₁
+    headed q = rw (← (v ∙ ap (λ (z : Option ℕ). unwrap_or z 0) (flagged q)), ← b) k
 
-  pub leaf_headless : {out₂ : List ℕ} → y ≡ None → PutsLeaf table pool r p c n l x at None out out₂
-  unfolding leaf_bytes
-  leaf_headless e = record { puts = λ q. let w : Places (leaf_bytes table pool r p c n l x) at None out out = full-behind _ (leaf_rest table pool r p c l) at out (headed q) e in lost _ (r + 1) (p + l) at w refl }
-
-  module _ {a : ℕ} (e : y ≡ Some a) (i : Inside pool p l) {z : Option ℕ} {out₂ : List ℕ} (m : Inside pool p l → Places (leaf_rest table pool r p c l) a z out₁ out₂) where
-    pub leaf_cut : z ≡ None → PutsLeaf table pool r p c n l x at None out out₂
+    pub leaf_headless : {out₂ : List ℕ} → y ≡ None → PutsLeaf table pool r p c n l x at None out out₂
     unfolding leaf_bytes
-    leaf_cut o = record { puts = λ q. lost _ (r + 1) (p + l) at (behind _ _ at out (headed q) e (m i)) o }
+    leaf_headless e = record { puts = λ q. let w : Places (leaf_bytes table pool r p c n l x) at None out out = full-behind _ (leaf_rest table pool r p c l) at out (headed q) e in lost _ (r + 1) (p + l) at w refl }
 
-    pub leaf-put : {d : ℕ} → z ≡ Some d → PutsLeaf table pool r p c n l x at (Some (record { row = r + 1; place = p + l; at = d })) out out₂
-    unfolding leaf_bytes
-    leaf-put o = record { puts = λ q. stands _ (r + 1) (p + l) at (behind _ _ at out (headed q) e (m i)) o }
+    module _ {a : ℕ} (e : y ≡ Some a) (i : Inside pool p l) {z : Option ℕ} {out₂ : List ℕ} (m : Inside pool p l → Places (leaf_rest words pool 0 p c l) a z out₁ out₂) where
+      pub leaf_cut : z ≡ None → PutsLeaf table pool r p c n l x at None out out₂
+      unfolding leaf_bytes
+      leaf_cut o = record { puts = λ q. lost _ (r + 1) (p + l) at (behind _ _ at out (headed q) e (rw (same-rest s pool p c l) at (m i))) o }
+
+      pub leaf-put : {d : ℕ} → z ≡ Some d → PutsLeaf table pool r p c n l x at (Some (record { row = r + 1; place = p + l; at = d })) out out₂
+      unfolding leaf_bytes
+      leaf-put o = record { puts = λ q. stands _ (r + 1) (p + l) at (behind _ _ at out (headed q) e (rw (same-rest s pool p c l) at (m i))) o }
 
 -- ---- it is the message of the type that the row says
 

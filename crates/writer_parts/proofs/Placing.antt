@@ -161,11 +161,6 @@ module _ (pool : List ℕ) (p n : ℕ) (out : List ℕ) (at : ℕ) where
       → PlacesFrom pool p n (take n (drop p pool)) at (Some (at + n)) out out'
   piece-stored t h z w = record { places = λ i. stored (piece-long pool p n i) w; inside = λ b f. omega (arith, z) }
 
--- the number of members in two flag bytes
-module _ (c v k size at : ℕ) (out out' : List ℕ) where
-  pub group_many : 65535 < k → k < 65536 → Places (header c v (k % 256) (k / 256) size) at None out out'
-  group_many h g = absurd (omega arith)
-
 -- ---- the flag bytes of a variable-length type
 
 variable_string : (i a c : ℕ) → storable_variable i a c ≡ true → (i ≡ 0 → ⊥) → ((0 < a) × (a < 4)) × ((0 < c) × (c < 3))

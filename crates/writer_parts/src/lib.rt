@@ -1,7 +1,7 @@
 // The pieces of a message, each stored at a place of `out`: numbers, names, headers, a leaf, the members of an enumeration.
 #![tactic(auto)]
 
-ghost use Rattle.std.specs.Prelude.{Some, ◌≡◌, true, ◌++◌, ℕ, ◌+◌, ◌*◌, ◌-◌, ◌/◌, ◌%◌, ◌≤◌, ◌<◌, length, take, drop};
+ghost use Rattle.std.specs.Prelude.{Some, ◌≡◌, true, ◌++◌, ◌+◌, ◌*◌, ◌-◌, ◌/◌, ◌%◌, ◌≤◌, ◌<◌, length, take, drop};
 ghost use Rattle.format.specs.Bytes.{zeros, little_endian};
 ghost use Rattle.format.specs.Message.{header, name_bytes, offset_width, skipped_bytes_of, reserved_bytes_of, permutation_bytes_of, variable_flags, variable_charset, storable_variable};
 ghost use Rattle.writer_parts.specs.Places.{Places, PlacesFrom, Inside};
@@ -13,7 +13,7 @@ use primitives::{
     offset_bytes_for_size, padding_to_8, permutation_bytes, reserved_bytes, skipped_bytes,
     write_uint,
 };
-use rows::known_enum_member_at;
+use rows::{EnumPlace, known_enum_member_at};
 
 // The next row and pool place, and the place behind what was stored.
 #[derive(Clone, Copy)]
@@ -114,18 +114,8 @@ pub fn put_group_header(
     requires { (class < 16) × (version < 16) }
     ensures { count < 65536 → Places (header class version (count % 256) (count / 256) size) at result out.old out.new }
 {
-    if count > 65535 {
-        return None;
-    }
-    put_header(
-        out,
-        at,
-        class,
-        version,
-        (count % 256) as u8,
-        (count / 256) as u8,
-        size,
-    )
+    let [low, high] = u16::try_from(count).ok()?.to_le_bytes();
+    put_header(out, at, class, version, low, high, size)
 }
 
 // The header of a variable-length type.
@@ -341,22 +331,21 @@ fn column_width(column: usize) -> usize
     }
 }
 
-// The numbers in the columns of a row from `from` up to `to`.
+// The numbers in the columns of a row from `from` up to `to`. The definitions take a table and a row: `words` is a table of one
+// row, number 0.
 fn put_columns(
-    table: &[u32],
-    row: usize,
+    words: &[u32; 16],
     from: usize,
     to: usize,
     out: &mut [u8],
     at: usize,
 ) -> Option<usize>
-    requires { (row * 16 + 16 ≤ length table.now) × ((from ≤ to) × (to ≤ 16)) }
-    ensures { Places (column_bytes table.now row from (to - from)) at result out.old out.new }
+    requires { (from ≤ to) × (to ≤ 16) }
+    ensures { Places (column_bytes words.now 0 from (to - from)) at result out.old out.new }
 {
-    let start = row * 16;
     let mut a = at;
     for c in from..to {
-        a = put_number(out, a, column_width(c), table[start + c])?;
+        a = put_number(out, a, column_width(c), words[c])?;
     }
     Some(a)
 }
@@ -371,29 +360,27 @@ fn put_tag(pool: &[u8], place: usize, n: u32, out: &mut [u8], at: usize) -> Opti
 
 // What stands behind a leaf's header.
 fn put_leaf_rest(
-    table: &[u32],
+    words: &[u32; 16],
     pool: &[u8],
-    row: usize,
     place: usize,
     class: u32,
     n: u32,
     out: &mut [u8],
     at: usize,
 ) -> Option<usize>
-    requires { row * 16 + 16 ≤ length table.now }
-    ensures { Inside pool.now place n → Places (leaf_rest table.now pool.now row place class n) at result out.old out.new }
+    ensures { Inside pool.now place n → Places (leaf_rest words.now pool.now 0 place class n) at result out.old out.new }
 {
     match class {
-        0 => put_columns(table, row, 7, 9, out, at),
-        1 => put_columns(table, row, 7, 14, out, at),
-        2 => put_columns(table, row, 8, 9, out, at),
-        4 => put_columns(table, row, 7, 9, out, at),
+        0 => put_columns(words, 7, 9, out, at),
+        1 => put_columns(words, 7, 14, out, at),
+        2 => put_columns(words, 8, 9, out, at),
+        4 => put_columns(words, 7, 9, out, at),
         5 => put_tag(pool, place, n, out, at),
         _ => Some(at),
     }
 }
 
-// The message of a leaf: classes 0 to 5 and 7.
+// The message of a leaf: classes 0 to 5 and 7. Codes that no message can store give a first flag byte of 0.
 pub fn put_leaf(
     table: &[u32],
     pool: &[u8],
@@ -412,9 +399,10 @@ pub fn put_leaf(
     if class > 7 {
         return None;
     }
-    let flags = leaf_flags(class, code, table[row * 16 + 6], n)?;
+    let words = &table.as_chunks::<16>().0[row];
+    let flags = leaf_flags(class, code, words[6], n).unwrap_or(0);
     let behind = put_header(out, at, class as u8, 1, flags, leaf_bits(class, size), size)?;
-    let end = put_leaf_rest(table, pool, row, place, class, n, out, behind)?;
+    let end = put_leaf_rest(words, pool, place, class, n, out, behind)?;
     Some(Written {
         row: row + 1,
         place: place + n as usize,
@@ -435,25 +423,21 @@ pub fn put_enum_members(
 ) -> Option<Written>
     ensures { PutsEnum version at table.now pool.now count row place result out.old out.new }
 {
-    let mut r = row;
-    let mut p = place;
+    let mut from = EnumPlace {
+        row,
+        place,
+        values: 0,
+    };
     let mut a = at;
-    let mut values: usize = 0;
     for _ in 0..count {
-        let member = known_enum_member_at(table, pool, r, p)?;
-        a = put_name(pool, p, member.name, out, a, version)?;
-        let long = member.number as usize;
-        if pool.len() - values < long {
-            return None;
-        }
-        r += 1;
-        p += member.name as usize;
-        values += long;
+        let member = known_enum_member_at(table, pool, from.row, from.place)?;
+        a = put_name(pool, from.place, member.name, out, a, version)?;
+        from = from.behind(pool, member)?;
     }
-    let end = put_piece(pool, p, values, out, a)?;
+    let end = put_piece(pool, from.place, from.values, out, a)?;
     Some(Written {
-        row: r,
-        place: p + values,
+        row: from.row,
+        place: from.place + from.values,
         at: end,
     })
 }

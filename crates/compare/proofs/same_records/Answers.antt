@@ -8,4 +8,4 @@ pub returns-in_default : goal.returns-in_default
 returns-in_default c = search records-unknown
 
 pub returns : goal.returns
-returns c = search records-walked
+returns c = let w = rw (c.outermost.ensures.1, c.outermost.ensures.0) at c.agree_type.ensures in search records-walked

@@ -1,7 +1,6 @@
-use Prim.Native.Nat.{◌/◌}
-use lib.ListN.{length}
 use Rattle.firsts.proofs.KeyLaws.{admits-some}
-use Rattle.duplicates.proofs.Calls.{sized-length, sized-room, keys_comparable, keys-count, sized-listed}
+use Rattle.duplicates.proofs.Calls.{sized-length, sized-room, keys_comparable, places-count, sized-listed}
+use mathlib.Core.Path.{refl}
 use borrow.Author.Rules.{rules}
 use Rattle.duplicates.proofs.sized.Goals as goal
 
@@ -18,7 +17,7 @@ pub returns-then-numbers-n : goal.returns-then-numbers-n
 returns-then-numbers-n c = search (sized-room, rules)
 
 pub grouped-requires : goal.grouped-requires
-grouped-requires c = record { comparable = search (keys_comparable, rules); n_value = (search (keys-count, rules), search rules) }
+grouped-requires c = record { comparable = keys_comparable _ _ (record { a = c.args.block; b = c.no_bytes.result; size = c.args.size }) c.requires c.no_bytes.ensures (search rules); places = places-count _ _ (record { a = c.args.block; b = c.no_bytes.result; size = c.args.size }) c.requires c.no_bytes.ensures _ _ refl (search rules) }
 
 pub returns : goal.returns
-returns c = sized-listed _ _ _ c.requires c.no_bytes.ensures _ _ (search rules) (length c.args.block.now / c.args.size) (search rules) (search rules) (search rules) _ _ _ c.grouped.ensures
+returns c = sized-listed _ _ (record { a = c.args.block; b = c.no_bytes.result; size = c.args.size }) c.requires c.no_bytes.ensures _ _ (search rules) _ refl (search rules) (search rules) _ _ _ c.grouped.ensures

@@ -1,5 +1,5 @@
 use Rattle.firsts.proofs.KeyLaws.{admits-some}
-use Rattle.join.proofs.Calls.{sized-first, sized-second, both_comparable, both_count, both_answered}
+use Rattle.join.proofs.Calls.{sized-first, sized-second, both_comparable, both_answered}
 use borrow.Author.Rules.{rules}
 use Rattle.join.proofs.sized.Goals as goal
 
@@ -15,14 +15,8 @@ nonzero_rem-b c = search (admits-some, rules)
 pub returns-then-b-size-ne0 : goal.returns-then-b-size-ne0
 returns-then-b-size-ne0 c = search sized-second
 
-pub nonzero_div-n : goal.nonzero_div-n
-nonzero_div-n c = search (admits-some, rules)
-
-pub nonzero_div-n-2 : goal.nonzero_div-n-2
-nonzero_div-n-2 c = search (admits-some, rules)
-
 pub joined-requires : goal.joined-requires
-joined-requires c = record { comparable = search both_comparable; n_value = search both_count }
+joined-requires c = search both_comparable
 
 pub returns : goal.returns
 returns c = both_answered _ _ (record { a = c.args.a; b = c.args.b; size = c.args.size }) c.requires (search rules) (search rules) _ _ _ c.joined.ensures

@@ -1,16 +1,12 @@
-use native.Mathlib.Omega.{arith}
-use Rattle.keys.proofs.Walking.{hash-begun, hash-here, hash-next, hash-done}
 use borrow.Author.Rules.{rules}
+use Rattle.keys.proofs.Walking.{hash_here, hash_next, hash_done}
 use Rattle.keys.proofs.hash_by_runs.Goals as goal
 
-pub loop-k-init : goal.loop-k-init
-loop-k-init c = search hash-begun
-
 pub hash_run-next-requires : goal.hash_run-next-requires
-hash_run-next-requires c = (search rules, search rules, hash-here _ _ _ _ _ _ c.loop-k.invariant (omega arith))
+hash_run-next-requires c = hash_here _ _ _ _ _ _ c.loop-pair.invariant _ c.as_chunks.ensures.front (search rules)
 
-pub loop-k-preserved : goal.loop-k-preserved
-loop-k-preserved c = hash-next _ _ _ _ _ _ c.loop-k.invariant c.hash_run-next.ensures (omega arith)
+pub loop-pair-preserved : goal.loop-pair-preserved
+loop-pair-preserved c = hash_next _ _ _ _ _ _ c.loop-pair.invariant _ c.as_chunks.ensures.front (search rules) c.hash_run-next.ensures
 
 pub returns : goal.returns
-returns c = hash-done _ _ _ _ _ _ c.loop-k.invariant c.join_hashes.ensures c.requires.0 (omega arith)
+returns c = hash_done _ _ _ _ _ _ c.loop-pair.invariant c.join_hashes.ensures c.requires (search rules)

@@ -1,11 +1,6 @@
-use Rattle.keys.proofs.Hashing.{rest-none, rest-few, rest_more}
+use native.Mathlib.Omega.{arith}
+use Rattle.keys.proofs.Hashing.{rest_more}
 use Rattle.keys.proofs.hash_rest.Goals as goal
 
-pub returns-then-n-eq0 : goal.returns-then-n-eq0
-returns-then-n-eq0 c = search rest-none
-
-pub returns-then-n-lt4 : goal.returns-then-n-lt4
-returns-then-n-lt4 c = search rest-few
-
-pub returns : goal.returns
-returns c = search rest_more
+pub returns-then-n-ge4 : goal.returns-then-n-ge4
+returns-then-n-ge4 c = rest_more _ _ _ c.word-v.ensures c.short_word-w.ensures c.step.ensures (omega arith) c.requires

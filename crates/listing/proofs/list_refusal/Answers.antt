@@ -1,8 +1,7 @@
-use Rattle.listing.proofs.Answering.{refusal_no_room, refusal_listed}
+use borrow.Author.Rules.{rules}
+use Rattle.listing.specs.Text.{refusal_text, refusal_listing}
 use Rattle.listing.proofs.list_refusal.Goals as goal
 
-pub returns-then-out-needed : goal.returns-then-out-needed
-returns-then-out-needed c = search refusal_no_room
-
 pub returns : goal.returns
-returns c = search refusal_listed
+unfolding refusal_listing
+returns c = c.list_text.ensures.lists (refusal_text c.args.refusal) (λ p q n e. search rules)

@@ -5,9 +5,6 @@ use Rattle.measure.specs.Measure.{measure_in}
 use Rattle.measure.proofs.Measures.{gathered}
 use Rattle.measure.proofs.+measure.Given as goal
 
-abbrev pub decreases-measure_enumeration : goal.decreases-measure_enumeration
-decreases-measure_enumeration l = l.levels * 3 + 1
-
 abbrev pub decreases-measure_inner : goal.decreases-measure_inner
 decreases-measure_inner l = l.levels * 3 + 1
 

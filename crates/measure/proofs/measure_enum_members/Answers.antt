@@ -1,9 +1,9 @@
 use native.Mathlib.Nat.{sub-zero}
 use mathlib.Core.Path.{refl}
 use native.Mathlib.Omega.{arith}
-use borrow.Author.Rules.{rules}
-use Rattle.rows.proofs.Decode.{named-behind, named-next, named-piece}
-use Rattle.measure.proofs.Listed.{listed-none, listed_start, listed_unnamed, listed-past-pool, listed_next, listed-behind, listed-lost, listed-ended}
+use Rattle.rows.proofs.Decode.{named-inside, named-piece}
+use Rattle.rows.proofs.EnumNames.{behind-none, behind-some, end-none, end-some}
+use Rattle.measure.proofs.Listed.{listed-none, listed_start, listed_unnamed, listed-past-pool, listed_at, listed-lost, listed-ended}
 use Rattle.measure.proofs.measure_enum_members.Goals as goal
 
 pub returns-then-count-eq0 : goal.returns-then-count-eq0
@@ -15,26 +15,23 @@ loop-init c = (omega arith, rw sub-zero (listed_start _ _ _ _ _ _ _ refl (omega 
 pub returns-in_err-member : goal.returns-in_err-member
 returns-in_err-member c = rw c.from_residual.ensures (search (listed_unnamed, c.in_err-member.was))
 
-pub returns-then-pool-values : goal.returns-then-pool-values
-returns-then-pool-values c = search (listed-past-pool, c.in_ok-member.was)
-
 pub with_enum_name-names-requires : goal.with_enum_name-names-requires
 with_enum_name-names-requires c = search (named-piece, c.in_ok-member.was)
 
-pub overflow_add-r : goal.overflow_add-r
-overflow_add-r c = search (named-next, c.in_ok-member.was, rules)
+pub behind-requires : goal.behind-requires
+behind-requires c = let i = named-inside _ _ _ _ c.in_ok-member.was c.enum_member_at.ensures.inside in (omega (arith, i.0), (i.1, c.loop.invariant.0))
 
-pub overflow_add-p : goal.overflow_add-p
-overflow_add-p c = search (named-behind, c.in_ok-member.was, rules)
+pub returns-in_err-at : goal.returns-in_err-at
+returns-in_err-at c = rw c.from_residual-in_err-at.ensures (listed-past-pool _ _ _ _ _ _ _ _ _ _ _ c.enum_member_at.ensures.is c.loop.invariant.1 (omega arith) c.in_ok-member.was (behind-none _ _ _ c.behind.ensures c.in_err-at.was))
 
 pub loop-preserved : goal.loop-preserved
-loop-preserved c = search (listed_next, named-piece, c.in_ok-member.was, arith)
+loop-preserved c =
+    let i = named-inside _ _ _ _ c.in_ok-member.was c.enum_member_at.ensures.inside in
+    let b = behind-some _ _ _ c.behind.ensures c.in_ok-at.was in
+    (rw b.1 (omega (arith, b.0, c.loop.invariant.0)), listed_at _ _ _ _ _ _ _ _ _ _ _ c.enum_member_at.ensures.is c.loop.invariant.1 (omega arith) c.in_ok-member.was i.1 c.with_enum_name-names.ensures b.1)
 
-pub returns-then-pool-p : goal.returns-then-pool-p
-returns-then-pool-p c = search listed-behind
-
-pub returns-then-pool-p-2 : goal.returns-then-pool-p-2
-returns-then-pool-p-2 c = search listed-lost
+pub returns-in_err-end : goal.returns-in_err-end
+returns-in_err-end c = rw c.from_residual-in_err-end.ensures (listed-lost _ _ _ _ _ _ _ _ _ _ _ c.loop.invariant.1 (omega arith) (end-none _ _ c.end.ensures c.in_err-end.was))
 
 pub returns : goal.returns
-returns c = search listed-ended
+returns c = listed-ended _ _ _ _ _ _ _ _ _ _ _ c.loop.invariant.1 (omega arith) (end-some _ _ c.end.ensures c.in_ok-end.was) c.add_lengths.ensures

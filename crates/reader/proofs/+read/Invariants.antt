@@ -9,5 +9,5 @@ decreases-read_members l = l.levels * 2 + 1
 abbrev pub decreases-read_type : goal.decreases-read_type
 decreases-read_type l = l.levels * 2
 
-abbrev pub invariant-read_members-loop-i : goal.invariant-read_members-loop-i
-invariant-read_members-loop-i l = Progress (read_type_of l.limits.version l.levels) l.data l.limits l.version l.header.size l.count l.used l.pooled l._i l.at l.rows l.place l.initial.table l.table l.initial.pool l.pool
+abbrev pub invariant-read_members-loop : goal.invariant-read_members-loop
+invariant-read_members-loop l = Progress (read_type_of l.limits.version l.levels) l.data l.limits l.version l.header.size l.count l.fn.start l.counter l.next l.initial.table l.table l.initial.pool l.pool

@@ -7,8 +7,8 @@ returns-then-limits-used c = search heads-full
 pub returns-then-data-lt8 : goal.returns-then-data-lt8
 returns-then-data-lt8 c = search heads-short
 
-pub returns-then-limits-version : goal.returns-then-limits-version
-returns-then-limits-version c = search heads-new
+pub returns-then-limits-from : goal.returns-then-limits-from
+returns-then-limits-from c = search heads-new
 
 pub returns : goal.returns
 returns c = search heads-head

@@ -1,33 +1,33 @@
-use Rattle.reader_leaf.proofs.Leaves.{kind-of, last-kind}
-use borrow.Author.Rules.{rules}
 use mathlib.Core.Path.{refl}
-use Rattle.format.specs.Reading.{class_kind}
-use Rattle.format.specs.Table.{is_leaf, isFixedPoint, isFloatingPoint, isTime, is_string_of, isBitField, isOpaque}
+use Rattle.reading.proofs.Contracts.{passed_on}
+use Rattle.reading.specs.declared.LeafKind.TheVariants.{FixedPoint, BitField}
+use Rattle.reader_leaf.specs.Describing.{Describes, IsBits}
+use Rattle.reader_leaf.proofs.Leaves.{in_arm, described_no, described-ends}
+use Rattle.reader_leaf.proofs.read_leaf.Goals.{in-FixedPoint, in-FloatingPoint, in-Time, in-String, in-BitField, in-Reference}
 use Rattle.reader_leaf.proofs.read_leaf.Goals as goal
 
-pub read_fixed_point-requires : goal.read_fixed_point-requires
-unfolding class_kind
-read_fixed_point-requires c = search (rules, kind-of 0 (is_leaf isFixedPoint) refl)
+pub returns-in_err-properties : goal.returns-in_err-properties
+unfolding IsBits
+returns-in_err-properties c =
+    let e : Describes c.args.data.now c.args.header c.args.leaf c.match-leaf.branch' = elim c.match-leaf.branch [
+      | in-FixedPoint w ↦ in_arm (search) w.branch'-is (w.read_bits.ensures FixedPoint (refl, w.bit.ensures.0))
+      | in-FloatingPoint w ↦ in_arm (search) w.branch'-is w.read_floating_point.ensures
+      | in-Time w ↦ in_arm (search) w.branch'-is w.read_time.ensures
+      | in-String w ↦ in_arm (search) w.branch'-is w.read_string.ensures
+      | in-BitField w ↦ in_arm (search) w.branch'-is (w.read_bits-in-BitField.ensures BitField (refl, refl))
+      | in-Reference w ↦ in_arm (search) w.branch'-is w.read_reference.ensures
+    ] in
+    rw (passed_on c.from_residual.result c.from_residual.ensures) (search (described_no, e, c.in_err-properties.was))
 
-pub read_floating_point-requires : goal.read_floating_point-requires
-unfolding class_kind
-read_floating_point-requires c = search (rules, kind-of 1 (is_leaf isFloatingPoint) refl)
-
-pub read_time-requires : goal.read_time-requires
-unfolding class_kind
-read_time-requires c = search (rules, kind-of 2 (is_leaf isTime) refl)
-
-pub read_string-requires : goal.read_string-requires
-unfolding class_kind
-read_string-requires c = search (rules, kind-of 3 (is_leaf is_string_of) refl)
-
-pub read_bit_field-requires : goal.read_bit_field-requires
-unfolding class_kind
-read_bit_field-requires c = search (rules, kind-of 4 (is_leaf isBitField) refl)
-
-pub read_opaque-requires : goal.read_opaque-requires
-unfolding class_kind
-read_opaque-requires c = search (rules, kind-of 5 (is_leaf isOpaque) refl)
-
-pub read_reference-requires : goal.read_reference-requires
-read_reference-requires c = search (rules, last-kind)
+pub returns : goal.returns
+unfolding IsBits
+returns c =
+    let e : Describes c.args.data.now c.args.header c.args.leaf c.match-leaf.branch' = elim c.match-leaf.branch [
+      | in-FixedPoint w ↦ in_arm (search) w.branch'-is (w.read_bits.ensures FixedPoint (refl, w.bit.ensures.0))
+      | in-FloatingPoint w ↦ in_arm (search) w.branch'-is w.read_floating_point.ensures
+      | in-Time w ↦ in_arm (search) w.branch'-is w.read_time.ensures
+      | in-String w ↦ in_arm (search) w.branch'-is w.read_string.ensures
+      | in-BitField w ↦ in_arm (search) w.branch'-is (w.read_bits-in-BitField.ensures BitField (refl, refl))
+      | in-Reference w ↦ in_arm (search) w.branch'-is w.read_reference.ensures
+    ] in
+    search (described-ends, e, c.in_ok-properties.was)

@@ -1,16 +1,10 @@
-use mathlib.Core.Path.{refl, sym, ◌∙◌}
-use native.Mathlib.Omega.{arith}
-use Rattle.references.proofs.Laws.{outside-here, outside-next, outside-none}
+use Rattle.std.proofs.Common.{◌-◌, ltb, rules, tests, ◌∙◌}
+use Rattle.std.proofs.lemmas.Iterator.{YieldsList-from_slice}
+use Rattle.std.proofs.lemmas.Iterator.Search.{any_from_yields_List}
+use Rattle.references.proofs.Laws.{outside-any}
 use Rattle.references.proofs.some_outside.Goals as goal
 
-pub returns-then-saturating_sub-lt8 : goal.returns-then-saturating_sub-lt8
-returns-then-saturating_sub-lt8 c = let l = c.loop-slot in
-    sym (l.invariant ∙ outside-here _ c.args.slots.now l.slot-index (omega arith) (omega (arith, c.saturating_sub.ensures)))
-
-pub loop-slot-preserved : goal.loop-slot-preserved
-loop-slot-preserved c = let l = c.loop-slot in
-    l.invariant ∙ outside-next _ c.args.slots.now l.slot-index (omega arith) (omega (arith, c.saturating_sub.ensures))
-
 pub returns : goal.returns
-returns c = let l = c.loop-slot in
-    sym (l.invariant ∙ outside-none _ c.args.slots.now l.slot-index (omega arith))
+returns c =
+    any_from_yields_List (λ v. ltb (c.args.size - v) 8) _ _ _ c.any.ensures.ran (YieldsList-from_slice c.args.slots.now c.iter.ensures.rest) (λ x b q k. search (rules, tests))
+    ∙ outside-any c.args.size c.args.slots.now

@@ -1,4 +1,4 @@
-use Rattle.std.proofs.Common.{◌≡◌, ◌-◌, take, drop, rules}
+use Rattle.std.proofs.Common.{◌≡◌, rules}
 use Rattle.std.specs.Prelude.{bit_or}
 use Rattle.std.specs.List.{fold}
 use Rattle.rows.proofs.Zeros.{clear_fold}
@@ -6,6 +6,5 @@ use Rattle.rows.proofs.clear_words.Goals as goal
 
 pub returns : goal.returns
 returns c =
-    let xs = take (c.args.to - c.args.from) (drop c.args.from c.args.table.now) in
-    let e : c.fold.result ≡ fold bit_or 0 xs = search rules in
-    rw e (clear_fold xs 0)
+    let e : c.fold.result ≡ fold bit_or 0 c.args.words.now = search rules in
+    rw e (clear_fold c.args.words.now 0)

@@ -1,10 +1,12 @@
-use borrow.Author.Tests.{lt-ltb, le-ltb}
+use Rattle.std.proofs.Common.{◌≡◌, ◌+◌}
+use native.Mathlib.Omega.{arith}
+use mathlib.Core.Path.{ap}
+use Rattle.std.specs.Prelude.{ℕ, slice_index}
 use Rattle.rows.specs.Entries.{member_in}
 use Rattle.rows.proofs.member_columns.Goals as goal
 
-pub returns-then-table-row : goal.returns-then-table-row
-returns-then-table-row c = record { is = rw (le-ltb _ _ c.if-table-row.true) }
-
 pub returns : goal.returns
 unfolding member_in
-returns c = record { is = rw (lt-ltb _ _ c.if-table-row.false) }
+returns c =
+    let e : c.args.number ≡ 0 + c.args.number = omega arith in
+    ap (λ (k : ℕ). record { name = slice_index c.args.words.now 3; number = slice_index c.args.words.now k }) e

@@ -1,5 +1,3 @@
-use native.Mathlib.Omega.{arith}
-use lib.ListN.{length-set}
 use Rattle.runs.proofs.Storing.{store_full, store_large, store_past, store_here}
 use borrow.Author.Rules.{rules}
 use Rattle.runs.proofs.store_run.Goals as goal

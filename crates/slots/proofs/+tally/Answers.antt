@@ -21,19 +21,19 @@ pub tally_members-returns : goal.tally_members-returns
 tally_members-returns t c = members_end _ _ _ _ _ _ _ _ _ _ c.loop.invariant (omega arith)
 
 pub tally_type-returns-in_default : goal.tally_type-returns-in_default
-tally_type-returns-in_default t c = search type_unknown
+tally_type-returns-in_default t c = rw (← c.top-row.ensures) (search type_unknown)
 
 pub tally_type-returns-in-Leaf : goal.tally_type-returns-in-Leaf
-tally_type-returns-in-Leaf t c = search type-leaf
+tally_type-returns-in-Leaf t c = rw (← c.top-row.ensures) (search type-leaf)
 
 pub tally_type-returns-in-Compound : goal.tally_type-returns-in-Compound
-tally_type-returns-in-Compound t c = search type-compound
+tally_type-returns-in-Compound t c = rw (← c.top-row.ensures) (search type-compound)
 
 pub tally_type-returns-in-Enumeration : goal.tally_type-returns-in-Enumeration
-tally_type-returns-in-Enumeration t c = search type-enumeration
+tally_type-returns-in-Enumeration t c = rw (← c.top-row.ensures) (search type-enumeration)
 
 pub tally_type-returns-in-VariableLength : goal.tally_type-returns-in-VariableLength
-tally_type-returns-in-VariableLength t c = search type-variable_length
+tally_type-returns-in-VariableLength t c = rw (← c.top-row.ensures) (search type-variable_length)
 
 pub tally_type-returns-in-Array : goal.tally_type-returns-in-Array
-tally_type-returns-in-Array t c = search type-array
+tally_type-returns-in-Array t c = rw (← c.top-row.ensures) (search type-array)

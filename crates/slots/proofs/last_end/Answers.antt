@@ -11,4 +11,4 @@ returns-then-end-eq0 c =
     ]
 
 pub returns : goal.returns
-returns c = c.min-2.ensures ∙ rw (c.from.ensures, c.min.ensures) (last-is _ _ _ c.if-end-eq0.false c.if-n-eq0.false)
+returns c = c.min.ensures ∙ rw (c.saturating_add.ensures, c.saturating_mul-last.ensures, c.from.ensures) (last-is _ _ _ c.if-end-eq0.false c.if-n-eq0.false)

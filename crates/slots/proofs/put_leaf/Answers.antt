@@ -10,4 +10,4 @@ returns-then-class-ne7 c =
     ]
 
 pub returns : goal.returns
-returns c = search leaf-stored
+returns c = rw c.from.ensures (search leaf-stored)

@@ -1,13 +1,12 @@
-use Prim.Native.Nat.{◌-◌}
 use native.Mathlib.Omega.{arith}
-use Rattle.table.proofs.Passing.{passes_none, passes_unknown, passes-leaf, passes-compound, passes-enumeration, passes-variable_length, passes-array, passes_end, passes_unnamed, passes-next}
+use Rattle.table.proofs.Passing.{passes_none, passes_unknown, passes-leaf, passes-compound, passes-enumeration, passes-variable_length, passes-array, passes_end, passes-is_none, passes-is_some}
 use Rattle.table.proofs.+passing.Goals as goal
 
-pub next_member_row-returns-in_default : goal.next_member_row-returns-in_default
-next_member_row-returns-in_default t c = search (passes_unnamed, arith)
+pub next_member_row-returns-then-is_none : goal.next_member_row-returns-then-is_none
+next_member_row-returns-then-is_none t c = search (passes-is_none, arith)
 
 pub next_member_row-loop-preserved : goal.next_member_row-loop-preserved
-next_member_row-loop-preserved t c = search (passes-next, arith)
+next_member_row-loop-preserved t c = search (passes-is_some, arith)
 
 pub next_member_row-returns : goal.next_member_row-returns
 next_member_row-returns t c = search (passes_end, arith)

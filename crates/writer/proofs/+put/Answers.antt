@@ -1,18 +1,9 @@
 use borrow.Author.Rules.{rules}
 use Rattle.format.proofs.Bytes.{byte_below}
-use Rattle.rows.proofs.Decode.{leaf-inside, row-inside, row-next, array_behind, named-next}
+use Rattle.rows.proofs.Decode.{leaf-inside, row-next, array_behind, named-next}
 use Rattle.writer.proofs.Compounds.{members-ended, members_unnamed, members-full, members-lost, members-next}
 use Rattle.writer.proofs.Types.{type-shallow, type_unknown, type-leaf, type-compound-full, type-compound, type-enumeration, enumeration-full, enumeration-lost, enumeration-put, type_variable_full, type_variable, type-array-full, type-array}
 use Rattle.writer.proofs.+put.Goals as goal
-
-pub put_enumeration-returns-in_err-behind : goal.put_enumeration-returns-in_err-behind
-put_enumeration-returns-in_err-behind t c = rw c.from_residual.ensures (search (enumeration-full, c.in_err-behind.was))
-
-pub put_enumeration-returns-in_err-base : goal.put_enumeration-returns-in_err-base
-put_enumeration-returns-in_err-base t c = rw c.from_residual-in_err-base.ensures (search (enumeration-lost, c.in_ok-behind.was, c.in_err-base.was))
-
-pub put_enumeration-returns : goal.put_enumeration-returns
-put_enumeration-returns t c = search (enumeration-put, c.in_ok-behind.was, c.in_ok-base.was)
 
 pub put_inner-returns-then-levels-eq0 : goal.put_inner-returns-then-levels-eq0
 put_inner-returns-then-levels-eq0 t c = search type-shallow
@@ -53,9 +44,6 @@ put_type-put_leaf-requires t c = leaf-inside _ _ _ _ c.known_entry_at.ensures.in
 pub put_type-overflow_add-row : goal.put_type-overflow_add-row
 put_type-overflow_add-row t c = search (row-next, c.in_ok-entry.was, rules)
 
-pub put_type-put_enumeration-requires : goal.put_type-put_enumeration-requires
-put_type-put_enumeration-requires t c = search (row-inside, c.in_ok-entry.was, rules)
-
 pub put_type-overflow_add-row-in-VariableLength : goal.put_type-overflow_add-row-in-VariableLength
 put_type-overflow_add-row-in-VariableLength t c = search (row-next, c.in_ok-entry.was, rules)
 
@@ -77,8 +65,25 @@ put_type-returns-in_err-behind-in-Compound t c = rw c.from_residual-in_err-behin
 pub put_type-returns-in_ok-behind-in-Compound : goal.put_type-returns-in_ok-behind-in-Compound
 put_type-returns-in_ok-behind-in-Compound t c = search (type-compound, c.in_ok-entry.was, c.in_ok-behind-in-Compound.was)
 
-pub put_type-returns-in-Enumeration : goal.put_type-returns-in-Enumeration
-put_type-returns-in-Enumeration t c = search (type-enumeration, c.in_ok-entry.was)
+pub put_type-overflow_add-row-in-Enumeration : goal.put_type-overflow_add-row-in-Enumeration
+put_type-overflow_add-row-in-Enumeration t c = search (row-next, c.in_ok-entry.was, rules)
+
+pub put_type-returns-in_err-behind-in-Enumeration : goal.put_type-returns-in_err-behind-in-Enumeration
+put_type-returns-in_err-behind-in-Enumeration t c =
+    rw c.from_residual-in_err-behind-in-Enumeration.ensures
+    (type-enumeration _ _ _ _ _ _ _ _ c.if-levels-eq0.false c.known_entry_at.ensures.is c.in_ok-entry.was c.in-Enumeration.is
+    (enumeration-full _ _ _ _ _ _ _ _ _ _ c.put_group_header-in-Enumeration.ensures c.in_err-behind-in-Enumeration.was))
+
+pub put_type-returns-in_err-base-in-Enumeration : goal.put_type-returns-in_err-base-in-Enumeration
+put_type-returns-in_err-base-in-Enumeration t c =
+    rw c.from_residual-in_err-base-in-Enumeration.ensures
+    (type-enumeration _ _ _ _ _ _ _ _ c.if-levels-eq0.false c.known_entry_at.ensures.is c.in_ok-entry.was c.in-Enumeration.is
+    (enumeration-lost _ _ _ _ _ _ _ _ _ _ c.put_group_header-in-Enumeration.ensures c.in_ok-behind-in-Enumeration.was c.put_type.ensures c.in_err-base-in-Enumeration.was))
+
+pub put_type-returns-in_ok-base-in-Enumeration : goal.put_type-returns-in_ok-base-in-Enumeration
+put_type-returns-in_ok-base-in-Enumeration t c =
+    type-enumeration _ _ _ _ _ _ _ _ c.if-levels-eq0.false c.known_entry_at.ensures.is c.in_ok-entry.was c.in-Enumeration.is
+    (enumeration-put _ _ _ _ _ _ _ _ _ _ c.put_group_header-in-Enumeration.ensures c.in_ok-behind-in-Enumeration.was c.put_type.ensures c.in_ok-base-in-Enumeration.was c.put_enum_members.ensures)
 
 pub put_type-returns-in_err-behind-in-VariableLength : goal.put_type-returns-in_err-behind-in-VariableLength
 put_type-returns-in_err-behind-in-VariableLength t c = rw c.from_residual-in_err-behind-in-VariableLength.ensures (search (type_variable_full, c.in_ok-entry.was, c.in_err-behind-in-VariableLength.was))

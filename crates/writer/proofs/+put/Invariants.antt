@@ -3,9 +3,6 @@ use Rattle.format.specs.Table.{type_at}
 use Rattle.writer.proofs.Compounds.{MembersLeft}
 use Rattle.writer.proofs.+put.Given as goal
 
-abbrev pub decreases-put_enumeration : goal.decreases-put_enumeration
-decreases-put_enumeration l = l.levels * 3 + 1
-
 abbrev pub decreases-put_inner : goal.decreases-put_inner
 decreases-put_inner l = l.levels * 3 + 1
 

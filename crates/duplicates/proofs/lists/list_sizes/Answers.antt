@@ -8,7 +8,7 @@ pub loop-k-init : goal.loop-k-init
 loop-k-init c = sizes-none _ _
 
 pub put_size-g-requires : goal.put_size-g-requires
-put_size-g-requires c = record { n_in_bounds = search rules; known = search rules; k_in_bounds = search (size_room, rules) }
+put_size-g-requires c = record { numbered = search rules; room = search (size_room, rules) }
 
 pub loop-k-preserved : goal.loop-k-preserved
 loop-k-preserved c = let l = c.loop-k in
@@ -16,4 +16,4 @@ loop-k-preserved c = let l = c.loop-k in
 
 pub returns : goal.returns
 returns c = let l = c.loop-k in
-    sizes-all _ _ _ c.args.n l.k (omega arith) l.invariant.1
+    sizes-all _ _ _ c.args.found.n l.k (omega arith) l.invariant.1

@@ -1,8 +1,8 @@
 use mathlib.Core.Path.{◌≡◌}
-use lib.ListN.{length, take}
+use lib.ListN.{length}
 use lib.Seq.{sets}
 use Rattle.groups.specs.Groups.{firsts_to, sizes_to}
 use Rattle.duplicates.proofs.lists.list_sizes.Given as goal
 
 abbrev pub invariant-loop-k : goal.invariant-loop-k
-invariant-loop-k l = (l.g ≡ length (firsts_to (take l.n l.numbers) l.k)) × (l.sizes ≡ sets l.initial.sizes 0 (sizes_to (take l.n l.numbers) l.k))
+invariant-loop-k l = (l.g ≡ length (firsts_to l.numbers l.k)) × (l.sizes ≡ sets l.initial.sizes 0 (sizes_to l.numbers l.k))

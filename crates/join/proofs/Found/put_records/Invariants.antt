@@ -1,8 +1,0 @@
-use mathlib.Core.Path.{◌≡◌}
-use lib.ListN.{length}
-use lib.Seq.{sets}
-use Rattle.join.specs.Copying.{copied}
-use Rattle.join.proofs.Found.put_records.Given as goal
-
-abbrev pub invariant-loop-k : goal.invariant-loop-k
-invariant-loop-k l = (l.to ≡ length (copied l.self l.k)) × (l.out ≡ sets l.initial.out 0 (copied l.self l.k))
