@@ -1,6 +1,6 @@
 -- Laws of a record of a block, by the count and the size that the code has.
 use Prim.Native.Nat.{ℕ, ◌+◌, ◌*◌, ◌-◌, ◌<◌, ◌≤◌}
-use mathlib.Core.Path.{◌≡◌, refl, ap}
+use mathlib.Core.Path.{◌≡◌, refl}
 use mathlib.Core.List.{List, []}
 use native.Mathlib.Nat.{div-mul-le_self}
 use native.Mathlib.Omega.{arith}
@@ -12,11 +12,9 @@ use Rattle.references.proofs.Laws.{record_within}
 use Rattle.blocks.specs.Blocks.{record_of_lem, record_place}
 
 module _ (block : List ℕ) (n i c : ℕ) (e : c ≡ record_count_of block n) where
-  pub record_past : (q : ℕ × ℕ) → c ≤ i → ([] ≡ record_of_lem block n i) × (q ≡ further q (record_place block n i))
+  pub record_past : (q : ℕ × ℕ) → c ≤ i → ([] ≡ record_of_lem block n i) × ((q.0, 0 + q.1) ≡ further q (record_place block n i))
   unfolding record_of_lem record_place further
-  record_past q h =
-      let z : q.1 ≡ 0 + q.1 = omega arith in
-      rw (le-ltb i (record_count_of block n) (rw e at h)) (refl, ap (λ (m : ℕ). (q.0, m)) z)
+  record_past q h = rw (le-ltb i (record_count_of block n) (rw e at h)) (refl, refl)
 
   module _ (h : i < c) (s : ℕ) (g : s ≡ record_size_of n) where
     pub record_inside : i * s + s ≤ length block

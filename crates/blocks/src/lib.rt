@@ -35,7 +35,7 @@ pub fn record_bytes<'a>(bytes: &'a [u8], record_size: u64, number: u64) -> &'a [
 {
     let count = record_count(bytes, record_size);
     if count <= number {
-        return &bytes[..0];
+        return &bytes[0..0];
     }
     let size = at_least_one(record_size) as usize;
     let from = number as usize * size;

@@ -3,16 +3,18 @@ use Rattle.std.specs.Prelude.{Ok, Err}
 use Prim.Native.Nat.{ℕ, zero, suc, ◌+◌, ◌-◌, ◌*◌, ◌/◌, ◌<◌, ◌≤◌}
 use mathlib.Core.Path.{◌≡◌, refl, sym, ap, ◌∙◌}
 use mathlib.Core.Logic.{⊎_elim}
-use mathlib.Core.Bool.{Bool, true, false, not, ◌&&◌, ◌||◌, false≢true}
+use mathlib.Core.Bool.{Bool, true, false, not, ◌&&◌, ◌||◌, false≢true, and_assoc, and-true}
 use mathlib.Core.List.{List, [], ◌∷◌}
 use native.Mathlib.Omega.{arith}
 use native.Mathlib.Numerals.{add-one}
 use native.Mathlib.Nat.{suc-mul, mul-le-mul_right, eq-or-lt_of_le}
+use lib.Bits.{bit_or, bit_xor}
 use lib.ListN.{length, get_or, take, drop}
 use lib.Seq.{drop-cons}
 use lib.Pointwise.{pointwise}
 use lib.Dec.{ltb, eqb}
 use borrow.Author.Tests.{ne_eqb, eq-eqb, eqb-true, eqb-false, ltb-true, ltb-false, le-ltb, not-true, not-false}
+use Rattle.rows.proofs.Zeros.{or_is-zero, xor_is-zero}
 use Rattle.format.specs.Image.{Field, move_field, move_fields, field_entries, no_nul_between, counted_in, FieldsAgree, FieldsDiffer}
 use Rattle.format.proofs.Image.{no_nul_if, counted_if, owned_if}
 use Rattle.format.proofs.Walking.{agree-none, agree_both, entry_walked, entry-differs, counted-one, field-equal, field-ended, field_apart}
@@ -22,6 +24,29 @@ use Rattle.compare.specs.declared.Base.{Base}
 use Rattle.compare.specs.declared.Disagreement.TheVariants.{Apart}
 
 module _ (a b : List ℕ) where
+  range_split : (at m n : ℕ) → equal_range_of a b at (m + n) ≡ (equal_range_of a b at m && equal_range_of a b (at + m) n)
+  unfolding equal_range_of
+  range_split at zero n =
+      let e : at + 0 ≡ at = omega arith in
+      let f : 0 + n ≡ n = omega arith in
+      rw (e, f)
+  range_split at (suc m) n =
+      let e : at + suc m ≡ suc at + m = omega arith in
+      let f : suc m + n ≡ suc (m + n) = omega arith in
+      rw (e, f, range_split (suc at) m n) (sym (and_assoc (eqb (get_or a at 0) (get_or b at 0)) (equal_range_of a b (suc at) m) (equal_range_of a b (suc at + m) n)))
+
+  one-is : (at : ℕ) → eqb (get_or a at 0) (get_or b at 0) ≡ equal_range_of a b at 1
+  unfolding equal_range_of
+  one-is at = sym (and-true (eqb (get_or a at 0) (get_or b at 0)))
+
+  range_next : (at i : ℕ) → equal_range_of a b at (i + 1) ≡ (equal_range_of a b at i && eqb (get_or a (at + i) 0) (get_or b (at + i) 0))
+  range_next at i = rw (one-is (at + i)) (range_split at i 1)
+
+  -- the bits in which i bytes from `at` on differ, put together, with those of one byte more
+  pub bits_next : (at i all : ℕ) → eqb all 0 ≡ equal_range_of a b at i → eqb (bit_or all (bit_xor (get_or a (at + i) 0) (get_or b (at + i) 0))) 0 ≡ equal_range_of a b at (i + 1)
+  bits_next at i all e =
+      or_is-zero all (bit_xor (get_or a (at + i) 0) (get_or b (at + i) 0)) ∙ rw (e, xor_is-zero (get_or a (at + i) 0) (get_or b (at + i) 0)) (sym (range_next at i))
+
   pub range_says : (at n : ℕ) → equal_range_of a b at n ≡ true → (i : ℕ) → i < n → get_or a (at + i) 0 ≡ get_or b (at + i) 0
   unfolding equal_range_of
   range_says at zero h i l = absurd (omega arith)
@@ -50,8 +75,27 @@ slices a b at (suc n) h k =
     rw (drop-cons a at 0 (omega arith), drop-cons b at 0 (omega arith))
     (ap (λ (x : Bool). eqb (get_or a at 0) (get_or b at 0) && x) (slices a b (suc at) n (omega arith) (omega arith)))
 
-pub range-slices : (a b : List ℕ) (at n : ℕ) {x : Bool} → x ≡ pointwise eqb (take (at + n - at) (drop at a)) (take (at + n - at) (drop at b)) → at + n ≤ length a → at + n ≤ length b → x ≡ equal_range_of a b at n
-range-slices a b at n e h k = let j : at + n - at ≡ n = omega arith in e ∙ rw j (slices a b at n h k)
+-- n bytes, of which k blocks are equal: what is left decides
+module _ (a b : List ℕ) (at n k : ℕ) (inv : equal_range_of a b (at + k * 128) (n - k * 128) ≡ equal_range_of a b at n) where
+  module _ {x : Bool} (e : x ≡ equal_range_of a b (at + k * 128) 128) (h : k < n / 128) where
+    block-cut : (x && equal_range_of a b (at + (k + 1) * 128) (n - (k + 1) * 128)) ≡ equal_range_of a b at n
+    block-cut =
+        let l : 128 + (n - (k + 1) * 128) ≡ n - k * 128 = omega arith in
+        let m : at + (k + 1) * 128 ≡ at + k * 128 + 128 = omega arith in
+        rw (e, m) (sym (range_split a b (at + k * 128) 128 (n - (k + 1) * 128)) ∙ rw l inv)
+
+    pub block-next : x ≡ true → equal_range_of a b (at + (k + 1) * 128) (n - (k + 1) * 128) ≡ equal_range_of a b at n
+    block-next t = rw t at block-cut
+
+    pub block-stops : x ≡ false → false ≡ equal_range_of a b at n
+    block-stops f = rw f at block-cut
+
+  pub blocks-rest : k ≡ n / 128 → {x : Bool} → x ≡ pointwise eqb (take (at + n - (at + n / 128 * 128)) (drop (at + n / 128 * 128) a)) (take (at + n - (at + n / 128 * 128)) (drop (at + n / 128 * 128) b)) → at + n ≤ length a → at + n ≤ length b
+      → x ≡ equal_range_of a b at n
+  blocks-rest z e h l =
+      let m : at + n / 128 * 128 ≡ at + k * 128 = omega arith in
+      let r : at + n - (at + k * 128) ≡ n - k * 128 = omega arith in
+      e ∙ rw (m, r) (slices a b (at + k * 128) (n - k * 128) (omega arith) (omega arith)) ∙ inv
 
 -- a place in a field that counts whole at which they differ
 whole-differs : (a b : List ℕ) (at n i : ℕ) → at ≤ i → i < at + n → (get_or a i 0 ≡ get_or b i 0 → ⊥) → FieldsDiffer (field_at at n false ∷ []) a b

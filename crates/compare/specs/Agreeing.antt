@@ -56,6 +56,15 @@ is_string_of (Enumeration n k) = false
 is_string_of (VariableLength i p c) = false
 is_string_of (Array k) = false
 
+-- of a row that may be no type's
+unfoldable pub is_field_in : Option Entry → Bool
+is_field_in None = false
+is_field_in (Some e) = is_field_of e
+
+unfoldable pub is_string_in : Option Entry → Bool
+is_string_in None = false
+is_string_in (Some e) = is_string_of e
+
 -- "A type is admitted to comparison": it has no size 0, nothing outside and nothing heap-held
 pub record Admitted (t : Datatype) : Type 0 where
   pub sized : first_zero t ≡ none

@@ -8,7 +8,7 @@ ghost use Rattle.format.specs.Ownership.{admission, comparing};
 ghost use Rattle.rows.specs.Entries.{RowSays};
 ghost use Rattle.table.specs.Path.{top_of};
 ghost use Rattle.table.specs.Survey.{Sets};
-ghost use Rattle.compare.specs.Agreeing.{equal_range_of, Equal, Common, nul_terminated_of, is_field_of, is_string_of, Standing, AgreesAt, AgreesArray, AgreesMembers, AgreesEntries, AgreesEnumeration, AgreesField, AgreesStrings, AgreesFields, StringSame, BaseIn, Admits, Compares};
+ghost use Rattle.compare.specs.Agreeing.{equal_range_of, Equal, Common, nul_terminated_of, is_field_of, is_field_in, is_string_of, is_string_in, Standing, AgreesAt, AgreesArray, AgreesMembers, AgreesEntries, AgreesEnumeration, AgreesField, AgreesStrings, AgreesFields, StringSame, BaseIn, Admits, Compares};
 
 use refusal::Refusal;
 use rows::{Entry, row_entry, row_member};
@@ -29,21 +29,39 @@ pub struct Base {
     pub count: usize,
 }
 
-// Whether n bytes from `at` on are equal.
+// Whether the 128 bytes from `at` on are equal: without leaving early, so that they are compared side by side.
+fn equal_block(a: &[u8], b: &[u8], at: usize) -> bool
+    requires { (at + 128 ≤ length a.now) × (at + 128 ≤ length b.now) }
+    ensures { result ≡ equal_range_of a.now b.now at 128 }
+{
+    let mut all: u8 = 0;
+    for i in 0..128 {
+        all |= a[at + i] ^ b[at + i];
+    }
+    all == 0
+}
+
+// Whether n bytes from `at` on are equal: by whole blocks, the first that is not ends it, and what is left.
 pub fn equal_range(a: &[u8], b: &[u8], at: usize, n: usize) -> bool
     requires { (at + n ≤ length a.now) × (at + n ≤ length b.now) }
     ensures { result ≡ equal_range_of a.now b.now at n }
 {
-    a[at..at + n] == b[at..at + n]
+    for i in 0..n / 128 {
+        if !equal_block(a, b, at + i * 128) {
+            return false;
+        }
+    }
+    let rest = at + n / 128 * 128;
+    a[rest..at + n] == b[rest..at + n]
 }
 
-// How many of n bytes from `at` on are equal, looking at whole blocks of 128 bytes only: the first that is not ends it.
+// How many of n bytes from `at` on are equal, looking at whole blocks only: the first that is not ends it.
 fn equal_blocks(a: &[u8], b: &[u8], at: usize, n: usize) -> usize
     requires { (at + n ≤ length a.now) × (at + n ≤ length b.now) }
     ensures { Equal a.now b.now at n result }
 {
     for i in 0..n / 128 {
-        if !equal_range(a, b, at + i * 128, 128) {
+        if !equal_block(a, b, at + i * 128) {
             return i * 128;
         }
     }
@@ -135,6 +153,8 @@ fn agree_leaf(
 }
 
 // So many strings of n bytes, one behind the other from `at` on, each of which ends at its own first NUL.
+// Not inlined, so that its loop over bytes has the registers to itself.
+#[inline(never)]
 fn agree_strings(
     a: &[u8],
     b: &[u8],
@@ -176,22 +196,42 @@ fn agree_enumeration(
     agree_field(a, b, at, size as usize, next)
 }
 
-// Whether a row's type is a field, an entry of which follows the one before without a gap.
-pub fn is_field(entry: Entry) -> bool
+fn is_field_entry(entry: Entry) -> bool
     ensures { result ≡ is_field_of entry }
 {
     matches!(entry, Entry::Leaf(_, _, _, _) | Entry::Enumeration(_, _))
 }
 
-// Whether a row's type is a NUL-terminated string.
+// Whether a row's type is a field, an entry of which follows the one before without a gap; a row that is no type's is none.
+#[tactic(auto, unfolding(crate::specs::Agreeing::is_field_in))]
+pub fn is_field(entry: Option<Entry>) -> bool
+    ensures { result ≡ is_field_in entry }
+{
+    match entry {
+        Some(entry) => is_field_entry(entry),
+        None => false,
+    }
+}
+
 #[tactic(auto, unfolding(crate::specs::Agreeing::is_string_of))]
-pub fn is_string(entry: Entry) -> bool
+fn is_string_entry(entry: Entry) -> bool
     ensures { result ≡ is_string_of entry }
 {
     match entry {
         Entry::Leaf(class, _, _, code) => nul_terminated(class, code),
         Entry::Enumeration(_, _) => false,
         Entry::Compound(_, _) | Entry::VariableLength(_, _, _) | Entry::Array(_) => false,
+    }
+}
+
+// Whether a row's type is a NUL-terminated string; a row that is no type's is none.
+#[tactic(auto, unfolding(crate::specs::Agreeing::is_string_in))]
+pub fn is_string(entry: Option<Entry>) -> bool
+    ensures { result ≡ is_string_in entry }
+{
+    match entry {
+        Some(entry) => is_string_entry(entry),
+        _ => false,
     }
 }
 
@@ -207,7 +247,7 @@ fn agree_fields(
     requires { Standing a.now b.now at }
     ensures { AgreesFields (is_string_of entry) base a.now b.now at next result }
 {
-    if is_string(entry) {
+    if is_string(Some(entry)) {
         return agree_strings(a, b, at, base.stride, base.count, next);
     }
     agree_field(a, b, at, base.bytes, next)
@@ -278,7 +318,7 @@ fn agree_array(
     let base = array_base(table, pool, row, rank, 32 - depth).ok_or(Disagreement::Lost)?;
     let below = row + 1;
     let entry = row_entry(table, below).ok_or(Disagreement::Lost)?;
-    if is_field(entry) {
+    if is_field(Some(entry)) {
         let next = next_row(table, below, 32 - depth);
         return agree_fields(a, b, at, base, entry, next);
     }

@@ -303,8 +303,10 @@ fn measure_enum_members(
     };
     for _ in 0..count {
         let member = enum_member_at(table, pool, at.row, at.place)?;
+        // A value that the pool has no room for ends it before the name is looked at.
+        let next = at.behind(pool, member)?;
         names = with_enum_name(pool, at.place, member, width, names, edition);
-        at = at.behind(pool, member)?;
+        at = next;
     }
     let end = at.end(pool)?;
     Some(Measure {

@@ -152,9 +152,19 @@ module _ (name : List ℕ) (i : ℕ) (x : Start) {z : Bool} (inv : z ≡ valid_o
         ∙ follows (get_or name i 0) (drop (suc i) name) other x r y e.0 e.1
         ∙ ap (λ (k : ℕ). valid_of (lead_of r) (drop k name)) (sym (add-one i))
 
+    pub valid-ill : (r : Start) → Sized x → (get_or name i 0 ≡ 0 → ⊥) → (lead_of r ≡ follow_of (lead_of x) (get_or name i 0)) × Sized r → r ≡ Ill → false ≡ z
+    unfolding lead_of valid_of
+    valid-ill r y other e f = sym (valid-next r y other e ∙ ap (λ (q : Start). valid_of (lead_of q) (drop (i + 1) name)) f)
+
   pub valid_single : length name ≤ i → x ≡ Single → true ≡ z
   unfolding lead_of valid_of valid_from no_nul well_formed_from awaiting is_ready
   valid_single h e = sym (inv ∙ rw (drop_all i name h, e))
 
-  pub valid_other : length name ≤ i → (x ≡ Single → ⊥) → Sized x → false ≡ z
+  valid_other : length name ≤ i → (x ≡ Single → ⊥) → Sized x → false ≡ z
   valid_other h n y = sym (inv ∙ ap (valid_of (lead_of x)) (drop_all i name h) ∙ none_of x n y)
+
+  pub valid-ended-ill : length name ≤ i → x ≡ Ill → Sized x → false ≡ z
+  valid-ended-ill h e = valid_other h (λ f. let w : ◌≡◌ {A = ℕ} 0 1 = cc in omega arith)
+
+  pub valid-unfinished : length name ≤ i → (m lo hi : ℕ) → x ≡ More m lo hi → Sized x → false ≡ z
+  valid-unfinished h m lo hi e = valid_other h (λ f. let w : ◌≡◌ {A = ℕ} 0 1 = cc in omega arith)

@@ -198,14 +198,15 @@ fn next_step(st: Carry, b: u8) -> Stepped
     go_on(st, b)
 }
 
-// Stores a byte at `pos`, if there is room; the place behind it.
+// Stores a byte at `pos`, if there is room; the place behind it, or one past the pool's end.
 fn store_one(pool: &mut [u8], pos: usize, b: u8) -> usize
     ensures { Stored pool.old pool.new pos (b ∷ []) result }
 {
     if pos < pool.len() {
         pool[pos] = b;
+        return pos + 1;
     }
-    pos.saturating_add(1)
+    pool.len() + 1
 }
 
 // Stores bytes from `pos` on, if there is room for all; the place behind them.
@@ -299,6 +300,13 @@ pub fn valid_name(name: &[u8]) -> bool
             return false;
         }
         next = follow(next, *b);
+        if matches!(next, Start::Ill) {
+            return false;
+        }
     }
-    matches!(next, Start::Single)
+    match next {
+        Start::Single => true,
+        Start::Ill => false,
+        Start::More(_, _, _) => false,
+    }
 }

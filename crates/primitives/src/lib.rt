@@ -169,7 +169,9 @@ pub fn copy_bytes(from: &[u8], start: usize, n: usize, to: &mut [u8], place: usi
     requires { (start + n ≤ length from.now) × (place + n ≤ length to.old) }
     ensures { to.new ≡ sets to.old place (take n (drop start from.now)) }
 {
-    to[place..place + n].copy_from_slice(&from[start..start + n]);
+    for i in 0..n {
+        to[place + i] = from[start + i];
+    }
 }
 
 // A size times an array's dimensions: true up to 4,294,967,295, and 4,294,967,296 for all that is more.

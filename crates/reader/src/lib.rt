@@ -61,7 +61,7 @@ fn read_type(
     let header = open_header(data, limits, used)?;
     let opened = open_headed(data, limits, used, pooled, header)?;
     match opened {
-        Opened::Leaf(leaf) => read_leaf(data, table, pool, limits, used, pooled, header, leaf),
+        Opened::Leaf(_) => read_leaf(data, table, pool, limits, used, pooled, header),
         Opened::Compound(version) => {
             let count = member_count(header);
             let members = read_members(

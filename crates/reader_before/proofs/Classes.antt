@@ -8,7 +8,7 @@ use Rattle.format.specs.Reading.{Reader, class_kind, layout_version, read_proper
 use Rattle.format.specs.Table.{Kind, isCompound, isEnumeration, isVariableLength, isArray, isUnknown}
 use Rattle.reading.specs.declared.LeafKind.{LeafKind}
 use Rattle.reading.specs.declared.LeafKind.TheVariants.{FixedPoint, FloatingPoint, Time, String, BitField, Opaque, Reference}
-use Rattle.reading.specs.Contract.{leaf_kind}
+use Rattle.reading.specs.Contract.{kind_of_leaf}
 
 unfoldable pub class_of : LeafKind → ℕ
 class_of FixedPoint = 0
@@ -19,8 +19,8 @@ class_of BitField = 4
 class_of Opaque = 5
 class_of Reference = 7
 
-pub kind-leaf : (k : LeafKind) (c : ℕ) → c ≡ class_of k → class_kind c ≡ leaf_kind k
-unfolding class_of leaf_kind class_kind
+pub kind-leaf : (k : LeafKind) (c : ℕ) → c ≡ class_of k → class_kind c ≡ kind_of_leaf k
+unfolding class_of kind_of_leaf class_kind
 kind-leaf FixedPoint c e = rw e
 kind-leaf FloatingPoint c e = rw e
 kind-leaf Time c e = rw e
@@ -76,8 +76,8 @@ module _ (h : Header) where
   packed_layout e = rw e
 
 -- the reader of the types inside a leaf is never asked
-pub leaf-same : (rd rd' : Reader Datatype) (h : Header) (c : Kind) (k : LeafKind) → c ≡ leaf_kind k → read_properties rd h c ≡ read_properties rd' h c
-unfolding leaf_kind read_properties
+pub leaf-same : (rd rd' : Reader Datatype) (h : Header) (c : Kind) (k : LeafKind) → c ≡ kind_of_leaf k → read_properties rd h c ≡ read_properties rd' h c
+unfolding kind_of_leaf read_properties
 leaf-same rd rd' h c FixedPoint e = rw e
 leaf-same rd rd' h c FloatingPoint e = rw e
 leaf-same rd rd' h c Time e = rw e

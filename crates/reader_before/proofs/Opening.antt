@@ -20,7 +20,7 @@ use Rattle.reading.specs.declared.Around.{Around}
 use Rattle.reading.specs.declared.Around.TheVariants.{Enumeration, VariableLength, Array}
 use Rattle.reading.specs.declared.Base.{Base}
 use Rattle.reading.specs.declared.Opened.TheVariants.{Leaf, Compound, Based}
-use Rattle.reading.specs.Contract.{run, leaf_kind, read_leaf_of, read_compound, read_based, Begun, Surrounds, StringCodes, dimensions_of_lem, OpensLeaf, OpensCompound, OpensBased, Opens}
+use Rattle.reading.specs.Contract.{run, kind_of_leaf, read_leaf_of, read_compound, read_based, Begun, Surrounds, StringCodes, dimensions_of_lem, OpensLeaf, OpensCompound, OpensBased, Opens}
 use Rattle.format.proofs.Bytes.{length-dimensions_from}
 use Rattle.reading.proofs.Contracts.{by_refused, by_code}
 use Rattle.reading.proofs.Steps.{sized_no}
@@ -91,7 +91,7 @@ module _ {d : List ℕ} {lim : Limits} {used pooled : ℕ} {h : Header} (w : Beg
       (λ n. w.is n pooled
       ∙ sized_no h (read_properties (read_type_of lim.version n) h (class_kind h.class)) (length d) 8 (drop 8 d) (lim.rows - (used + 1)) (lim.pool - pooled) e (q n))
 
-  begun-leaf : (k : LeafKind) → class_kind h.class ≡ leaf_kind k → Opens d lim used pooled h (Ok (Leaf k))
+  begun-leaf : (k : LeafKind) → class_kind h.class ≡ kind_of_leaf k → Opens d lim used pooled h (Ok (Leaf k))
   unfolding read_leaf_of
   begun-leaf k e =
       leaves

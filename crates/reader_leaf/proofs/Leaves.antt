@@ -1,6 +1,6 @@
 -- The types with no type inside: a law for each way out of a function that reads one.
-use Rattle.std.specs.Prelude.{Err, Ok, Result}
-use mathlib.Core.Path.{◌≡◌, refl, sym, ◌∙◌}
+use Rattle.std.specs.Prelude.{Err, Ok, Result, true, false}
+use mathlib.Core.Path.{◌≡◌, refl, sym, ◌∙◌, ap}
 use mathlib.Core.List.{List, [], ◌∷◌}
 use Prim.Native.Nat.{ℕ, zero, suc, ◌+◌, ◌-◌, ◌*◌, ◌<◌, ◌≤◌}
 use native.Mathlib.Omega.{arith}
@@ -22,7 +22,7 @@ use Rattle.reading.specs.declared.Cursor.{Cursor}
 use Rattle.reading.specs.declared.State.{State}
 use Rattle.reading.specs.declared.LeafKind.{LeafKind}
 use Rattle.reading.specs.declared.LeafKind.TheVariants.{FixedPoint, FloatingPoint, Time, String, BitField, Opaque, Reference}
-use Rattle.reading.specs.Contract.{run, here, Ready, AfterType, EndsRow, StringCodes, leaf_kind, read_leaf_of}
+use Rattle.reading.specs.Contract.{run, here, Ready, AfterType, EndsRow, StringCodes, leaf_kind, kind_of_leaf, read_leaf_of}
 use Rattle.reading.proofs.Steps.{bytes-go, bytes-short, skip-go, piece-go, piece-full, sized_no, sized-go, sized-zero}
 use Rattle.reading.proofs.Contracts.{by_done, not_done, by_refused, not-refused, lands, refuses, one-row, by_row, by_code}
 use Rattle.reader_leaf.specs.Describing.{Described, Describes, IsBits}
@@ -32,7 +32,7 @@ use Rattle.reader_leaf.specs.declared.Properties.{Properties}
 
 -- what a function that reads a leaf of a kind requires, and what it ensures of its answer
 abbrev Asked : LeafKind → Header → List ℕ → Limits → (used pooled : ℕ) (t p : List ℕ) → Type 0
-Asked k h d lim used pooled t p = ((Ready lim used pooled t p × (used < lim.rows)) × (8 ≤ length d)) × (class_kind h.class ≡ leaf_kind k)
+Asked k h d lim used pooled t p = ((Ready lim used pooled t p × (used < lim.rows)) × (8 ≤ length d)) × (class_kind h.class ≡ kind_of_leaf k)
 
 abbrev Ends : Header → List ℕ → Limits → (used pooled : ℕ) (t p : List ℕ) → Result State Refusal → (t' p' : List ℕ) → Type 0
 Ends h d lim used pooled t p r t' p' = AfterType (run (sized h (read_leaf_of h)) d lim 8 (used + 1) pooled) d lim used pooled r t t' p p'
@@ -49,17 +49,17 @@ record Leaf (h : Header) (pooled : ℕ) (tree : Datatype) (words bytes : List �
   bytes-are : pool_bytes tree ≡ bytes
 
 module _ (k : LeafKind) (h : Header) (d : List ℕ) {lim : Limits} {used pooled : ℕ} {t t' p p' : List ℕ} (asked : Asked k h d lim used pooled t p) where
-  leaf-refuses : {e : Refusal} → run (read_properties (refuse TooDeep) h (leaf_kind k)) d lim 8 (used + 1) pooled ≡ refused e → Ends h d lim used pooled t p (Err e) t' p'
+  leaf-refuses : {e : Refusal} → run (read_properties (refuse TooDeep) h (kind_of_leaf k)) d lim 8 (used + 1) pooled ≡ refused e → Ends h d lim used pooled t p (Err e) t' p'
   unfolding read_leaf_of
   leaf-refuses q = refuses (sized_no h (read_leaf_of h) (length d) 8 (drop 8 d) (lim.rows - (used + 1)) (lim.pool - pooled) _ (rw asked.1 q))
 
-  leaf-zero : {w b : List ℕ} (tree : Datatype) (s : Cursor) → run (read_properties (refuse TooDeep) h (leaf_kind k)) d lim 8 (used + 1) pooled ≡ here tree d lim s → Leaf h pooled tree w b → h.size ≡ 0
+  leaf-zero : {w b : List ℕ} (tree : Datatype) (s : Cursor) → run (read_properties (refuse TooDeep) h (kind_of_leaf k)) d lim 8 (used + 1) pooled ≡ here tree d lim s → Leaf h pooled tree w b → h.size ≡ 0
       → Ends h d lim used pooled t p (Err (ZeroSize h.class)) t' p'
   unfolding read_leaf_of
   leaf-zero tree s q l z =
       refuses (sized-zero h (read_leaf_of h) (length d) 8 (drop 8 d) (lim.rows - (used + 1)) (lim.pool - pooled) tree s.at (drop s.at d) (lim.rows - s.rows) (lim.pool - s.pooled) (rw asked.1 q) (l.size ∙ z))
 
-  leaf-lands : {w b : List ℕ} (tree : Datatype) (s : Cursor) → run (read_properties (refuse TooDeep) h (leaf_kind k)) d lim 8 (used + 1) pooled ≡ here tree d lim s → Leaf h pooled tree w b
+  leaf-lands : {w b : List ℕ} (tree : Datatype) (s : Cursor) → run (read_properties (refuse TooDeep) h (kind_of_leaf k)) d lim 8 (used + 1) pooled ≡ here tree d lim s → Leaf h pooled tree w b
       → 0 < h.size → s.rows ≡ used + 1 → s.pooled ≡ pooled + length b → s.pooled ≤ lim.pool → s.at ≤ length d + 7
       → t' ≡ sets t (used * 16) w → p' ≡ sets p pooled b → Ends h d lim used pooled t p (Ok (record { end = s; size = h.size })) t' p'
   unfolding read_leaf_of
@@ -70,7 +70,7 @@ module _ (k : LeafKind) (h : Header) (d : List ℕ) {lim : Limits} {used pooled 
       l.words_are l.bytes-are l.count (sym l.size, some) er ep et eb asked.0.0.0 asked.0.0.1 room near)
 
   -- its row ends it
-  leaf-ends : {w b : List ℕ} (tree : Datatype) (at place : ℕ) → run (read_properties (refuse TooDeep) h (leaf_kind k)) d lim 8 (used + 1) pooled ≡ here tree d lim (ended at used place) → Leaf h pooled tree w b
+  leaf-ends : {w b : List ℕ} (tree : Datatype) (at place : ℕ) → run (read_properties (refuse TooDeep) h (kind_of_leaf k)) d lim 8 (used + 1) pooled ≡ here tree d lim (ended at used place) → Leaf h pooled tree w b
       → place ≡ pooled + length b → place ≤ lim.pool → at ≤ length d + 7 → p' ≡ sets p pooled b
       → (r : Result State Refusal) → EndsRow used h.class w (ended at used place) h.size r t t' → Ends h d lim used pooled t p r t' p'
   leaf-ends tree at place q l ep room near eb r x =
@@ -98,8 +98,8 @@ module _ {d : List ℕ} {h : Header} {k : LeafKind} where
   describes : {x : Properties} → Described d h k x → Describes d h k (Ok x)
   describes w = record { done = by_done (Described d h k) w; denied = not-refused _ }
 
-  undescribed : {e : Refusal} → ((n p : ℕ) → read_properties (refuse TooDeep) h (leaf_kind k) (length d) 8 (drop 8 d) n p ≡ refused e) → Describes d h k (Err e)
-  undescribed w = record { done = not_done _; denied = by_refused (λ e. (n p : ℕ) → read_properties (refuse TooDeep) h (leaf_kind k) (length d) 8 (drop 8 d) n p ≡ refused e) w }
+  undescribed : {e : Refusal} → ((n p : ℕ) → read_properties (refuse TooDeep) h (kind_of_leaf k) (length d) 8 (drop 8 d) n p ≡ refused e) → Describes d h k (Err e)
+  undescribed w = record { done = not_done _; denied = by_refused (λ e. (n p : ℕ) → read_properties (refuse TooDeep) h (kind_of_leaf k) (length d) 8 (drop 8 d) n p ≡ refused e) w }
 
 -- ---- properties that are numbers, sought together
 
@@ -116,7 +116,7 @@ unpack_at (w ∷ ws) at d =
 
 -- a kind with such properties, which end at a place
 pub record Block (h : Header) (k : LeafKind) (widths : List ℕ) (end : ℕ) (type : List ℕ → Datatype) : Type 0 where
-  is : read_properties (refuse TooDeep) h (leaf_kind k) ≡ (numbers widths >>= (λ (x : List ℕ). give (type x)))
+  is : read_properties (refuse TooDeep) h (kind_of_leaf k) ≡ (numbers widths >>= (λ (x : List ℕ). give (type x)))
   ends : end ≡ 8 + total_width widths
   some : 8 < end
   leaf : (pooled : ℕ) (x : List ℕ) → Leaf h pooled (type x) (rows 0 (type x)) []
@@ -146,19 +146,19 @@ module _ {h : Header} {k : LeafKind} {widths : List ℕ} {end : ℕ} {type : Lis
 
 module _ (h : Header) where
   pub fixed_points : Block h FixedPoint bit_widths 12 (λ x. leaf h.size (fixed_point (bit_at 0 h.f0) (bit_at 3 h.f0) (get_or x 0 0) (get_or x 1 0)))
-  unfolding leaf_kind read_properties leaf_properties total_width type_size_of row_count pool_bytes leaf_pool rows leaf_row columns_of
+  unfolding kind_of_leaf read_properties leaf_properties total_width type_size_of row_count pool_bytes leaf_pool rows leaf_row columns_of
   fixed_points = record { is = refl; ends = refl; some = omega arith; leaf = λ p x. record { size = refl; count = refl; words_are = refl; bytes-are = refl } }
 
   pub floating_points : Block h FloatingPoint float_widths 20 (λ x. leaf h.size (floating_point (float_order_of h.f0) (float_layout x)))
-  unfolding leaf_kind read_properties leaf_properties total_width type_size_of row_count pool_bytes leaf_pool rows leaf_row columns_of
+  unfolding kind_of_leaf read_properties leaf_properties total_width type_size_of row_count pool_bytes leaf_pool rows leaf_row columns_of
   floating_points = record { is = refl; ends = refl; some = omega arith; leaf = λ p x. record { size = refl; count = refl; words_are = refl; bytes-are = refl } }
 
   pub times : Block h Time time_widths 10 (λ x. leaf h.size (time (bit_at 0 h.f0) (get_or x 0 0)))
-  unfolding leaf_kind read_properties leaf_properties total_width type_size_of row_count pool_bytes leaf_pool rows leaf_row columns_of
+  unfolding kind_of_leaf read_properties leaf_properties total_width type_size_of row_count pool_bytes leaf_pool rows leaf_row columns_of
   times = record { is = refl; ends = refl; some = omega arith; leaf = λ p x. record { size = refl; count = refl; words_are = refl; bytes-are = refl } }
 
   pub bit_fields : Block h BitField bit_widths 12 (λ x. leaf h.size (bit_field (bit_at 0 h.f0) (get_or x 0 0) (get_or x 1 0)))
-  unfolding leaf_kind read_properties leaf_properties total_width type_size_of row_count pool_bytes leaf_pool rows leaf_row columns_of
+  unfolding kind_of_leaf read_properties leaf_properties total_width type_size_of row_count pool_bytes leaf_pool rows leaf_row columns_of
   bit_fields = record { is = refl; ends = refl; some = omega arith; leaf = λ p x. record { size = refl; count = refl; words_are = refl; bytes-are = refl } }
 
 -- a number of one byte
@@ -211,7 +211,7 @@ module _ {h : Header} {d : List ℕ} where
 module _ {h : Header} {d : List ℕ} (long : 8 ≤ length d) where
   module _ {a c : ℕ} (ea : (a ≡ low_bits 4 h.f0) × (a < 16)) (ec : (c ≡ high_bits 4 h.f0) × (c < 16)) {r : Result (Unit {0}) Refusal} (x : StringCodes a c r) where
     pub string_unknown : {e : Refusal} → r ≡ Err e → Describes d h String (Err e)
-    unfolding leaf_kind read_properties leaf_properties then require
+    unfolding kind_of_leaf read_properties leaf_properties then require
     string_unknown q =
         by_code (λ e. Describes d h String (Err e)) x q
         (λ m. undescribed (λ n p. rw (← ea.0, lt-leb a 2 m)))
@@ -219,7 +219,7 @@ module _ {h : Header} {d : List ℕ} (long : 8 ≤ length d) where
 
     pub string-go : r ≡ Ok tt → {u v : ℕ} → u ≡ a → v ≡ c
         → Describes d h String (Ok (record { words = 4 ∷ h.size ∷ 0 ∷ 0 ∷ 0 ∷ u ∷ v ∷ 0 ∷ 0 ∷ 0 ∷ 0 ∷ 0 ∷ 0 ∷ 0 ∷ 0 ∷ 0 ∷ []; end = 8 }))
-    unfolding leaf_kind read_properties leaf_properties then require type_size_of row_count pool_bytes leaf_pool leaf_class columns_of leaf_row rows row
+    unfolding kind_of_leaf read_properties leaf_properties then require type_size_of row_count pool_bytes leaf_pool leaf_class columns_of leaf_row rows row
     string-go q eu ev =
         let f = x.known q in
         describes (record {
@@ -234,11 +234,11 @@ module _ {h : Header} {d : List ℕ} (long : 8 ≤ length d) where
 
   module _ {c : ℕ} (ec : (c ≡ low_bits 4 h.f0) × (c < 16)) where
     pub reference_unknown : 1 < c → Describes d h Reference (Err (BadReferenceKind c))
-    unfolding leaf_kind read_properties leaf_properties then require
+    unfolding kind_of_leaf read_properties leaf_properties then require
     reference_unknown m = undescribed (λ n p. rw (← ec.0, lt-leb c 1 m))
 
     pub reference-go : c ≤ 1 → {u : ℕ} → u ≡ c → Describes d h Reference (Ok (record { words = 8 ∷ h.size ∷ 0 ∷ 0 ∷ 0 ∷ u ∷ 0 ∷ 0 ∷ 0 ∷ 0 ∷ 0 ∷ 0 ∷ 0 ∷ 0 ∷ 0 ∷ 0 ∷ []; end = 8 }))
-    unfolding leaf_kind read_properties leaf_properties then require type_size_of row_count pool_bytes leaf_pool leaf_class columns_of leaf_row rows row
+    unfolding kind_of_leaf read_properties leaf_properties then require type_size_of row_count pool_bytes leaf_pool leaf_class columns_of leaf_row rows row
     reference-go m eu =
         describes (record {
           tree = leaf h.size (reference c);
@@ -259,14 +259,14 @@ opaque-leaf h pooled n d long = record { size = refl; count = refl; words_are = 
 module _ (h : Header) (d : List ℕ) {lim : Limits} {used pooled : ℕ} {t p : List ℕ} where
   module _ (n : ℕ) (asked : Asked Opaque h d lim used pooled t p) (en : n ≡ h.f0) where
     pub opaque_cut : {t' p' : List ℕ} → length d < 8 + n → Ends h d lim used pooled t p (Err (Short (8 + n) (length d))) t' p'
-    unfolding leaf_kind read_properties leaf_properties then
+    unfolding kind_of_leaf read_properties leaf_properties then
     opaque_cut l =
         let k = asked.0.1 in
         leaf-refuses Opaque h d asked (rw (← en, bytes-short n 8 d (lim.rows - (used + 1)) (lim.pool - pooled) (omega arith) l))
 
     module _ (long : 8 + n ≤ length d) where
       pub opaque-full : {t' p' : List ℕ} → lim.pool - pooled < n → Ends h d lim used pooled t p (Err PoolFull) t' p'
-      unfolding leaf_kind read_properties leaf_properties then
+      unfolding kind_of_leaf read_properties leaf_properties then
       opaque-full m =
           let k : lim.pool - pooled < length (take n (drop 8 d)) = omega (arith, length_part d 8 n long) in
           leaf-refuses Opaque h d asked (rw (
@@ -276,9 +276,9 @@ module _ (h : Header) (d : List ℕ) {lim : Limits} {used pooled : ℕ} {t p : L
           ))
 
       module _ (room : n ≤ lim.pool - pooled) where
-        opaque-is : run (read_properties (refuse TooDeep) h (leaf_kind Opaque)) d lim 8 (used + 1) pooled
+        opaque-is : run (read_properties (refuse TooDeep) h (kind_of_leaf Opaque)) d lim 8 (used + 1) pooled
             ≡ here (leaf h.size (opaque (take n (drop 8 d)))) d lim (ended (8 + n + padding_to8 n) used (pooled + n))
-        unfolding leaf_kind read_properties leaf_properties then
+        unfolding kind_of_leaf read_properties leaf_properties then
         opaque-is =
             let k : length (take n (drop 8 d)) ≤ lim.pool - pooled = omega (arith, length_part d 8 n long) in
             rw (
@@ -295,3 +295,25 @@ module _ (h : Header) (d : List ℕ) {lim : Limits} {used pooled : ℕ} {t p : L
         opaque-ends {r} pad e ep w =
             let place = asked.0.0.0.room in
             leaf-ends Opaque h d asked _ (8 + n + pad) (pooled + n) (rw e.0 opaque-is) (opaque-leaf h pooled n d long) (omega (arith, length_part d 8 n long)) (omega arith) (omega arith) ep r w
+
+-- ---- the class's number
+
+pub kind_at : (n : ℕ) (k : LeafKind) → class_kind n ≡ kind_of_leaf k → (c : ℕ) → c ≡ n → class_kind c ≡ kind_of_leaf k
+kind_at n k e c q = ap class_kind q ∙ e
+
+no : false ≡ true → ⊥
+no e = let z : ◌≡◌ {A = ℕ} 0 1 = cc in omega arith
+
+-- of classes 6 and up only 7 has no type inside
+from-six : (c m : ℕ) → c ≡ suc (suc (suc (suc (suc (suc m))))) → leaf_kind (class_kind c) ≡ true → class_kind c ≡ kind_of_leaf Reference
+unfolding leaf_kind kind_of_leaf class_kind
+from-six c zero e l = absurd (no (rw e at l))
+from-six c (suc zero) e l = rw e
+from-six c (suc (suc zero)) e l = absurd (no (rw e at l))
+from-six c (suc (suc (suc zero))) e l = absurd (no (rw e at l))
+from-six c (suc (suc (suc (suc zero)))) e l = absurd (no (rw e at l))
+from-six c (suc (suc (suc (suc (suc zero))))) e l = absurd (no (rw e at l))
+from-six c (suc (suc (suc (suc (suc (suc m)))))) e l = absurd (no (rw e at l))
+
+pub last_kind : (c : ℕ) → leaf_kind (class_kind c) ≡ true → (c ≡ 0 → ⊥) → (c ≡ 1 → ⊥) → (c ≡ 2 → ⊥) → (c ≡ 3 → ⊥) → (c ≡ 4 → ⊥) → (c ≡ 5 → ⊥) → class_kind c ≡ kind_of_leaf Reference
+last_kind c l n₀ n₁ n₂ n₃ n₄ n₅ = from-six c (c - 6) (omega arith) l

@@ -9,13 +9,13 @@ use Rattle.format.specs.Reading.{got, refused, refuse, read_properties}
 use Rattle.format.specs.Table.{rows}
 use Rattle.reading.specs.declared.LeafKind.{LeafKind}
 use Rattle.reading.specs.declared.LeafKind.TheVariants.{FixedPoint, FloatingPoint, Time, String, BitField, Opaque, Reference}
-use Rattle.reading.specs.Contract.{leaf_kind}
+use Rattle.reading.specs.Contract.{kind_of_leaf}
 use Rattle.reader_leaf.specs.declared.Properties.{Properties}
 
 -- the type that they give, its one row, and where they end
 pub record Described (d : List ℕ) (h : Header) (k : LeafKind) (x : Properties) : Type 0 where
   pub tree : Datatype
-  pub is : (n p : ℕ) → read_properties (refuse TooDeep) h (leaf_kind k) (length d) 8 (drop 8 d) n p ≡ got tree x.end (drop x.end d) n p
+  pub is : (n p : ℕ) → read_properties (refuse TooDeep) h (kind_of_leaf k) (length d) 8 (drop 8 d) n p ≡ got tree x.end (drop x.end d) n p
   pub words_are : (place : ℕ) → rows place tree ≡ x.words
   pub size : type_size_of tree ≡ h.size
   pub count : row_count tree ≡ 1
@@ -25,7 +25,7 @@ pub record Described (d : List ℕ) (h : Header) (k : LeafKind) (x : Properties)
 -- by what is returned
 pub record Describes (d : List ℕ) (h : Header) (k : LeafKind) (r : Result Properties Refusal) : Type 0 where
   pub done : (x : Properties) → r ≡ Ok x → Described d h k x
-  pub denied : (e : Refusal) → r ≡ Err e → (n p : ℕ) → read_properties (refuse TooDeep) h (leaf_kind k) (length d) 8 (drop 8 d) n p ≡ refused e
+  pub denied : (e : Refusal) → r ≡ Err e → (n p : ℕ) → read_properties (refuse TooDeep) h (kind_of_leaf k) (length d) 8 (drop 8 d) n p ≡ refused e
 
 -- the kinds whose properties are an order, an offset and a precision, with a kind's word and a sign
 unfoldable pub IsBits : LeafKind → Header → (kind signed : ℕ) → Type 0

@@ -2,9 +2,9 @@
 // row.
 #![tactic(auto)]
 
-ghost use Rattle.std.specs.Prelude.{◌≡◌, ◌+◌, ◌<◌, ◌≤◌, length};
+ghost use Rattle.std.specs.Prelude.{◌≡◌, ◌+◌, ◌<◌, ◌≤◌, length, true};
 ghost use Rattle.format.specs.Reading.{class_kind, sized};
-ghost use Rattle.reading.specs.Contract.{run, Ready, AfterType, leaf_kind, read_leaf_of};
+ghost use Rattle.reading.specs.Contract.{run, Ready, AfterType, leaf_kind, kind_of_leaf, read_leaf_of};
 ghost use Rattle.reading.specs.declared.LeafKind.{LeafKind};
 ghost use Rattle.reading.specs.declared.LeafKind.TheVariants.{FloatingPoint, Time, String, Opaque, Reference};
 ghost use Rattle.reader_leaf.specs.Describing.{Describes, IsBits};
@@ -198,7 +198,7 @@ fn read_opaque(
     pooled: usize,
     header: Header,
 ) -> Result<State, Refusal>
-    requires { ((Ready limits used pooled table.old pool.old × (used < limits.rows)) × (8 ≤ length «data».now)) × (class_kind header.class ≡ leaf_kind Opaque) }
+    requires { ((Ready limits used pooled table.old pool.old × (used < limits.rows)) × (8 ≤ length «data».now)) × (class_kind header.class ≡ kind_of_leaf Opaque) }
     ensures { AfterType (run (sized header (read_leaf_of header)) «data».now limits 8 (used + 1) pooled)
         «data».now limits used pooled result table.old table.new pool.old pool.new }
 {
@@ -241,7 +241,23 @@ fn read_opaque(
     )
 }
 
-// A type with no type inside, behind its header; its kind is that which `open_headed` gives of the header.
+// The kind of a class with no type inside.
+fn kind_of_class(class: u8) -> LeafKind
+    requires { leaf_kind (class_kind class) ≡ true }
+    ensures { class_kind class ≡ kind_of_leaf result }
+{
+    match class {
+        0 => LeafKind::FixedPoint,
+        1 => LeafKind::FloatingPoint,
+        2 => LeafKind::Time,
+        3 => LeafKind::String,
+        4 => LeafKind::BitField,
+        5 => LeafKind::Opaque,
+        _ => LeafKind::Reference,
+    }
+}
+
+// A type with no type inside, behind its header.
 pub fn read_leaf(
     data: &[u8],
     table: &mut [u32],
@@ -250,12 +266,12 @@ pub fn read_leaf(
     used: usize,
     pooled: usize,
     header: Header,
-    leaf: LeafKind,
 ) -> Result<State, Refusal>
-    requires { ((Ready limits used pooled table.old pool.old × (used < limits.rows)) × (8 ≤ length «data».now)) × (class_kind header.class ≡ leaf_kind leaf) }
+    requires { ((Ready limits used pooled table.old pool.old × (used < limits.rows)) × (8 ≤ length «data».now)) × (leaf_kind (class_kind header.class) ≡ true) }
     ensures { AfterType (run (sized header (read_leaf_of header)) «data».now limits 8 (used + 1) pooled)
         «data».now limits used pooled result table.old table.new pool.old pool.new }
 {
+    let leaf = kind_of_class(header.class);
     let properties = match leaf {
         LeafKind::FixedPoint => read_bits(data, header, 1, bit(header.f0, 3)),
         LeafKind::FloatingPoint => read_floating_point(data, header),

@@ -1,5 +1,5 @@
 -- A type, by what its header opens: one law for each way out of the reader's function.
-use Rattle.std.specs.Prelude.{Err, Ok, Result}
+use Rattle.std.specs.Prelude.{true, Err, Ok, Result}
 use mathlib.Core.Path.{◌≡◌, refl, sym, ap, ◌∙◌}
 use mathlib.Core.List.{List, ◌++◌}
 use Prim.Native.Nat.{ℕ, suc, ◌+◌, ◌-◌, ◌*◌, ◌<◌, ◌≤◌}
@@ -19,14 +19,25 @@ use Rattle.reading.specs.declared.LeafKind.{LeafKind}
 use Rattle.reading.specs.declared.Limits.{Limits}
 use Rattle.reading.specs.declared.Cursor.{Cursor}
 use Rattle.reading.specs.declared.State.{State}
+use Rattle.reading.specs.declared.LeafKind.TheVariants.{FixedPoint, FloatingPoint, Time, String, BitField, Opaque, Reference}
 use Rattle.reading.specs.declared.Opened.{Opened}
 use Rattle.reading.specs.declared.Opened.TheVariants.{Leaf, Compound, Based}
-use Rattle.reading.specs.Contract.{run, here, Ready, AfterType, AfterMembers, Heads, Opens, leaf_kind, read_leaf_of, read_compound, read_based, behind, dimensions_of_lem, Surrounds, BaseRead, Ended, Ends, EndsRow}
+use Rattle.reading.specs.Contract.{run, here, Ready, AfterType, AfterMembers, Heads, Opens, leaf_kind, kind_of_leaf, read_leaf_of, read_compound, read_based, behind, dimensions_of_lem, Surrounds, BaseRead, Ended, Ends, EndsRow}
 use Rattle.reading.proofs.Contracts.{same, refuses, ready_at, part-near, sets-before}
 use Rattle.reading.proofs.Members.{LandedType}
 use Rattle.reading.proofs.Steps.{type-deep, sized_no, sized-go, sized-zero, inner-go, inner_no}
 
 -- ---- what is known of an opened type, whatever the levels left
+
+leaf-of : (k : LeafKind) → leaf_kind (kind_of_leaf k) ≡ true
+unfolding leaf_kind kind_of_leaf
+leaf-of FixedPoint = refl
+leaf-of FloatingPoint = refl
+leaf-of Time = refl
+leaf-of String = refl
+leaf-of BitField = refl
+leaf-of Opaque = refl
+leaf-of Reference = refl
 
 module _ {d : List ℕ} {lim : Limits} {used pooled : ℕ} {h : Header} {o : Opened} (w : Opens d lim used pooled h (Ok o)) where
   module _ {k : LeafKind} (q : o ≡ Leaf k) where
@@ -36,8 +47,8 @@ module _ {d : List ℕ} {lim : Limits} {used pooled : ℕ} {h : Header} {o : Ope
     pub leaf-long : 8 ≤ length d
     leaf-long = (w.leaf k (ap Ok q)).long
 
-    pub leaf-kind : class_kind h.class ≡ leaf_kind k
-    leaf-kind = (w.leaf k (ap Ok q)).kind
+    pub leaf-kind : leaf_kind (class_kind h.class) ≡ true
+    leaf-kind = rw ((w.leaf k (ap Ok q)).kind) (leaf-of k)
 
   module _ {v : ℕ} (q : o ≡ Compound v) where
     pub compound-free : used < lim.rows

@@ -74,15 +74,24 @@ pub record StringCodes (padding charset : ℕ) (r : Result (Unit {0}) Refusal) :
 
 -- ---- before a nested message
 
+-- classes 0 to 5 and 7 have no type inside
+unfoldable pub leaf_kind : Kind → Bool
+leaf_kind (is_leaf k) = true
+leaf_kind isCompound = false
+leaf_kind isEnumeration = false
+leaf_kind isVariableLength = false
+leaf_kind isArray = false
+leaf_kind isUnknown = false
+
 -- the kinds of type with no type inside
-unfoldable pub leaf_kind : LeafKind → Kind
-leaf_kind FixedPoint = is_leaf isFixedPoint
-leaf_kind FloatingPoint = is_leaf isFloatingPoint
-leaf_kind Time = is_leaf isTime
-leaf_kind String = is_leaf is_string_of
-leaf_kind BitField = is_leaf isBitField
-leaf_kind Opaque = is_leaf isOpaque
-leaf_kind Reference = is_leaf isReference
+unfoldable pub kind_of_leaf : LeafKind → Kind
+kind_of_leaf FixedPoint = is_leaf isFixedPoint
+kind_of_leaf FloatingPoint = is_leaf isFloatingPoint
+kind_of_leaf Time = is_leaf isTime
+kind_of_leaf String = is_leaf is_string_of
+kind_of_leaf BitField = is_leaf isBitField
+kind_of_leaf Opaque = is_leaf isOpaque
+kind_of_leaf Reference = is_leaf isReference
 
 -- a type with no type inside: the reader of the types inside is never asked
 unfoldable pub read_leaf_of : Header → Reader Datatype
@@ -135,7 +144,7 @@ pub record Heads (d : List ℕ) (lim : Limits) (used : ℕ) (r : Result Header R
 
 pub record OpensLeaf (d : List ℕ) (lim : Limits) (used pooled : ℕ) (h : Header) (k : LeafKind) : Type 0 where
   pub is : (n : ℕ) → run (read_type_of lim.version (suc n)) d lim 0 used pooled ≡ run (sized h (read_leaf_of h)) d lim 8 (used + 1) pooled
-  pub kind : class_kind h.class ≡ leaf_kind k
+  pub kind : class_kind h.class ≡ kind_of_leaf k
   pub long : 8 ≤ length d
   pub free : used < lim.rows
 

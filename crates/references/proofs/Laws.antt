@@ -3,7 +3,7 @@ use Rattle.std.specs.Prelude.{Ok, Err}
 use Rattle.std.specs.Int.{from_le_bytes}
 use Prim.Native.Nat.{ℕ, zero, suc, ◌+◌, ◌-◌, ◌*◌, ◌/◌, ◌<◌, ◌≤◌, min}
 use mathlib.Core.Path.{◌≡◌, refl, sym, ap, ◌∙◌}
-use mathlib.Core.Bool.{Bool, true, false}
+use mathlib.Core.Bool.{Bool, true, false, ◌||◌}
 use mathlib.Core.List.{List, [], ◌∷◌, ◌++◌, append-nil, append_assoc}
 use native.Mathlib.Nat.{add-zero, suc-mul, mul-le-mul_right}
 use native.Mathlib.Numerals.{add-one}
@@ -27,14 +27,15 @@ use Rattle.references.specs.References.{references_values, ReferencesAre, places
 
 -- ---- a slot outside a record
 
-outside_test : (n v : ℕ) → ltb (n - v) 8 ≡ ltb n (v + 8)
-outside_test n v = go (dec_le (v + 8) n)
+outside_test : (n v : ℕ) → (ltb n 8 || ltb (n - 8) v) ≡ ltb n (v + 8)
+outside_test n v = go (dec_le 8 n) (dec_le (v + 8) n)
   where
-    go : Dec (v + 8 ≤ n) → ltb (n - v) 8 ≡ ltb n (v + 8)
-    go (yes h) = le-ltb (n - v) 8 (omega (arith, h)) ∙ sym (le-ltb n (v + 8) h)
-    go (no h) = lt-ltb (n - v) 8 (omega (arith, h)) ∙ sym (lt-ltb n (v + 8) (omega (arith, h)))
+    go : Dec (8 ≤ n) → Dec (v + 8 ≤ n) → (ltb n 8 || ltb (n - 8) v) ≡ ltb n (v + 8)
+    go (yes k) (yes h) = rw (le-ltb n 8 k, le-ltb (n - 8) v (omega (arith, h)), le-ltb n (v + 8) h)
+    go (yes k) (no h) = rw (le-ltb n 8 k, lt-ltb (n - 8) v (omega (arith, h, k)), lt-ltb n (v + 8) (omega (arith, h)))
+    go (no k) h = rw (lt-ltb n 8 (omega (arith, k)), lt-ltb n (v + 8) (omega (arith, k)))
 
-pub outside-any : (n : ℕ) (ss : List ℕ) → list_any (λ v. ltb (n - v) 8) ss ≡ some_outside_of n ss
+pub outside-any : (n : ℕ) (ss : List ℕ) → list_any (λ v. ltb n 8 || ltb (n - 8) v) ss ≡ some_outside_of n ss
 unfolding some_outside_of
 outside-any n [] = refl
 outside-any n (s ∷ ss) = rw (outside_test n s, outside-any n ss) refl

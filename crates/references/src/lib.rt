@@ -13,7 +13,7 @@ use refusal::Refusal;
 fn some_outside(slots: &[u64], size: u64) -> bool
     ensures { result ≡ some_outside_of size slots.now }
 {
-    slots.iter().any(|slot| size.saturating_sub(*slot) < 8)
+    slots.iter().any(|slot| size < 8 || size - 8 < *slot)
 }
 
 // The 8 bytes at a place, little-endian.

@@ -128,3 +128,10 @@ module _ (table pool : List ℕ) (edition limit : ℕ) (buffer t p : List ℕ) w
               table_is = x.table_is ∙ ap (padded (length t)) (sym (front-rows o));
               pool-is = x.pool-is ∙ ap (padded (length p)) (sym (front-pool o));
             }
+
+    -- the same, by the length or the refusal
+    pub answered_length : {k : ℕ} → r ≡ Ok k → Back table pool edition limit (Ok k) buffer buffer' t t' p p'
+    answered_length e = rw (← e) answered
+
+    pub answered_refusal : {e : Refusal} → r ≡ Err e → Back table pool edition limit (Err e) buffer buffer' t t' p p'
+    answered_refusal e = rw (← e) answered

@@ -23,5 +23,6 @@ pub fn write_and_read(
         second_table.old second_table.new second_pool.old second_pool.new }
 {
     write(table, pool, edition, buffer)?;
-    read(buffer, limit, second_table, second_pool)
+    let length = read(buffer, limit, second_table, second_pool)?;
+    Ok(length)
 }

@@ -1,3 +1,4 @@
+pub mod Chunks
 pub mod Decode
 pub mod Zeros
 pub mod Columns

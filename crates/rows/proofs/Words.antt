@@ -14,18 +14,15 @@ use Rattle.std.specs.Simd.{first_chunks}
 use Rattle.std.specs.Slice.{IsItemAt}
 use Rattle.format.specs.Table.{word_at, words_at, row_is_of, same_words, column, leaf_of, LeafKind, isFixedPoint, isFloatingPoint, isTime, is_string_of, isBitField, isOpaque, isReference, Kind, is_leaf, isCompound, isEnumeration, isVariableLength, isArray, isUnknown, kind_of}
 use Rattle.format.proofs.Rows.{column-at}
+use Rattle.rows.proofs.Chunks.{chunk-at}
 use Rattle.rows.specs.Columns.{IsRow}
 use Rattle.rows.specs.Entries.{leaf_at, tag_inside, leaf_entry, entry_of, entry_at, member_in, member_at_of, enum_member_at_of, RowSays}
 use Rattle.rows.specs.declared.Entry.{Entry}
 
 -- ---- a table's rows as chunks of 16 words
 
-chunk-at : (k i : ℕ) (xs : List ℕ) (d : List ℕ) → i < k → slice_index_or (first_chunks 16 k xs) i d ≡ take 16 (drop (i * 16) xs)
-chunk-at zero i xs d h = absurd (omega arith)
-chunk-at (suc k) zero xs d h = refl
-chunk-at (suc k) (suc i) xs d h =
-    let e : 16 + i * 16 ≡ suc i * 16 = omega arith in
-    chunk-at k i (drop 16 xs) d (omega arith) ∙ ap (take 16) (drop-drop (i * 16) 16 xs ∙ ap (λ (m : ℕ). drop m xs) e)
+row-chunk : (k i : ℕ) (xs : List ℕ) (d : List ℕ) → i < k → slice_index_or (first_chunks 16 k xs) i d ≡ take 16 (drop (i * 16) xs)
+row-chunk k i xs d h = let e : i * 16 ≡ 16 * i = omega arith in rw e (chunk-at 16 k i xs d h)
 
 pub row-found : (table : List ℕ) (r : ℕ) {cs : List (List ℕ)} (o : Option (Bor (List ℕ))) → cs ≡ first_chunks 16 (length table / 16) table → length cs ≡ length table / 16 → IsItemAt cs r o
     → MatchOption o (length table / 16 ≤ r) (λ w. IsRow table r w.now)
@@ -34,12 +31,12 @@ row-found table r {cs = cs} o e l i = go o i
   where
     go : (o : Option (Bor (List ℕ))) → IsItemAt cs r o → MatchOption o (length table / 16 ≤ r) (λ w. IsRow table r w.now)
     go None i = omega (arith, l, i.3)
-    go (Some w) i = let h : r < length table / 16 = omega (arith, l, i.3.0) in record { fits = omega arith; words-are = rw e at (i.3.1 w.now) ∙ chunk-at (length table / 16) r table w.now h }
+    go (Some w) i = let h : r < length table / 16 = omega (arith, l, i.3.0) in record { fits = omega arith; words-are = rw e at (i.3.1 w.now) ∙ row-chunk (length table / 16) r table w.now h }
 
 -- the words of a row that is known to be there
 pub indexed : (table : List ℕ) (r : ℕ) {cs : List (List ℕ)} → cs ≡ first_chunks 16 (length table / 16) table → r * 16 + 16 ≤ length table → (d : List ℕ) → IsRow table r (slice_index_or cs r d)
 unfolding words_at
-indexed table r e h d = record { fits = h; words-are = rw e (chunk-at (length table / 16) r table d (omega arith)) }
+indexed table r e h d = record { fits = h; words-are = rw e (row-chunk (length table / 16) r table d (omega arith)) }
 
 -- the words that `row_words` answers
 module _ (table : List ℕ) (r : ℕ) (o : Option (Bor (List ℕ))) (s : MatchOption o (length table / 16 ≤ r) (λ w. IsRow table r w.now)) where

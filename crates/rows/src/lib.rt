@@ -34,18 +34,44 @@ pub struct EnumPlace {
     pub values: usize,
 }
 
-// Whether words are all zero: without leaving early, so that they are tested side by side.
-pub fn clear_words(words: &[u32]) -> bool
+// Whether a block of words is all zero: without leaving early, so that they are tested side by side.
+fn clear_word_block(words: &[u32]) -> bool
     ensures { result ≡ all_zero words.now }
 {
     words.iter().fold(0, |all, word| all | *word) == 0
+}
+
+// Whether words are all zero: by blocks, of which the first that is not ends it.
+pub fn clear_words(words: &[u32]) -> bool
+    ensures { result ≡ all_zero words.now }
+{
+    let (blocks, rest) = words.as_chunks::<64>();
+    for block in blocks {
+        if !clear_word_block(block) {
+            return false;
+        }
+    }
+    clear_word_block(rest)
+}
+
+// Whether a block of bytes is all zero, as above.
+fn clear_byte_block(bytes: &[u8]) -> bool
+    ensures { result ≡ all_zero bytes.now }
+{
+    bytes.iter().fold(0, |all, byte| all | *byte) == 0
 }
 
 // Whether bytes are all zero, as above.
 pub fn clear_bytes(bytes: &[u8]) -> bool
     ensures { result ≡ all_zero bytes.now }
 {
-    bytes.iter().fold(0, |all, byte| all | *byte) == 0
+    let (blocks, rest) = bytes.as_chunks::<256>();
+    for block in blocks {
+        if !clear_byte_block(block) {
+            return false;
+        }
+    }
+    clear_byte_block(rest)
 }
 
 // The words of a row; None past the table.
@@ -60,7 +86,7 @@ fn clear_columns(words: &[u32; 16], from: usize, to: usize) -> bool
     requires { (from ≤ to) × (to ≤ 16) }
     ensures { result ≡ clear_columns_of words.now 0 from to }
 {
-    clear_words(&words[from..to])
+    clear_word_block(&words[from..to])
 }
 
 // The row of a leaf: columns 2 to 4, 6 up to `from`, and from `to` on are zero, and the code in column 5 is below `limit`.

@@ -19,10 +19,11 @@ pub struct Walk<'a> {
 }
 
 // Whether a row's type is a field that counts whole, an entry of which follows the one before without a gap.
+#[tactic(auto, unfolding(compare::specs::Agreeing::is_field_in, compare::specs::Agreeing::is_string_in))]
 fn is_whole(entry: Entry) -> bool
     ensures { result ≡ (is_field_of entry && not (is_string_of entry)) }
 {
-    is_field(entry) && !is_string(entry)
+    is_field(Some(entry)) && !is_string(Some(entry))
 }
 
 impl<'a> Walk<'a> {

@@ -15,6 +15,8 @@ use writer_parts::{
 };
 
 // The members of a compound of a size, into `out` at a place. Here and in `put_type` a row is not tested again: measuring tested it.
+// Inlined, so that a compound takes one frame of the stack.
+#[inline(always)]
 #[cycle(put)]
 fn put_members(
     table: &[u32],

@@ -1,3 +1,4 @@
+use Rattle.compare.specs.Agreeing.{is_field_in}
 use Rattle.std.proofs.lemmas.Result.{err_from_is_err_and}
 use Rattle.compare.proofs.Types.{some_in, none_in, type-variable_length, type-leaf, type-enumeration, type-array, type-compound, array-deep, array-lost, array-unknown, array-of-field, array-entries, member-leaf, member-enumeration, member_unknown}
 use Rattle.compare.proofs.Inside.{members_end, members-deep, members_unnamed, members-past, members-stop, members-next, entries_end, entries-start, entries-past, entries_stop, entries_next}
@@ -7,6 +8,7 @@ pub agree_array-returns-then-depth-ge32 : goal.agree_array-returns-then-depth-ge
 agree_array-returns-then-depth-ge32 t c = search array-deep
 
 pub agree_array-returns-then-is_field : goal.agree_array-returns-then-is_field
+unfolding is_field_in
 agree_array-returns-then-is_field t c = let v = some_in c.ok_or.ensures.ok_part c.in_ok-base.was in let e = some_in c.ok_or-2.ensures.ok_part c.in_ok-entry.was in search array-of-field
 
 pub agree_array-returns-in_err-base : goal.agree_array-returns-in_err-base

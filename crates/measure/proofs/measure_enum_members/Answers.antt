@@ -21,13 +21,13 @@ with_enum_name-names-requires c = search (named-piece, c.in_ok-member.was)
 pub behind-requires : goal.behind-requires
 behind-requires c = let i = named-inside _ _ _ _ c.in_ok-member.was c.enum_member_at.ensures.inside in (omega (arith, i.0), (i.1, c.loop.invariant.0))
 
-pub returns-in_err-at : goal.returns-in_err-at
-returns-in_err-at c = rw c.from_residual-in_err-at.ensures (listed-past-pool _ _ _ _ _ _ _ _ _ _ _ c.enum_member_at.ensures.is c.loop.invariant.1 (omega arith) c.in_ok-member.was (behind-none _ _ _ c.behind.ensures c.in_err-at.was))
+pub returns-in_err-next : goal.returns-in_err-next
+returns-in_err-next c = rw c.from_residual-in_err-next.ensures (listed-past-pool _ _ _ _ _ _ _ _ _ _ _ c.enum_member_at.ensures.is c.loop.invariant.1 (omega arith) c.in_ok-member.was (behind-none _ _ _ c.behind.ensures c.in_err-next.was))
 
 pub loop-preserved : goal.loop-preserved
 loop-preserved c =
     let i = named-inside _ _ _ _ c.in_ok-member.was c.enum_member_at.ensures.inside in
-    let b = behind-some _ _ _ c.behind.ensures c.in_ok-at.was in
+    let b = behind-some _ _ _ c.behind.ensures c.in_ok-next.was in
     (rw b.1 (omega (arith, b.0, c.loop.invariant.0)), listed_at _ _ _ _ _ _ _ _ _ _ _ c.enum_member_at.ensures.is c.loop.invariant.1 (omega arith) c.in_ok-member.was i.1 c.with_enum_name-names.ensures b.1)
 
 pub returns-in_err-end : goal.returns-in_err-end

@@ -1,13 +1,18 @@
+use Prim.Native.Nat.{ℕ, ◌+◌, ◌<◌}
+use mathlib.Core.Path.{◌≡◌, sym, ap, ◌∙◌}
+use mathlib.Core.List.{List}
 use native.Mathlib.Omega.{arith}
-use Prim.Native.Nat.{◌+◌, ◌-◌}
-use mathlib.Core.Path.{◌≡◌}
-use lib.ListN.{length, take, drop}
-use Rattle.format.proofs.Lists.{length_part}
-use Rattle.primitives.proofs.Laws.{stored}
+use lib.ListN.{length, take, drop, set, get_or, length-drop}
+use lib.Seq.{sets, get_or-drop}
+use Rattle.format.proofs.Lists.{sets-take}
 use Rattle.primitives.proofs.copy_bytes.Goals as goal
 
-pub returns : goal.returns
-returns c = let a = c.args in
-    let n : a.start + a.n - a.start ≡ a.n = omega arith in
-    let k : length (take a.n (drop a.start a.from.now)) ≡ a.n = length_part a.from.now a.start a.n c.requires.0 in
-    stored _ _ _ _ _ (rw n at c.copy_from_slice.ensures.after) (omega arith) (omega arith)
+pub loop-i-preserved : goal.loop-i-preserved
+loop-i-preserved c =
+    let l = c.loop-i in
+    let a = c.args in
+    let d = drop a.start a.from.now in
+    let short : l.i < length d = omega (arith, length-drop a.start a.from.now) in
+    ap (λ (p : List ℕ). set p (a.place + l.i) (get_or a.from.now (a.start + l.i) 0)) l.invariant
+    ∙ ap (λ (x : ℕ). set (sets a.to.now a.place (take l.i d)) (a.place + l.i) x) (sym (get_or-drop a.start a.from.now l.i 0))
+    ∙ sets-take d a.to.now a.place l.i short

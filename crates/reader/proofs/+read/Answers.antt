@@ -4,7 +4,7 @@ use mathlib.Core.Path.{refl}
 use Rattle.format.specs.Table.{row, compound_row}
 use Rattle.reading.proofs.Members.{members-begun, members-ended, members-stopped, entered-ready, entered-within, members-refused, members-turned, entered-behind, table-turned, pool-turned}
 use Rattle.reading.proofs.Contracts.{ready_any_version, passed_on}
-use Rattle.reading.proofs.Types.{type-ends, type-headless, type-shuts, type-leaf, compound-refuses, compound-ends, based-within, based-ready, based-refuses, based_around, based_fits, based_read, based-ends}
+use Rattle.reading.proofs.Types.{leaf-free, leaf-long, leaf-kind, type-ends, type-headless, type-shuts, type-leaf, compound-refuses, compound-ends, based-within, based-ready, based-refuses, based_around, based_fits, based_read, based-ends}
 use Rattle.reader.proofs.+read.Goals as goal
 
 pub read_members-loop-init : goal.read_members-loop-init
@@ -81,3 +81,6 @@ read_type-returns-in_err-inner-in-Based t c = rw (passed_on c.from_residual-in_e
 
 pub read_type-returns-in_ok-inner-in-Based : goal.read_type-returns-in_ok-inner-in-Based
 read_type-returns-in_ok-inner-in-Based t c = search (based-ends, c.in_ok-opened.ensures, c.in_ok-inner-in-Based.was, c.behind.ensures)
+
+pub read_type-read_leaf-requires : goal.read_type-read_leaf-requires
+read_type-read_leaf-requires t c = search (rules, leaf-free, leaf-long, leaf-kind, c.in_ok-opened.was, c.in-Leaf.is)

@@ -9,7 +9,7 @@ use Rattle.reader_leaf.proofs.read_leaf.Goals as goal
 pub returns-in_err-properties : goal.returns-in_err-properties
 unfolding IsBits
 returns-in_err-properties c =
-    let e : Describes c.args.data.now c.args.header c.args.leaf c.match-leaf.branch' = elim c.match-leaf.branch [
+    let e : Describes c.args.data.now c.args.header c.kind_of_class-leaf.result c.match-leaf.branch' = elim c.match-leaf.branch [
       | in-FixedPoint w ↦ in_arm (search) w.branch'-is (w.read_bits.ensures FixedPoint (refl, w.bit.ensures.0))
       | in-FloatingPoint w ↦ in_arm (search) w.branch'-is w.read_floating_point.ensures
       | in-Time w ↦ in_arm (search) w.branch'-is w.read_time.ensures
@@ -22,7 +22,7 @@ returns-in_err-properties c =
 pub returns : goal.returns
 unfolding IsBits
 returns c =
-    let e : Describes c.args.data.now c.args.header c.args.leaf c.match-leaf.branch' = elim c.match-leaf.branch [
+    let e : Describes c.args.data.now c.args.header c.kind_of_class-leaf.result c.match-leaf.branch' = elim c.match-leaf.branch [
       | in-FixedPoint w ↦ in_arm (search) w.branch'-is (w.read_bits.ensures FixedPoint (refl, w.bit.ensures.0))
       | in-FloatingPoint w ↦ in_arm (search) w.branch'-is w.read_floating_point.ensures
       | in-Time w ↦ in_arm (search) w.branch'-is w.read_time.ensures

@@ -1,10 +1,9 @@
-use Rattle.std.proofs.Common.{◌≡◌, rules}
-use Rattle.std.specs.Prelude.{bit_or}
-use Rattle.std.specs.List.{fold}
-use Rattle.rows.proofs.Zeros.{clear_fold}
+use Rattle.rows.proofs.Chunks.{zero-next, zero-stops}
+use Rattle.std.proofs.Common.{rules}
 use Rattle.rows.proofs.clear_bytes.Goals as goal
 
-pub returns : goal.returns
-returns c =
-    let e : c.fold.result ≡ fold bit_or 0 c.args.bytes.now = search rules in
-    rw e (clear_fold c.args.bytes.now 0)
+pub returns-then-not-clear_byte_block : goal.returns-then-not-clear_byte_block
+returns-then-not-clear_byte_block c = zero-stops _ _ _ c.loop-block.invariant _ _ c.as_chunks.ensures.front (search rules) c.clear_byte_block.ensures c.if-not-clear_byte_block.true
+
+pub loop-block-preserved : goal.loop-block-preserved
+loop-block-preserved c = zero-next _ _ _ c.loop-block.invariant _ _ c.as_chunks.ensures.front (search rules) c.clear_byte_block.ensures c.if-not-clear_byte_block.false

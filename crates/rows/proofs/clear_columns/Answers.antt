@@ -5,4 +5,4 @@ use Rattle.rows.proofs.clear_columns.Goals as goal
 
 pub returns : goal.returns
 unfolding clear_columns_of
-returns c = c.clear_words.ensures ∙ rw zero-add
+returns c = c.clear_word_block.ensures ∙ rw zero-add
