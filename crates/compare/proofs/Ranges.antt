@@ -75,6 +75,9 @@ slices a b at (suc n) h k =
     rw (drop-cons a at 0 (omega arith), drop-cons b at 0 (omega arith))
     (ap (λ (x : Bool). eqb (get_or a at 0) (get_or b at 0) && x) (slices a b (suc at) n (omega arith) (omega arith)))
 
+pub range-slices : (a b : List ℕ) (at n : ℕ) {x : Bool} → x ≡ pointwise eqb (take (at + n - at) (drop at a)) (take (at + n - at) (drop at b)) → at + n ≤ length a → at + n ≤ length b → x ≡ equal_range_of a b at n
+range-slices a b at n e h k = let j : at + n - at ≡ n = omega arith in e ∙ rw j (slices a b at n h k)
+
 -- n bytes, of which k blocks are equal: what is left decides
 module _ (a b : List ℕ) (at n k : ℕ) (inv : equal_range_of a b (at + k * 128) (n - k * 128) ≡ equal_range_of a b at n) where
   module _ {x : Bool} (e : x ≡ equal_range_of a b (at + k * 128) 128) (h : k < n / 128) where
@@ -94,8 +97,8 @@ module _ (a b : List ℕ) (at n k : ℕ) (inv : equal_range_of a b (at + k * 128
       → x ≡ equal_range_of a b at n
   blocks-rest z e h l =
       let m : at + n / 128 * 128 ≡ at + k * 128 = omega arith in
-      let r : at + n - (at + k * 128) ≡ n - k * 128 = omega arith in
-      e ∙ rw (m, r) (slices a b (at + k * 128) (n - k * 128) (omega arith) (omega arith)) ∙ inv
+      let r : at + n ≡ at + k * 128 + (n - k * 128) = omega arith in
+      range-slices a b (at + k * 128) (n - k * 128) (rw (m, r) at e) (omega arith) (omega arith) ∙ inv
 
 -- a place in a field that counts whole at which they differ
 whole-differs : (a b : List ℕ) (at n i : ℕ) → at ≤ i → i < at + n → (get_or a i 0 ≡ get_or b i 0 → ⊥) → FieldsDiffer (field_at at n false ∷ []) a b

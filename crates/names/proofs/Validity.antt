@@ -160,7 +160,7 @@ module _ (name : List ℕ) (i : ℕ) (x : Start) {z : Bool} (inv : z ≡ valid_o
   unfolding lead_of valid_of valid_from no_nul well_formed_from awaiting is_ready
   valid_single h e = sym (inv ∙ rw (drop_all i name h, e))
 
-  valid_other : length name ≤ i → (x ≡ Single → ⊥) → Sized x → false ≡ z
+  pub valid_other : length name ≤ i → (x ≡ Single → ⊥) → Sized x → false ≡ z
   valid_other h n y = sym (inv ∙ ap (valid_of (lead_of x)) (drop_all i name h) ∙ none_of x n y)
 
   pub valid-ended-ill : length name ≤ i → x ≡ Ill → Sized x → false ≡ z
